@@ -1,16 +1,11 @@
 -- The references of a row of links mean what it is.
-use Rattle.std.proofs.Common.{ℕ, ◌+◌, ◌-◌, ◌*◌, ◌<◌, ◌≤◌, ◌≡◌, Bool, true, false, not, ◌&&◌, ◌||◌, ◌==◌, cond, List, [], ◌∷◌, ◌++◌, length, refl, sym, ap}
-use Rattle.std.proofs.Common.{◌∙◌, subst, ⊎_elim, arith, length-append}
+use Rattle.std.proofs.Common.{ℕ, ◌+◌, ◌-◌, ◌*◌, ◌<◌, ◌≤◌, ◌≡◌, Bool, true, false, not, ◌&&◌, ◌||◌, ◌==◌, cond, List, [], ◌∷◌, ◌++◌, length, refl, sym, ap, ◌∙◌}
+use Rattle.std.proofs.Common.{subst, ⊎_elim, arith, length-append}
 use Rattle.std.proofs.lemmas.Bool.{cases_lt, eq-eqb, ne_eqb, not-true}
-use Rattle.std.proofs.lemmas.List.{get_or_append_left}
-use Rattle.std.proofs.Math.Seq.{get_or-append_seam}
-use Rattle.rv_diagram.specs.Nodes.{Valuation, Diagrams, Answers, IsRef, value_of}
-use Rattle.rv_diagram.specs.Several.{ref_at}
-use Rattle.rv_proofs.specs.Systems.{IsSystem, IsRead, IsSameValuation}
-use Rattle.rv_proofs.specs.Reached.{HasNoIntegers}
-use Rattle.rv_symbolic.specs.declared.relation.Parts.{Parts}
-use Rattle.rv_symbolic.specs.Growing.{Extends, Makes}
-use Rattle.rv_symbolic.specs.Represented.{HaveRefs, AreParts}
+use Rattle.std.proofs.{lemmas.List.get_or_append_left, Math.Seq.get_or-append_seam}
+use Rattle.rv_diagram.specs.{Nodes.Valuation, Nodes.Diagrams, Nodes.Answers, Nodes.IsRef, Nodes.value_of, Several.ref_at}
+use Rattle.rv_proofs.specs.{Systems.IsSystem, Systems.IsRead, Systems.IsSameValuation, Reached.HasNoIntegers}
+use Rattle.rv_symbolic.specs.{declared.relation.Parts.Parts, Growing.Extends, Growing.Makes, Represented.HaveRefs, Represented.AreParts}
 use Rattle.rv_symbolic.proofs.Extending.{extends_refl, extends_trans, grows_extends}
 use Rattle.bench_walk.specs.Chain.{held_of, seen_of, next_of, observer_of, links, AreNext}
 

@@ -1,9 +1,7 @@
 -- A row of n links as a system. State bit 0 is the main tick, bit 1 is what was seen, bit i + 2 is link i. The input is
 -- variable 2 n + 4. Links hand on what the first takes from the input, and what was seen is whether it was ever true.
-use Rattle.std.specs.Prelude.{◌≡◌, ℕ, ◌+◌, ◌-◌, ◌*◌, ◌<◌, pos, [], Bool, true, false, not, ◌&&◌, ◌||◌, ◌==◌, cond, List, length}
-use Rattle.std.specs.Prelude.{None as Nothing}
-use Rattle.rv_diagram.specs.Nodes.{Valuation, Diagrams, IsRef, value_of}
-use Rattle.rv_diagram.specs.Several.{ref_at}
+use Rattle.std.specs.Prelude.{◌≡◌, ℕ, ◌+◌, ◌-◌, ◌*◌, ◌<◌, pos, [], Bool, true, false, not, ◌&&◌, ◌||◌, ◌==◌, cond, List, length, None as Nothing}
+use Rattle.rv_diagram.specs.{Nodes.Valuation, Nodes.Diagrams, Nodes.IsRef, Nodes.value_of, Several.ref_at}
 use Rattle.rv_proofs.specs.Systems.{System}
 use Rattle.rv_symbolic.specs.Growing.{Extends}
 

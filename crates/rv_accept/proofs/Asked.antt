@@ -1,20 +1,13 @@
 -- The answers of tests and memories by number, and lists that grow by one.
-use Rattle.std.proofs.Common.{ℕ, ◌+◌, ◌<◌, ◌≡◌, Bool, true, List, [], ◌∷◌, ◌++◌, length, get_or, All, sym, ap, ◌∙◌, subst, ⊎_elim, arith}
-use Rattle.std.proofs.Common.{Option, Some, slice_get}
-use Rattle.std.proofs.lemmas.Bool.{cases_lt}
+use Rattle.std.proofs.Common.{ℕ, ◌+◌, ◌<◌, ◌≡◌, Bool, true, List, [], ◌∷◌, ◌++◌, length, get_or, All, sym, ap, ◌∙◌, subst, ⊎_elim, arith, Option, Some}
+use Rattle.std.proofs.Common.{slice_get, MatchOption, false, None as Nothing}
 use Rattle.std.proofs.lemmas.List.{get_or_append_left, get_or_push, length_push}
-use Rattle.std.proofs.lemmas.List.Elements.{All-push}
-use Rattle.std.proofs.lemmas.Option.{slice_get_within, get_or_from_slice_get}
-use Rattle.rv_rows.specs.declared.linear.Row.{Row}
-use Rattle.rv_rows.specs.declared.linear.Form.{Form}
-use Rattle.rv_diagram.specs.declared.Triple.{Triple}
-use Rattle.rv_diagram.specs.Nodes.{Valuation, Diagrams, IsLeast, value_of}
-use Rattle.std.proofs.Common.{MatchOption, false}
-use Rattle.std.proofs.Common.{None as Nothing}
+use Rattle.std.proofs.{lemmas.Bool.cases_lt, lemmas.List.Elements.All-push, lemmas.Option.slice_get_within, lemmas.Option.get_or_from_slice_get}
+use Rattle.rv_rows.specs.{declared.linear.Row.Row, declared.linear.Form.Form}
+use Rattle.rv_diagram.specs.{declared.Triple.Triple, Nodes.Valuation, Nodes.Diagrams, Nodes.IsLeast, Nodes.value_of}
 use Rattle.rv_proofs.specs.Systems.{System}
-use Rattle.rv_cases.specs.declared.asking.Questions.{Questions}
-use Rattle.rv_cases.specs.Conditions.{list_at, AreAnswers}
 use Rattle.rv_cases.specs.Questions.{HaveAnswers, AreQuestions, AreTestAnswers, AreUpdateAnswers, rows_at, forms_at}
+use Rattle.rv_cases.specs.{declared.asking.Questions.Questions, Conditions.list_at, Conditions.AreAnswers}
 use Rattle.rv_accept.specs.Needs.{flag_at, IsPointOf}
 
 module _ (nodes : List Triple) (q : Questions) (t : ℕ) (answers : List ℕ) (known : List Row) (have : HaveAnswers nodes q)

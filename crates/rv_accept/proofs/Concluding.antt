@@ -1,14 +1,8 @@
 -- What a right verdict says.
 use Rattle.std.proofs.Common.{◌≡◌, ◌↔◌, refl}
-use Rattle.rv_proofs.specs.Systems.{System}
-use Rattle.rv_proofs.specs.Accepted.{IsAccepted}
-use Rattle.rv_proofs.specs.Runs.{IsSafeSystem}
-use Rattle.rv_proofs.specs.Verdicts.{IsVerdict}
-use Rattle.rv_proofs.specs.declared.certificate.Certificate.{Certificate}
-use Rattle.rv_proofs.specs.declared.verdict.Verdict.{Verdict}
-use Rattle.rv_proofs.specs.declared.verdict.Verdict.TheVariants.{Accepted, Rejected}
-use Rattle.rv_proofs.proofs.Judging.{nothing_fails}
-use Rattle.rv_proofs.proofs.Safe.{is_safe}
+use Rattle.rv_proofs.specs.{Systems.System, Accepted.IsAccepted, Runs.IsSafeSystem, Verdicts.IsVerdict, declared.certificate.Certificate.Certificate}
+use Rattle.rv_proofs.specs.{declared.verdict.Verdict.Verdict, declared.verdict.Verdict.TheVariants.Accepted, declared.verdict.Verdict.TheVariants.Rejected}
+use Rattle.rv_proofs.proofs.{Judging.nothing_fails, Safe.is_safe}
 
 pub verdict_exact : (s : System) (c : Certificate) (v : Verdict) → IsVerdict s c v → (v ≡ Accepted) ↔ IsAccepted s c
 verdict_exact s c Accepted h = (λ e. h, λ a. refl)

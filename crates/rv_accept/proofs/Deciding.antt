@@ -1,28 +1,14 @@
 -- What is still throughout a scope is settled at the entry, and what moves is not.
-use Rattle.std.proofs.Common.{ℕ, ◌+◌, ◌<◌, ◌≡◌, ◌⊎◌, pos, Bool, List, length, All, ⊎_elim}
-use Rattle.std.proofs.Common.{arith, Option, Some, MatchOption, slice_get}
-use Rattle.std.proofs.Common.{None as Nothing}
-use Rattle.std.proofs.lemmas.Bool.{cases_lt}
-use Rattle.std.proofs.lemmas.List.{get_or_past}
-use Rattle.std.proofs.lemmas.List.Elements.{All-contains}
-use Rattle.rv_rows.specs.declared.linear.Row.{Row}
-use Rattle.rv_rows.specs.declared.linear.Form.{Form}
-use Rattle.rv_rows.specs.Rows.{row_at}
+use Rattle.std.proofs.Common.{ℕ, ◌+◌, ◌<◌, ◌≡◌, ◌⊎◌, pos, Bool, List, length, All, ⊎_elim, arith, Option, Some, MatchOption, slice_get, None as Nothing}
+use Rattle.std.proofs.{lemmas.Bool.cases_lt, lemmas.List.get_or_past, lemmas.List.Elements.All-contains}
+use Rattle.rv_rows.specs.{declared.linear.Row.Row, declared.linear.Form.Form, Rows.row_at}
 use Rattle.rv_diagram.specs.Nodes.{Diagrams}
-use Rattle.rv_proofs.specs.Systems.{System}
-use Rattle.rv_proofs.specs.Ranges.{IsRecord}
-use Rattle.rv_proofs.specs.Scopes.{IsSettled, IsSettledTest, IsSettledUpdate, Wanted, refutation, before, after, Implication, implications}
-use Rattle.rv_proofs.specs.Scopes.{NamesTest, NeedsUpdate}
-use Rattle.rv_proofs.specs.Implied.{form_at}
-use Rattle.rv_proofs.specs.declared.certificate.Certificate.{Certificate}
-use Rattle.rv_proofs.specs.declared.certificate.Location.{Location}
-use Rattle.rv_proofs.specs.declared.certificate.Entry.{Entry}
-use Rattle.rv_accept.specs.Held.{IsScope}
+use Rattle.rv_proofs.specs.{Systems.System, Ranges.IsRecord, Scopes.IsSettled, Scopes.IsSettledTest, Scopes.IsSettledUpdate, Scopes.Wanted, Scopes.refutation}
+use Rattle.rv_proofs.specs.{Scopes.before, Scopes.after, Scopes.Implication, Scopes.implications, Scopes.NamesTest, Scopes.NeedsUpdate, Implied.form_at}
+use Rattle.rv_proofs.specs.{declared.certificate.Certificate.Certificate, declared.certificate.Location.Location, declared.certificate.Entry.Entry}
 use Rattle.rv_accept.specs.Needs.{IsNamed, IsNeeded, StaysRow, StaysForm, AreStillRows, AreStillForms, HasMovingRow, HasMovingForm}
-use Rattle.rv_accept.specs.Passing.{AreFacts, IsNeededBy}
-use Rattle.rv_accept.specs.declared.facts.Facts.{Facts}
-use Rattle.rv_accept.proofs.Listing.{all_at, all_from}
-use Rattle.rv_accept.proofs.Judged.{IsKeptWanted}
+use Rattle.rv_accept.specs.{Held.IsScope, Passing.AreFacts, Passing.IsNeededBy, declared.facts.Facts.Facts}
+use Rattle.rv_accept.proofs.{Listing.all_at, Listing.all_from, Judged.IsKeptWanted}
 
 -- a memory that a kept row needs is one
 needed_low : (s : System) (w : Wanted) (k : ℕ) → IsKeptWanted s w → NeedsUpdate w k → k < s.memories

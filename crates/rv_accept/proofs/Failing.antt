@@ -1,26 +1,18 @@
 -- The least words that fail.
-use Rattle.std.proofs.Common.{ℕ, ◌/◌, ◌≡◌, ◌⊎◌, Bool, false, not, ◌&&◌, List, [], sym, ap, ◌∙◌, ⊎_elim}
-use Rattle.std.proofs.Common.{arith, Option, Some, MatchOption, IsTrue, slice_get}
-use Rattle.std.proofs.lemmas.Bool.{cases_Bool}
-use Rattle.rv_diagram.specs.declared.frozen.Frozen.{Frozen}
+use Rattle.std.proofs.Common.{ℕ, ◌/◌, ◌≡◌, ◌⊎◌, Bool, false, not, ◌&&◌, List, [], sym, ap, ◌∙◌, ⊎_elim, arith, Option, Some, MatchOption, IsTrue, slice_get}
+use Rattle.std.proofs.lemmas.Bool.{cases_Bool, false_from_ne_true}
 use Rattle.rv_diagram.specs.Nodes.{Valuation, Diagrams, node_at, value_of, valuation_of, IsLeast, IsRef}
+use Rattle.rv_diagram.specs.{declared.frozen.Frozen.Frozen, Several.ref_at}
 use Rattle.rv_proofs.specs.Systems.{System, IsSystem, IsState, IsRead as IsReadBit, IsSameValuation, HasSameState}
-use Rattle.rv_proofs.specs.Scopes.{IsIn, IsInScope}
-use Rattle.rv_proofs.specs.Ranges.{IsControlSet, IsCondition, IsInRange}
-use Rattle.rv_proofs.specs.Accepted.{IsInitial, IsCovered, IsObserved, LeadsInto}
-use Rattle.rv_proofs.specs.Verdicts.{LacksInitial, IsUncovered}
-use Rattle.rv_proofs.specs.declared.certificate.Certificate.{Certificate}
-use Rattle.rv_proofs.specs.declared.certificate.Location.{Location}
-use Rattle.rv_proofs.specs.declared.certificate.Entry.{Entry}
-use Rattle.rv_diagram.specs.Several.{ref_at}
+use Rattle.rv_proofs.specs.{Scopes.IsIn, Scopes.IsInScope, Ranges.IsControlSet, Ranges.IsCondition, Ranges.IsInRange, Accepted.IsInitial, Accepted.IsCovered}
+use Rattle.rv_proofs.specs.{Accepted.IsObserved, Accepted.LeadsInto, Verdicts.LacksInitial, Verdicts.IsUncovered, declared.certificate.Certificate.Certificate}
+use Rattle.rv_proofs.specs.{declared.certificate.Location.Location, declared.certificate.Entry.Entry}
 use Rattle.rv_accept.specs.Steps.{IsTrueOf, IsLeastWord, has}
 use Rattle.rv_accept.specs.Held.{IsHeld, IsWithin, IsScope, follow, IsUnseen, IsElsewhere}
 use Rattle.rv_symbolic.specs.declared.relation.Parts.{Parts}
-use Rattle.rv_accept.proofs.Growing.{and_not}
+use Rattle.rv_accept.proofs.{Growing.and_not, Least.Picked, Least.picked, Least.match_map, Least.same_states, Least.scope_same, Least.value_reads}
 use Rattle.rv_proofs.proofs.ControlReads.{control_same, condition_same}
-use Rattle.rv_accept.proofs.Least.{Picked, picked, match_map, same_states, scope_same, value_reads}
 use Rattle.rv_base.proofs.Truths.{clash}
-use Rattle.std.proofs.lemmas.Bool.{false_from_ne_true}
 
 -- what the pick of the first set without the second says
 abbrev pub PickOf : Diagrams → ℕ → Option (List Bool) → Type 0

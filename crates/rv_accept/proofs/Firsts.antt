@@ -1,30 +1,20 @@
 -- Which reason is the first.
-use Rattle.std.proofs.Common.{ℕ, zero, suc, ◌+◌, ◌-◌, ◌<◌, ◌≡◌, ◌⊎◌, Bool, List, [], ◌∷◌, ◌++◌, length, All, refl, sym, ap, ◌∙◌, subst}
-use Rattle.std.proofs.Common.{⊎_elim, arith, Some, slice_get}
-use Rattle.std.proofs.lemmas.Option.{same_Some, slice_get_within, get_or_from_slice_get}
-use Rattle.std.proofs.lemmas.List.Elements.{All-get_or}
+use Rattle.std.proofs.Common.{ℕ, zero, suc, ◌+◌, ◌-◌, ◌<◌, ◌≡◌, ◌⊎◌, Bool, List, [], ◌∷◌, ◌++◌, length, All, refl, sym, ap, ◌∙◌, subst, ⊎_elim, arith, Some}
+use Rattle.std.proofs.Common.{slice_get}
+use Rattle.std.proofs.{lemmas.Option.same_Some, lemmas.Option.slice_get_within, lemmas.Option.get_or_from_slice_get, lemmas.List.Elements.All-get_or}
 use Rattle.rv_diagram.specs.Nodes.{Valuation, valuation_of, ComesBefore}
-use Rattle.rv_rows.specs.declared.linear.Row.{Row}
-use Rattle.rv_rows.specs.declared.farkas.Multipliers.{Multipliers}
-use Rattle.rv_proofs.specs.Systems.{System}
-use Rattle.rv_proofs.specs.Scopes.{IsIn, IsInScope, IsSettled, Implication, implications}
-use Rattle.rv_proofs.specs.Implied.{IsImplied}
-use Rattle.rv_proofs.specs.Ranges.{IsInRange}
+use Rattle.rv_rows.specs.{declared.linear.Row.Row, declared.farkas.Multipliers.Multipliers}
 use Rattle.rv_proofs.specs.Accepted.{AreProved, IsIncluded, IsInitial, IsCovered, IsObserved, Leads, AreImplied, IsEntry, IsStepKind, IsAccepted}
 use Rattle.rv_proofs.specs.Verdicts.{LacksInitial, IsUncovered, IsUnobserved, IsTarget, LeadsElsewhere, IsUnproved, IsNotIncluded, Fails, place, word_of}
 use Rattle.rv_proofs.specs.Verdicts.{IsFirst}
-use Rattle.rv_proofs.specs.declared.certificate.Certificate.{Certificate}
-use Rattle.rv_proofs.specs.declared.certificate.Location.{Location}
-use Rattle.rv_proofs.specs.declared.certificate.Entry.{Entry}
-use Rattle.rv_proofs.specs.declared.certificate.EntryKind.{EntryKind}
-use Rattle.rv_proofs.specs.declared.certificate.EntryKind.TheVariants.{Dead, Go, Loop}
-use Rattle.rv_proofs.specs.declared.verdict.Reason.{Reason}
+use Rattle.rv_proofs.specs.{Systems.System, Scopes.IsIn, Scopes.IsInScope, Scopes.IsSettled, Scopes.Implication, Scopes.implications, Implied.IsImplied}
+use Rattle.rv_proofs.specs.{Ranges.IsInRange, declared.certificate.Certificate.Certificate, declared.certificate.Location.Location}
+use Rattle.rv_proofs.specs.{declared.certificate.Entry.Entry, declared.certificate.EntryKind.EntryKind, declared.certificate.EntryKind.TheVariants.Dead}
+use Rattle.rv_proofs.specs.{declared.certificate.EntryKind.TheVariants.Go, declared.certificate.EntryKind.TheVariants.Loop, declared.verdict.Reason.Reason}
 use Rattle.rv_proofs.specs.declared.verdict.Reason.TheVariants as reason
-use Rattle.rv_accept.specs.Steps.{IsLeastWord}
-use Rattle.rv_accept.specs.Passing.{NoneBefore, Passes, AllPass}
+use Rattle.rv_accept.specs.{Steps.IsLeastWord, Passing.NoneBefore, Passing.Passes, Passing.AllPass}
 use Rattle.rv_accept.proofs.Order.{split_next, split_first, never_self, is_initial, is_inclusion, is_uncovered, is_unsettled, is_observer, is_target}
-use Rattle.rv_accept.proofs.Order.{is_multipliers, some_inclusion, not_top, not_location, not_rows, not_entries, not_entry}
-use Rattle.rv_accept.proofs.Order.{not_implications, nth, apart}
+use Rattle.rv_accept.proofs.Order.{is_multipliers, some_inclusion, not_top, not_location, not_rows, not_entries, not_entry, not_implications, nth, apart}
 use Rattle.rv_base.proofs.Truths.{clash}
 
 -- WHAT PASSES DOES NOT FAIL

@@ -1,17 +1,13 @@
 -- Stores that grow, and sets that are gathered.
-use Rattle.std.proofs.Common.{ℕ, ◌+◌, ◌<◌, ◌≤◌, ◌≡◌, ◌↔◌, ◌⊎◌, Bool, true, false, not, ◌&&◌, ◌||◌, List, [], ◌∷◌, length, refl, sym, ap, ◌∙◌, subst}
-use Rattle.std.proofs.Common.{⊎_elim, inl, inr, arith, Some, slice_get}
-use Rattle.std.proofs.lemmas.Bool.{cases_lt, or_cases, and_from, and_parts}
+use Rattle.std.proofs.Common.{ℕ, ◌+◌, ◌<◌, ◌≤◌, ◌≡◌, ◌↔◌, ◌⊎◌, Bool, true, false, not, ◌&&◌, ◌||◌, List, [], ◌∷◌, length, refl, sym, ap, ◌∙◌, subst, ⊎_elim}
+use Rattle.std.proofs.Common.{inl, inr, arith, Some, slice_get}
+use Rattle.std.proofs.lemmas.Bool.{cases_lt, or_cases, and_from, and_parts, or_left, or_right}
 use Rattle.std.proofs.lemmas.Option.{same_Some}
 use Rattle.rv_diagram.specs.Nodes.{Valuation, Diagrams, IsRef}
-use Rattle.rv_proofs.specs.Scopes.{IsIn}
-use Rattle.rv_proofs.specs.declared.certificate.Location.{Location}
-use Rattle.rv_proofs.specs.declared.certificate.Entry.{Entry}
+use Rattle.rv_proofs.specs.{Scopes.IsIn, declared.certificate.Location.Location, declared.certificate.Entry.Entry}
 use Rattle.rv_terms.specs.Growing.{Extends}
 use Rattle.rv_accept.specs.Steps.{has}
 use Rattle.rv_base.proofs.Truths.{clash, of_not_true}
-use Rattle.std.proofs.lemmas.Bool.{or_left}
-use Rattle.std.proofs.lemmas.Bool.{or_right}
 
 pub found_later : (a b : Diagrams) (r : ℕ) → Extends a b → IsRef a.nodes r → IsRef b.nodes r
 found_later a b r e h = let k : length a.nodes ≤ length b.nodes = e.longer in omega arith

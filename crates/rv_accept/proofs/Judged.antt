@@ -1,32 +1,17 @@
 -- The first implication of a list that is not proved, and what that says of the entry.
-use Rattle.std.proofs.Common.{ℕ, zero, suc, ◌+◌, ◌-◌, ◌<◌, ◌≤◌, ◌≡◌, ◌↔◌, ◌⊎◌, ◌^◌, ℤ, ◌-ℤ◌, List, [], ◌∷◌, ◌++◌, map, length}
-use Rattle.std.proofs.Common.{length-append, All, refl, sym, subst, ⊎_elim, arith}
-use Rattle.std.proofs.Common.{Option, Some, IfSome, slice_get}
-use Rattle.std.proofs.Common.{None as Nothing}
-use Rattle.std.proofs.lemmas.List.{length_push}
-use Rattle.std.proofs.lemmas.Option.{none-some, same_Some, slice_get_within}
-use Rattle.rv_rows.specs.declared.linear.Row.{Row}
-use Rattle.rv_rows.specs.declared.linear.Form.{Form}
-use Rattle.rv_rows.specs.declared.farkas.Multipliers.{Multipliers}
-use Rattle.rv_rows.specs.Rows.{dot}
-use Rattle.rv_rows.specs.Tight.{Fits}
-use Rattle.rv_rows.specs.Forms.{number, forms_width, IsSubstituted, CanSubstitute}
-use Rattle.rv_rows.specs.Multipliers.{Refutes}
+use Rattle.std.proofs.Common.{ℕ, zero, suc, ◌+◌, ◌-◌, ◌<◌, ◌≤◌, ◌≡◌, ◌↔◌, ◌⊎◌, ◌^◌, ℤ, ◌-ℤ◌, List, [], ◌∷◌, ◌++◌, map, length, length-append, All, refl, sym}
+use Rattle.std.proofs.Common.{subst, ⊎_elim, arith, Option, Some, IfSome, slice_get, None as Nothing}
+use Rattle.std.proofs.{lemmas.List.length_push, lemmas.Option.none-some, lemmas.Option.same_Some, lemmas.Option.slice_get_within}
+use Rattle.rv_rows.specs.{declared.linear.Row.Row, declared.linear.Form.Form, declared.farkas.Multipliers.Multipliers, Rows.dot, Tight.Fits, Forms.number}
+use Rattle.rv_rows.specs.{Forms.forms_width, Forms.IsSubstituted, Forms.CanSubstitute, Multipliers.Refutes}
 use Rattle.rv_rows.proofs.FormLemmas.{pushed, substituted}
-use Rattle.rv_proofs.specs.Systems.{System, IsSystem, IsUpdate}
-use Rattle.rv_proofs.specs.Ranges.{AreKept}
 use Rattle.rv_proofs.specs.Scopes.{Wanted, refutation, before, after, Implication, each, implications, rows_into}
-use Rattle.rv_proofs.specs.Implied.{IsImplied, IsShownWith, HasBefore}
-use Rattle.rv_proofs.specs.Accepted.{AreImplied}
-use Rattle.rv_proofs.specs.declared.certificate.Certificate.{Certificate}
-use Rattle.rv_proofs.specs.declared.certificate.Location.{Location}
-use Rattle.rv_proofs.specs.declared.certificate.Entry.{Entry}
-use Rattle.rv_proofs.specs.declared.certificate.EntryKind.{EntryKind}
-use Rattle.rv_proofs.specs.declared.certificate.EntryKind.TheVariants.{Dead, Go, Loop}
-use Rattle.rv_proofs.proofs.Once.{implied_once}
-use Rattle.rv_proofs.proofs.Rooms.{has_room, stays_small}
-use Rattle.rv_accept.specs.Passing.{AreFacts, AreAsked, AreKindAsked, HasRoom, AreTried, HoldsWith, FailsFirst}
-use Rattle.rv_accept.specs.Passing.{AreJudged, IsFirstUnimplied}
+use Rattle.rv_proofs.specs.{Systems.System, Systems.IsSystem, Systems.IsUpdate, Ranges.AreKept, Implied.IsImplied, Implied.IsShownWith, Implied.HasBefore}
+use Rattle.rv_proofs.specs.{Accepted.AreImplied, declared.certificate.Certificate.Certificate, declared.certificate.Location.Location}
+use Rattle.rv_proofs.specs.{declared.certificate.Entry.Entry, declared.certificate.EntryKind.EntryKind, declared.certificate.EntryKind.TheVariants.Dead}
+use Rattle.rv_proofs.specs.{declared.certificate.EntryKind.TheVariants.Go, declared.certificate.EntryKind.TheVariants.Loop}
+use Rattle.rv_proofs.proofs.{Once.implied_once, Rooms.has_room, Rooms.stays_small}
+use Rattle.rv_accept.specs.Passing.{AreFacts, AreAsked, AreKindAsked, HasRoom, AreTried, HoldsWith, FailsFirst, AreJudged, IsFirstUnimplied}
 use Rattle.rv_accept.proofs.Ranged.{few_each}
 use Rattle.rv_accept.proofs.Listing.{get_left, get_right, get_cases, all_at, all_from, asks, each_at, each_parts}
 

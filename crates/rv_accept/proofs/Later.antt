@@ -1,34 +1,23 @@
 -- What is given stays so as the store grows, and the answers of the tests put together.
-use Rattle.std.proofs.Common.{ℕ, ◌+◌, ◌-◌, ◌*◌, ◌/◌, ◌<◌, ◌≤◌, ◌≡◌, ◌&&◌, Bool, true, false, List, [], ◌∷◌, length, refl, sym, ◌∙◌, subst, ⊎_elim}
-use Rattle.std.proofs.Common.{inl, inr, arith}
-use Rattle.std.proofs.Common.{Result, Ok, Err, IfOk, Option, Some, MatchOption, MatchBool, IsTrue, slice_get}
-use Rattle.std.proofs.Common.{None as Nothing}
-use Rattle.std.proofs.lemmas.Option.{same_Some, slice_get_within}
-use Rattle.std.proofs.lemmas.Bool.{and_parts, and_from}
-use Rattle.rv_diagram.specs.declared.frozen.Frozen.{Frozen}
+use Rattle.std.proofs.Common.{ℕ, ◌+◌, ◌-◌, ◌*◌, ◌/◌, ◌<◌, ◌≤◌, ◌≡◌, ◌&&◌, Bool, true, false, List, [], ◌∷◌, length, refl, sym, ◌∙◌, subst, ⊎_elim, inl, inr}
+use Rattle.std.proofs.Common.{arith, Result, Ok, Err, IfOk, Option, Some, MatchOption, MatchBool, IsTrue, slice_get, None as Nothing}
+use Rattle.std.proofs.{lemmas.Option.same_Some, lemmas.Option.slice_get_within, lemmas.Bool.and_parts, lemmas.Bool.and_from}
 use Rattle.rv_diagram.specs.Nodes.{Valuation, Diagrams, IsRef, IsOrderedOver, value_of, valuation_of, node_at}
-use Rattle.rv_diagram.specs.Several.{ref_at}
+use Rattle.rv_diagram.specs.{declared.frozen.Frozen.Frozen, Several.ref_at}
 use Rattle.rv_rows.specs.declared.farkas.Multipliers.{Multipliers}
-use Rattle.rv_proofs.specs.Systems.{System, IsSystem, IsState}
-use Rattle.rv_proofs.specs.Counts.{HasLoop, HasKindCounts}
-use Rattle.rv_proofs.specs.Ranges.{IsControlSet, IsCondition, IsInRange}
 use Rattle.rv_proofs.specs.Accepted.{AreProved, IsIncluded, IsCovered, IsObserved, IsStepKind, IsDeadKind, IsEntry, Leads, LeadsInto}
 use Rattle.rv_proofs.specs.Verdicts.{IsUnobserved, LeadsElsewhere, IsTarget, IsFirst, IsUnproved}
-use Rattle.rv_proofs.specs.declared.certificate.Certificate.{Certificate}
-use Rattle.rv_proofs.specs.declared.certificate.Location.{Location}
-use Rattle.rv_proofs.specs.declared.certificate.Entry.{Entry}
-use Rattle.rv_proofs.specs.declared.certificate.EntryKind.{EntryKind}
-use Rattle.rv_proofs.specs.declared.certificate.EntryKind.TheVariants.{Dead, Go, Loop}
-use Rattle.rv_proofs.specs.declared.verdict.Reason.{Reason}
+use Rattle.rv_proofs.specs.{Systems.System, Systems.IsSystem, Systems.IsState, Counts.HasLoop, Counts.HasKindCounts, Ranges.IsControlSet, Ranges.IsCondition}
+use Rattle.rv_proofs.specs.{Ranges.IsInRange, declared.certificate.Certificate.Certificate, declared.certificate.Location.Location}
+use Rattle.rv_proofs.specs.{declared.certificate.Entry.Entry, declared.certificate.EntryKind.EntryKind, declared.certificate.EntryKind.TheVariants.Dead}
+use Rattle.rv_proofs.specs.{declared.certificate.EntryKind.TheVariants.Go, declared.certificate.EntryKind.TheVariants.Loop, declared.verdict.Reason.Reason}
 use Rattle.rv_terms.specs.Growing.{Extends}
 use Rattle.rv_symbolic.specs.declared.relation.Parts.{Parts}
 use Rattle.rv_cases.specs.declared.asking.Questions.{Questions}
 use Rattle.rv_cases.proofs.Keeping.{questions_later}
-use Rattle.rv_accept.specs.Steps.{IsTrueOf, IsLeastWord, has}
-use Rattle.rv_accept.specs.Held.{IsHeld, IsWithin, IsScope, ReadsNext, IsUnseen, IsElsewhere}
-use Rattle.rv_accept.specs.Passing.{IsGiven, NoneBefore, Passes, AllPass, IsFirstNotIncluded}
-use Rattle.rv_accept.proofs.Growing.{found_later}
-use Rattle.rv_accept.proofs.Firsts.{no_row}
+use Rattle.rv_accept.specs.{Steps.IsTrueOf, Steps.IsLeastWord, Steps.has, Held.IsHeld, Held.IsWithin, Held.IsScope, Held.ReadsNext, Held.IsUnseen}
+use Rattle.rv_accept.specs.{Held.IsElsewhere, Passing.IsGiven, Passing.NoneBefore, Passing.Passes, Passing.AllPass, Passing.IsFirstNotIncluded}
+use Rattle.rv_accept.proofs.{Growing.found_later, Firsts.no_row}
 
 module _ (a b : Diagrams) (e : Extends a b) where
   value_later : (r : ℕ) (f : Valuation → Bool) → IsRef a.nodes r → ((v : Valuation) → value_of a.nodes r v ≡ f v) → (v : Valuation) → value_of b.nodes r v ≡ f v

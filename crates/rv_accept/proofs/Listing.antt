@@ -1,12 +1,10 @@
 -- Elements of lists by number, and the implications of a list of rows.
-use Rattle.std.proofs.Common.{ℕ, zero, suc, ◌+◌, ◌<◌, ◌≡◌, ◌≢◌, ◌↔◌, ◌⊎◌, pos, List, [], ◌∷◌, ◌++◌, length, All, refl, sym, ap, ◌∙◌, subst, ⊎_elim, inl}
-use Rattle.std.proofs.Common.{inr, arith, Some, slice_get, get_or}
-use Rattle.std.specs.List.{Contains}
+use Rattle.std.proofs.Common.{ℕ, zero, suc, ◌+◌, ◌<◌, ◌≡◌, ◌≢◌, ◌↔◌, ◌⊎◌, pos, List, [], ◌∷◌, ◌++◌, length, All, refl, sym, ap, ◌∙◌, subst, ⊎_elim, inl, inr}
+use Rattle.std.proofs.Common.{arith, Some, slice_get, get_or}
 use Rattle.std.proofs.lemmas.List.Elements.{All-get_or}
 use Rattle.std.proofs.lemmas.Option.{none-some, same_Some, slice_get_within, slice_get-get_or, get_or_from_slice_get}
-use Rattle.rv_rows.specs.declared.linear.Row.{Row}
-use Rattle.rv_rows.specs.declared.farkas.Multipliers.{Multipliers}
-use Rattle.rv_rows.specs.Rows.{coefficient}
+use Rattle.std.specs.List.{Contains}
+use Rattle.rv_rows.specs.{declared.linear.Row.Row, declared.farkas.Multipliers.Multipliers, Rows.coefficient}
 use Rattle.rv_proofs.specs.Scopes.{Wanted, before, after, Implication, each, NamesTest, NeedsUpdate}
 use Rattle.rv_accept.specs.Needs.{SomeAt, IsNamed, IsNeeded, Names}
 use Rattle.rv_base.proofs.Lists.{item_at}

@@ -1,17 +1,11 @@
 -- A set of control states before a step, node by node.
-use Rattle.std.proofs.Common.{ℕ, ◌+◌, ◌-◌, ◌/◌, ◌<◌, ◌≤◌, ◌≡◌, ◌⊎◌, false, if◌then◌else◌, List, [], ◌∷◌, ◌++◌, length, sym, ap}
-use Rattle.std.proofs.Common.{◌∙◌, subst, ⊎_elim, arith, Result, Ok, Err, IfOk}
-use Rattle.std.proofs.lemmas.Bool.{cases_lt}
-use Rattle.std.proofs.lemmas.List.{get_or_append_left}
-use Rattle.std.proofs.Math.Seq.{get_or-append_seam}
-use Rattle.std.proofs.Math.ListN.{get_or-eq_default}
-use Rattle.std.proofs.Math.Path.{fun_ext}
-use Rattle.rv_diagram.specs.declared.Triple.{Triple}
+use Rattle.std.proofs.Common.{ℕ, ◌+◌, ◌-◌, ◌/◌, ◌<◌, ◌≤◌, ◌≡◌, ◌⊎◌, false, if◌then◌else◌, List, [], ◌∷◌, ◌++◌, length, sym, ap, ◌∙◌, subst, ⊎_elim, arith}
+use Rattle.std.proofs.Common.{Result, Ok, Err, IfOk}
+use Rattle.std.proofs.{lemmas.Bool.cases_lt, lemmas.List.get_or_append_left, Math.Seq.get_or-append_seam, Math.ListN.get_or-eq_default, Math.Path.fun_ext}
 use Rattle.rv_diagram.specs.Nodes.{Valuation, Diagrams, Answers, IsExpanded, IsRef, value_of, choice, node_at}
+use Rattle.rv_diagram.specs.{declared.Triple.Triple, Several.ref_at}
 use Rattle.rv_terms.specs.Growing.{Extends}
-use Rattle.rv_diagram.specs.Several.{ref_at}
-use Rattle.rv_accept.specs.Steps.{AreRefs}
-use Rattle.rv_accept.specs.Held.{AreMoved, follow}
+use Rattle.rv_accept.specs.{Steps.AreRefs, Held.AreMoved, Held.follow}
 
 pub child_found : (d : Diagrams) (moved : List ℕ) (r x : ℕ) → AreRefs d moved → r < length moved + 2 → (r < 2 → x ≡ r) → ((n : ℕ) → r ≡ n + 2
     → x ≡ ref_at moved n) → IsRef d.nodes x

@@ -1,10 +1,8 @@
 -- The order of the reasons.
-use Rattle.std.proofs.Common.{ℕ, ◌+◌, ◌≡◌, ◌⊎◌, ◌==◌, Bool, false, List, [], ◌∷◌, ◌++◌, length, get_or, refl, ap, ◌∙◌, ⊎_elim}
-use Rattle.std.proofs.Common.{inl, inr, arith}
+use Rattle.std.proofs.Common.{ℕ, ◌+◌, ◌≡◌, ◌⊎◌, ◌==◌, Bool, false, List, [], ◌∷◌, ◌++◌, length, get_or, refl, ap, ◌∙◌, ⊎_elim, inl, inr, arith}
 use Rattle.std.proofs.lemmas.Bool.{cases_lt, eq-eqb}
 use Rattle.rv_diagram.specs.Nodes.{Valuation, ComesBefore}
-use Rattle.rv_proofs.specs.Verdicts.{place, IsBefore}
-use Rattle.rv_proofs.specs.declared.verdict.Reason.{Reason}
+use Rattle.rv_proofs.specs.{Verdicts.place, Verdicts.IsBefore, declared.verdict.Reason.Reason}
 use Rattle.rv_proofs.specs.declared.verdict.Reason.TheVariants as reason
 use Rattle.rv_base.proofs.Truths.{clash}
 

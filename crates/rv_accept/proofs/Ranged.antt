@@ -1,26 +1,17 @@
 -- What the counts and ranges of a certificate say of the implications of an entry, kind by kind.
-use Rattle.std.proofs.Common.{ℕ, zero, suc, ◌+◌, ◌<◌, ◌≤◌, ◌≡◌, ◌≢◌, ◌⊎◌, ◌^◌, pos, Bool, List, [], ◌∷◌, ◌++◌, length, length-append, All, refl, sym}
-use Rattle.std.proofs.Common.{◌∙◌, subst, ⊎_elim, inr, arith, Option, Some, slice_get}
+use Rattle.std.proofs.Common.{ℕ, zero, suc, ◌+◌, ◌<◌, ◌≤◌, ◌≡◌, ◌≢◌, ◌⊎◌, ◌^◌, pos, Bool, List, [], ◌∷◌, ◌++◌, length, length-append, All, refl, sym, ◌∙◌}
+use Rattle.std.proofs.Common.{subst, ⊎_elim, inr, arith, Option, Some, slice_get}
 use Rattle.std.proofs.lemmas.List.Elements.{All-append, All-weaker}
 use Rattle.std.proofs.lemmas.Option.{none-some, same_Some, slice_get_within}
-use Rattle.rv_rows.specs.declared.linear.Row.{Row}
-use Rattle.rv_rows.specs.declared.farkas.Weight.{Weight}
-use Rattle.rv_rows.specs.declared.farkas.Multipliers.{Multipliers}
 use Rattle.rv_rows.specs.Rows.{RowWithin, coefficient}
-use Rattle.rv_rows.specs.Tight.{Fits}
-use Rattle.rv_proofs.specs.Systems.{System}
-use Rattle.rv_proofs.specs.Counts.{HasKindCounts}
+use Rattle.rv_rows.specs.{declared.linear.Row.Row, declared.farkas.Weight.Weight, declared.farkas.Multipliers.Multipliers, Tight.Fits}
 use Rattle.rv_proofs.specs.Ranges.{AreKept, IsRecord, HasDivisor, IsInRange, IsLocationInRange}
 use Rattle.rv_proofs.specs.Scopes.{Wanted, refutation, before, after, Implication, each, implications, rows_into, NamesTest, NeedsUpdate}
-use Rattle.rv_proofs.specs.Accepted.{IsEntry}
-use Rattle.rv_proofs.specs.declared.certificate.Certificate.{Certificate}
-use Rattle.rv_proofs.specs.declared.certificate.Location.{Location}
-use Rattle.rv_proofs.specs.declared.certificate.Entry.{Entry}
-use Rattle.rv_proofs.specs.declared.certificate.EntryKind.{EntryKind}
 use Rattle.rv_proofs.specs.declared.certificate.EntryKind.TheVariants.{Dead, Go, Loop}
+use Rattle.rv_proofs.specs.{Systems.System, Counts.HasKindCounts, Accepted.IsEntry, declared.certificate.Certificate.Certificate}
+use Rattle.rv_proofs.specs.{declared.certificate.Location.Location, declared.certificate.Entry.Entry, declared.certificate.EntryKind.EntryKind}
 use Rattle.rv_proofs.proofs.Records.{kept_within}
-use Rattle.rv_accept.specs.Needs.{SomeAt, IsNamed, IsNeeded, Names, IsMarked}
-use Rattle.rv_accept.specs.Passing.{AreAsked, AreKindAsked}
+use Rattle.rv_accept.specs.{Needs.SomeAt, Needs.IsNamed, Needs.IsNeeded, Needs.Names, Needs.IsMarked, Passing.AreAsked, Passing.AreKindAsked}
 use Rattle.rv_accept.proofs.Listing.{get_left, get_right, all_at, all_from, contains_get, get_contains, some_append, asks, each_at, named_each, needed_each}
 use Rattle.rv_accept.proofs.Listing.{needed_never}
 use Rattle.rv_accept.proofs.Marking.{marked_as, marked_then, marked_none}

@@ -1,18 +1,14 @@
 -- What is given to the checker can be met.
 use Rattle.std.proofs.Common.{ℕ, zero, suc, ◌<◌, ◌≡◌, Bool, true, false, cond, not, [], ◌∷◌, refl, ◌∙◌, subst, arith}
 use Rattle.std.proofs.lemmas.Option.{none-some, same_Some}
-use Rattle.rv_diagram.specs.Nodes.{Valuation, value_of, IsRef}
-use Rattle.rv_diagram.specs.Several.{ref_at}
-use Rattle.rv_proofs.specs.Counts.{HasLoop, HasFree}
+use Rattle.rv_diagram.specs.{Nodes.Valuation, Nodes.value_of, Nodes.IsRef, Several.ref_at}
 use Rattle.rv_proofs.specs.Samples.{counting, counted, at_first, at_later, counting_on}
-use Rattle.rv_proofs.specs.declared.certificate.Location.{Location}
-use Rattle.rv_proofs.proofs.SampleSystems.{counting_system}
-use Rattle.rv_proofs.proofs.Counting.{counted_accepted}
+use Rattle.rv_proofs.specs.{Counts.HasLoop, Counts.HasFree, declared.certificate.Location.Location}
+use Rattle.rv_proofs.proofs.{SampleSystems.counting_system, Counting.counted_accepted}
 use Rattle.rv_cases.specs.Samples.{counting_nodes, counting_diagrams, counting_questions}
 use Rattle.rv_cases.proofs.Sampling.{asked, at_one, at_six, at_eleven}
 use Rattle.rv_symbolic.specs.Represented.{HaveRefs, AreParts}
-use Rattle.rv_accept.specs.Samples.{counting_parts}
-use Rattle.rv_accept.specs.Passing.{IsGiven}
+use Rattle.rv_accept.specs.{Samples.counting_parts, Passing.IsGiven}
 use Rattle.rv_diagram.proofs.Calls.{cond-not}
 
 same_side : (t u : Bool) → cond t (cond u true false) true ≡ cond t u true

@@ -1,22 +1,13 @@
 -- Rows and forms that stay throughout a scope.
-use Rattle.std.proofs.Common.{ℕ, zero, suc, ◌+◌, ◌<◌, ◌≡◌, ◌↔◌, ◌⊎◌, ℤ, Bool, true, false, List, length, refl, sym, ap, ◌∙◌, subst, ⊎_elim, inl, inr}
-use Rattle.std.proofs.Common.{arith, Some, IsTrue, slice_get}
-use Rattle.std.proofs.lemmas.Bool.{cases_lt, cases_Bool}
-use Rattle.std.proofs.lemmas.Option.{none-some, slice_get-get_or}
-use Rattle.std.specs.Cmp.Rules.{signed_items}
-use Rattle.std.specs.Cmp.{signed_Decides}
-use Rattle.std.specs.Cmp.Lexicographic.{pointwise}
-use Rattle.std.specs.Ordering.{int_eq}
-use Rattle.rv_rows.specs.declared.linear.Row.{Row}
-use Rattle.rv_rows.specs.declared.linear.Form.{Form}
-use Rattle.rv_rows.specs.Rows.{row_at}
-use Rattle.rv_diagram.specs.declared.Triple.{Triple}
-use Rattle.rv_diagram.specs.Nodes.{Valuation, Diagrams, IsRef, value_of}
-use Rattle.rv_proofs.specs.Systems.{System}
-use Rattle.rv_proofs.specs.Implied.{form_at}
+use Rattle.std.proofs.Common.{ℕ, zero, suc, ◌+◌, ◌<◌, ◌≡◌, ◌↔◌, ◌⊎◌, ℤ, Bool, true, false, List, length, refl, sym, ap, ◌∙◌, subst, ⊎_elim, inl, inr, arith}
+use Rattle.std.proofs.Common.{Some, IsTrue, slice_get}
+use Rattle.std.proofs.{lemmas.Bool.cases_lt, lemmas.Bool.cases_Bool, lemmas.Option.none-some, lemmas.Option.slice_get-get_or}
+use Rattle.std.specs.{Cmp.Rules.signed_items, Cmp.signed_Decides, Cmp.Lexicographic.pointwise, Ordering.int_eq}
+use Rattle.rv_rows.specs.{declared.linear.Row.Row, declared.linear.Form.Form, Rows.row_at}
+use Rattle.rv_diagram.specs.{declared.Triple.Triple, Nodes.Valuation, Nodes.Diagrams, Nodes.IsRef, Nodes.value_of}
+use Rattle.rv_proofs.specs.{Systems.System, Implied.form_at}
 use Rattle.rv_terms.specs.Growing.{Extends}
-use Rattle.rv_cases.specs.Conditions.{is_in, AreAnswers}
-use Rattle.rv_cases.specs.Questions.{AreTestAnswers, AreUpdateAnswers}
+use Rattle.rv_cases.specs.{Conditions.is_in, Conditions.AreAnswers, Questions.AreTestAnswers, Questions.AreUpdateAnswers}
 use Rattle.rv_accept.specs.Steps.{IsTrueOf}
 use Rattle.rv_base.proofs.Truths.{clash}
 

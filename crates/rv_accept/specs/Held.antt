@@ -1,15 +1,9 @@
 -- What a checker has of a system: references in a store that mean what the system is. And what it builds of them.
 use Rattle.std.specs.Prelude.{◌≡◌, ℕ, ◌+◌, ◌/◌, ◌<◌, true, false, Bool, List, IsTrue, length}
-use Rattle.rv_diagram.specs.declared.Triple.{Triple}
-use Rattle.rv_diagram.specs.Nodes.{Valuation, Diagrams, value_of, valuation_of, node_at}
-use Rattle.rv_diagram.specs.Several.{ref_at}
-use Rattle.rv_symbolic.specs.Represented.{HaveRefs, AreParts}
-use Rattle.rv_symbolic.specs.declared.relation.Parts.{Parts}
-use Rattle.rv_proofs.specs.Systems.{System, IsSystem}
-use Rattle.rv_proofs.specs.Scopes.{IsIn, IsInScope}
-use Rattle.rv_proofs.specs.Verdicts.{IsWord}
-use Rattle.rv_proofs.specs.declared.certificate.Location.{Location}
-use Rattle.rv_proofs.specs.declared.certificate.Entry.{Entry}
+use Rattle.rv_diagram.specs.{declared.Triple.Triple, Nodes.Valuation, Nodes.Diagrams, Nodes.value_of, Nodes.valuation_of, Nodes.node_at, Several.ref_at}
+use Rattle.rv_symbolic.specs.{Represented.HaveRefs, Represented.AreParts, declared.relation.Parts.Parts}
+use Rattle.rv_proofs.specs.{Systems.System, Systems.IsSystem, Scopes.IsIn, Scopes.IsInScope, Verdicts.IsWord, declared.certificate.Location.Location}
+use Rattle.rv_proofs.specs.{declared.certificate.Entry.Entry}
 use Rattle.rv_accept.specs.Steps.{IsTrueOf}
 
 -- The references are those of the store, and mean what the system is.

@@ -1,16 +1,9 @@
 -- Which tests and updates the implications of an entry need, and what is one throughout a scope.
-use Rattle.std.specs.Prelude.{◌≡◌, ◌⊎◌, ◌↔◌, ℕ, ◌+◌, ◌<◌, ◌^◌, true, false, Bool, List, length, Option, Some, MatchOption, All, slice_get}
-use Rattle.std.specs.Prelude.{slice_index_or}
-use Rattle.rv_diagram.specs.declared.Triple.{Triple}
-use Rattle.rv_diagram.specs.Nodes.{Valuation, value_of, valuation_of}
-use Rattle.rv_rows.specs.declared.linear.Row.{Row}
-use Rattle.rv_rows.specs.declared.linear.Form.{Form}
-use Rattle.rv_rows.specs.declared.farkas.Weight.{Weight}
-use Rattle.rv_rows.specs.declared.farkas.Multipliers.{Multipliers}
+use Rattle.std.specs.Prelude.{◌≡◌, ◌⊎◌, ◌↔◌, ℕ, ◌+◌, ◌<◌, ◌^◌, true, false, Bool, List, length, Option, Some, MatchOption, All, slice_get, slice_index_or}
+use Rattle.rv_diagram.specs.{declared.Triple.Triple, Nodes.Valuation, Nodes.value_of, Nodes.valuation_of}
 use Rattle.rv_rows.specs.Rows.{RowWithin, row_at}
-use Rattle.rv_proofs.specs.Systems.{System, IsUpdate}
-use Rattle.rv_proofs.specs.Scopes.{Implication, NamesTest, NeedsUpdate}
-use Rattle.rv_proofs.specs.Implied.{form_at}
+use Rattle.rv_rows.specs.{declared.linear.Row.Row, declared.linear.Form.Form, declared.farkas.Weight.Weight, declared.farkas.Multipliers.Multipliers}
+use Rattle.rv_proofs.specs.{Systems.System, Systems.IsUpdate, Scopes.Implication, Scopes.NamesTest, Scopes.NeedsUpdate, Implied.form_at}
 
 -- Some element of the list is so.
 abbrev pub SomeAt : {X : Type 0} → (X → Type 0) → List X → Type 0

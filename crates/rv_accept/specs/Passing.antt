@@ -1,29 +1,18 @@
 -- What passes and what fails at each level of the checker, and in which order.
 use Rattle.std.specs.Prelude.{◌≡◌, ℕ, ◌+◌, ◌<◌, ◌^◌, pos, Bool, List, ◌++◌, Some, Option, MatchOption, All, length, slice_get}
 use Rattle.rv_diagram.specs.Nodes.{Diagrams}
-use Rattle.rv_rows.specs.declared.linear.Row.{Row}
-use Rattle.rv_rows.specs.declared.linear.Form.{Form}
-use Rattle.rv_rows.specs.Rows.{RowWithin, row_at}
-use Rattle.rv_rows.specs.Forms.{CanSubstitute, IsSubstituted}
-use Rattle.rv_rows.specs.declared.farkas.Multipliers.{Multipliers}
-use Rattle.rv_proofs.specs.Systems.{System, IsUpdate}
-use Rattle.rv_proofs.specs.Counts.{HasFree}
-use Rattle.rv_proofs.specs.Ranges.{IsInRange, AreKept, IsRecord}
-use Rattle.rv_proofs.specs.Implied.{form_at, IsImplied, IsShownWith}
+use Rattle.rv_rows.specs.{declared.linear.Row.Row, declared.linear.Form.Form, Rows.RowWithin, Rows.row_at, Forms.CanSubstitute, Forms.IsSubstituted}
+use Rattle.rv_rows.specs.{declared.farkas.Multipliers.Multipliers}
 use Rattle.rv_proofs.specs.Scopes.{IsSettled, IsSettledTest, IsSettledUpdate, Wanted, Implication, implications}
 use Rattle.rv_proofs.specs.Accepted.{IsIncluded, IsCovered, IsObserved, Leads, AreImplied, IsStepKind}
 use Rattle.rv_proofs.specs.Verdicts.{Fails, place, IsBefore, IsNotIncluded}
-use Rattle.rv_proofs.specs.declared.certificate.Certificate.{Certificate}
-use Rattle.rv_proofs.specs.declared.certificate.Location.{Location}
-use Rattle.rv_proofs.specs.declared.certificate.Entry.{Entry}
-use Rattle.rv_proofs.specs.declared.certificate.EntryKind.{EntryKind}
-use Rattle.rv_proofs.specs.declared.certificate.EntryKind.TheVariants.{Dead, Go, Loop}
-use Rattle.rv_proofs.specs.declared.verdict.Reason.{Reason}
+use Rattle.rv_proofs.specs.{Systems.System, Systems.IsUpdate, Counts.HasFree, Ranges.IsInRange, Ranges.AreKept, Ranges.IsRecord, Implied.form_at}
+use Rattle.rv_proofs.specs.{Implied.IsImplied, Implied.IsShownWith, declared.certificate.Certificate.Certificate, declared.certificate.Location.Location}
+use Rattle.rv_proofs.specs.{declared.certificate.Entry.Entry, declared.certificate.EntryKind.EntryKind, declared.certificate.EntryKind.TheVariants.Dead}
+use Rattle.rv_proofs.specs.{declared.certificate.EntryKind.TheVariants.Go, declared.certificate.EntryKind.TheVariants.Loop, declared.verdict.Reason.Reason}
 use Rattle.rv_symbolic.specs.declared.relation.Parts.{Parts}
-use Rattle.rv_cases.specs.declared.asking.Questions.{Questions}
-use Rattle.rv_cases.specs.Questions.{AreQuestions}
-use Rattle.rv_accept.specs.Held.{IsHeld}
-use Rattle.rv_accept.specs.Needs.{IsNamed, IsNeeded, AreFlags}
+use Rattle.rv_cases.specs.{declared.asking.Questions.Questions, Questions.AreQuestions}
+use Rattle.rv_accept.specs.{Held.IsHeld, Needs.IsNamed, Needs.IsNeeded, Needs.AreFlags}
 
 -- What a checker is given: references that mean what the system is, the questions of its tests, updates and observer, and a certificate
 -- with the counts and ranges of a document, in which a location without a loop has empty `first` and `around`.

@@ -1,8 +1,7 @@
 -- What a reference is true of, and the least word of which something is so.
 use Rattle.std.specs.Prelude.{◌≡◌, ℕ, ◌<◌, ◌↔◌, true, List, Bool, length}
 use Rattle.rv_diagram.specs.Nodes.{Valuation, Diagrams, IsRef, value_of, valuation_of, ComesBefore}
-use Rattle.rv_diagram.specs.Several.{ref_at}
-use Rattle.rv_diagram.specs.declared.frozen.Frozen.{Frozen}
+use Rattle.rv_diagram.specs.{Several.ref_at, declared.frozen.Frozen.Frozen}
 
 -- r is a reference that is true exactly where this holds
 pub record IsTrueOf (d : Diagrams) (holds : Valuation → Type 0) (r : ℕ) : Type 0 where

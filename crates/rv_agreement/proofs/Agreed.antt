@@ -1,28 +1,20 @@
 -- A state in whole numbers agrees with a valuation, which is one but for absent tests, and whose symbolic instant gives it.
-use Rattle.std.proofs.Common.{◌≡◌, ℤ, pos, Bool, true, false, ◌&&◌, ◌||◌, List, [], refl, sym, ◌∙◌, ap, arith}
-use Rattle.std.proofs.Common.{Option, None as Nothing}
-use Rattle.std.specs.Prelude.{int_le, slice_index_or}
-use Rattle.std.specs.List.{Contains}
-use Rattle.rv_base.specs.declared.value.Value.{Value}
-use Rattle.rv_base.specs.declared.value.Value.TheVariants.{Flag, Whole}
+use Rattle.std.proofs.Common.{◌≡◌, ℤ, pos, Bool, true, false, ◌&&◌, ◌||◌, List, [], refl, sym, ◌∙◌, ap, arith, Option, None as Nothing}
+use Rattle.std.specs.{Prelude.int_le, Prelude.slice_index_or, List.Contains}
+use Rattle.rv_base.specs.{declared.value.Value.Value, declared.value.Value.TheVariants.Flag, declared.value.Value.TheVariants.Whole}
 use Rattle.rv_tree.specs.declared.tree.Op.{Op}
 use Rattle.rv_tree.specs.declared.tree.Op.TheVariants as op
 use Rattle.rv_types.specs.Lists.{Side}
 use Rattle.rv_meaning.specs.Meaning.{number}
 use Rattle.rv_rows.specs.Forms as forms
 use Rattle.rv_rows.specs.Arithmetic.{test_row}
-use Rattle.rv_agreement.specs.Trees.{System, memory_kinds, memory_places, kind_at}
-use Rattle.rv_agreement.specs.Evaluation.{integers, value}
 use Rattle.rv_agreement.specs.Valuations.{Valuation, Reading, Truth, Name, Linear, at_point, is_linear, form_of, width, reads_at, found_at, IsSymbolic}
 use Rattle.rv_agreement.specs.Valuations.{Comparison, all_comparisons, is_of_integers, read, tested, tested_form, Agrees, IsCoded}
 use Rattle.rv_agreement.specs.Agreement.{State, point, found_in, IsWholeInstant, IsNext, IsTyped, IsAgreed, IsWell, Gives, AreAlike}
-use Rattle.rv_agreement.proofs.LinearLemmas.{Laws, told, side_told}
-use Rattle.rv_agreement.proofs.Operators.{number_at}
-use Rattle.rv_agreement.proofs.OneRow.{one_row}
+use Rattle.rv_agreement.specs.{Trees.System, Trees.memory_kinds, Trees.memory_places, Trees.kind_at, Evaluation.integers, Evaluation.value}
 use Rattle.rv_agreement.proofs.Matching.{IsFound, IsTold, AreMatched, flow_same, there_same, assertion_same, memory_same, operands_same, clock_named}
-use Rattle.rv_agreement.proofs.Found.{is_found}
-use Rattle.rv_agreement.proofs.Spelled.{same_bits}
-use Rattle.rv_agreement.proofs.Chosen.{chosen, spells, is_coded, test_is}
+use Rattle.rv_agreement.proofs.{LinearLemmas.Laws, LinearLemmas.told, LinearLemmas.side_told, Operators.number_at, OneRow.one_row, Found.is_found}
+use Rattle.rv_agreement.proofs.{Spelled.same_bits, Chosen.chosen, Chosen.spells, Chosen.is_coded, Chosen.test_is}
 
 module _ (laws : Laws) (s : System) (v : Valuation) (now : State) (inputs : List Value) (row : List (Option Value)) (symbolic : List (Option Reading)) where
   -- the truth of a test of a comparison whose operands match, by its form

@@ -1,22 +1,15 @@
 -- A flat system that passes the tests and is inlined is well formed.
 use Rattle.std.proofs.Common.{◌≡◌, ℕ, zero, suc, ◌+◌, ◌<◌, Bool, true, false, not, ◌&&◌, cond, nat_eq, nat_lt, List, [], ◌∷◌, map, length, get_or, slice_get}
-use Rattle.std.proofs.Common.{refl, sym, ◌∙◌, ap, subst, arith, Option, Some, inl, inr}
-use Rattle.std.proofs.Common.{None as Nothing}
-use Rattle.std.specs.Prelude.{slice_index_or}
-use Rattle.std.specs.List.{Contains}
+use Rattle.std.proofs.Common.{refl, sym, ◌∙◌, ap, subst, arith, Option, Some, inl, inr, None as Nothing}
 use Rattle.std.proofs.lemmas.Bool.{and_parts, ltb-true, eqb-true, not-true, or_cases, or_parts}
-use Rattle.std.proofs.lemmas.List.{length-map}
-use Rattle.std.proofs.lemmas.Option.{get_or_from_slice_get, slice_get_within}
+use Rattle.std.proofs.{lemmas.List.length-map, lemmas.Option.get_or_from_slice_get, lemmas.Option.slice_get_within}
+use Rattle.std.specs.{Prelude.slice_index_or, List.Contains}
 use Rattle.rv_base.specs.declared.value.Value.{Value}
 use Rattle.rv_base.specs.declared.value.Value.TheVariants as value
-use Rattle.rv_tree.specs.declared.tree.Op.{Op}
+use Rattle.rv_tree.specs.{declared.tree.Op.Op, Places.Sites}
 use Rattle.rv_tree.specs.declared.tree.Op.TheVariants as op
-use Rattle.rv_tree.specs.Places.{Sites}
-use Rattle.rv_types.specs.declared.typed.Kind.{Kind}
+use Rattle.rv_types.specs.{declared.typed.Kind.Kind, Lists.sides_of, Types.same_kind, Variables.is_integer}
 use Rattle.rv_types.specs.declared.typed.Kind.TheVariants as kind
-use Rattle.rv_types.specs.Lists.{sides_of}
-use Rattle.rv_types.specs.Types.{same_kind}
-use Rattle.rv_types.specs.Variables.{is_integer}
 use Rattle.rv_agreement.specs.Trees.{FlatTree, Node, TreeForm, FlatTrees, Constant, Flow, Memory, Ticked, Input, Not, Binary, Scale, If, AtMostOne, When}
 use Rattle.rv_agreement.specs.Trees.{Current, None, More, Item, nth_item, Kept, System, memory_kinds, memory_places, kind_at}
 use Rattle.rv_agreement.specs.Valuations.{is_placed}
@@ -24,11 +17,8 @@ use Rattle.rv_agreement.specs.Agreement.{HasKind, IsRule, IsPlaced, IsNamed, Fit
 use Rattle.rv_agreement.specs.Checks.{same_sites, same_flow, same_clock, is_among, are_distinct, any_of, is_of, constant_fits, gives, operands, is_placed_for}
 use Rattle.rv_agreement.specs.Checks.{clock_fits, fits, form_fits, all_fit, IsShared, FormIsShared, AreShared, item_fits, flows_fit, memories_fit}
 use Rattle.rv_agreement.specs.Checks.{assertions_fit, clocks_fit, IsChecked, IsInlined}
-use Rattle.rv_agreement.proofs.Matching.{only_one}
-use Rattle.rv_agreement.proofs.Chosen.{sites_itself, flow_itself}
-use Rattle.rv_types.proofs.ConstantContents.{kind_same}
-use Rattle.rv_types.proofs.Members.{in_tail}
-use Rattle.rv_types.proofs.ChainLaws.{no_flag}
+use Rattle.rv_agreement.proofs.{Matching.only_one, Chosen.sites_itself, Chosen.flow_itself}
+use Rattle.rv_types.proofs.{ConstantContents.kind_same, Members.in_tail, ChainLaws.no_flag}
 
 clock_told : (k j : Option ℕ) → same_clock k j ≡ true → k ≡ j
 clock_told Nothing Nothing e = refl

@@ -1,25 +1,19 @@
 -- The valuation that a state and an instant in whole numbers choose.
 use Rattle.std.proofs.Common.{◌≡◌, ℕ, zero, suc, ◌<◌, Bool, true, false, ◌&&◌, cond, List, [], ◌∷◌, length, map, get_or, nat_eq, refl, sym, ◌∙◌, ap, subst}
-use Rattle.std.proofs.Common.{arith}
-use Rattle.std.proofs.Common.{Option, None as Nothing, Some}
-use Rattle.std.specs.Prelude.{slice_index_or}
-use Rattle.std.specs.List.{Contains}
-use Rattle.std.proofs.lemmas.Bool.{eqb-true, eq-eqb, and_parts}
-use Rattle.std.proofs.lemmas.List.{length-map, get_or-map, get_or_default}
-use Rattle.std.proofs.lemmas.List.Elements.{Contains-get_or}
-use Rattle.rv_base.specs.declared.value.Value.{Value}
-use Rattle.rv_base.specs.declared.value.Value.TheVariants.{Flag}
+use Rattle.std.proofs.Common.{arith, Option, None as Nothing, Some}
+use Rattle.std.proofs.{lemmas.Bool.eqb-true, lemmas.Bool.eq-eqb, lemmas.Bool.and_parts, lemmas.List.length-map, lemmas.List.get_or-map}
+use Rattle.std.proofs.{lemmas.List.get_or_default, lemmas.List.Elements.Contains-get_or}
+use Rattle.std.specs.{Prelude.slice_index_or, List.Contains}
+use Rattle.rv_base.specs.{declared.value.Value.Value, declared.value.Value.TheVariants.Flag}
 use Rattle.rv_tree.specs.declared.tree.Op.TheVariants as op
 use Rattle.rv_tree.specs.Places.{Sites}
 use Rattle.rv_types.specs.Lists.{Side}
 use Rattle.rv_meaning.specs.Meaning.{number}
 use Rattle.rv_agreement.specs.Trees.{FlatTree, Node, Constant, System, memory_kinds, memory_places, kind_at}
-use Rattle.rv_agreement.specs.Evaluation.{value, integers}
 use Rattle.rv_agreement.specs.Valuations.{Valuation, Comparison, all_comparisons, IsCoded, IsCodedAs}
 use Rattle.rv_agreement.specs.Agreement.{State, found_in, IsTyped, IsSpelled, Spells, IsWell}
-use Rattle.rv_agreement.specs.Checks.{same_sites, same_flow}
-use Rattle.rv_agreement.proofs.LinearLemmas.{told}
-use Rattle.rv_agreement.proofs.Spelled.{bits_of, is_spelled, is_coded_as}
+use Rattle.rv_agreement.specs.{Evaluation.value, Evaluation.integers, Checks.same_sites, Checks.same_flow}
+use Rattle.rv_agreement.proofs.{LinearLemmas.told, Spelled.bits_of, Spelled.is_spelled, Spelled.is_coded_as}
 use Rattle.rv_types.proofs.ChainLaws.{no_flag}
 
 pub sites_told : (p q : Sites) → same_sites p q ≡ true → p ≡ q

@@ -1,14 +1,11 @@
 -- Both systems are well formed, and the clock of the comparison tells them apart.
-use Rattle.std.proofs.Common.{ap, ◌≡◌, ℕ, zero, suc, ◌<◌, [], ◌∷◌, refl, sym, ◌∙◌, subst, arith, Some}
-use Rattle.std.specs.Prelude.{slice_index_or}
-use Rattle.std.proofs.Common.{None as Nothing}
-use Rattle.std.specs.List.{Contains}
+use Rattle.std.proofs.Common.{ap, ◌≡◌, ℕ, zero, suc, ◌<◌, [], ◌∷◌, refl, sym, ◌∙◌, subst, arith, Some, None as Nothing}
+use Rattle.std.specs.{Prelude.slice_index_or, List.Contains}
 use Rattle.rv_tree.specs.declared.tree.Op.TheVariants as op
 use Rattle.rv_types.specs.declared.typed.Kind.TheVariants as kind
 use Rattle.rv_agreement.specs.Trees.{FlatTree, Node, Binary, When, nth_item, kind_at}
-use Rattle.rv_agreement.specs.Valuations.{Comparison, all_comparisons}
-use Rattle.rv_agreement.specs.Agreement.{Fits, ItemFits, IsNamed, IsWell}
-use Rattle.rv_agreement.specs.Examples.{flow, system_of, compared_then_sampled, sampled_then_compared}
+use Rattle.rv_agreement.specs.{Valuations.Comparison, Valuations.all_comparisons, Agreement.Fits, Agreement.ItemFits, Agreement.IsNamed, Agreement.IsWell}
+use Rattle.rv_agreement.specs.{Examples.flow, Examples.system_of, Examples.compared_then_sampled, Examples.sampled_then_compared}
 use Rattle.rv_agreement.proofs.Matching.{only_one}
 
 flow_fits : (body : FlatTree) → Fits (system_of body) 3 (Some 2) kind.Bool body → (k : ℕ) → k < 4

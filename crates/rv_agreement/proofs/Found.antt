@@ -1,21 +1,18 @@
 -- What an instant finds is what a valuation spells and what the columns have at the point.
 use Rattle.std.proofs.Common.{◌≡◌, ℕ, zero, suc, ◌+◌, ◌<◌, ℤ, pos, Bool, true, false, cond, List, [], ◌∷◌, length, get_or, refl, sym, ◌∙◌, ap, subst, arith}
-use Rattle.std.specs.Prelude.{slice_index_or}
 use Rattle.std.proofs.lemmas.List.{length-map, get_or_append_left, get_or-append-add}
+use Rattle.std.specs.Prelude.{slice_index_or}
 use Rattle.rv_base.specs.declared.value.Value.{Value}
 use Rattle.rv_base.specs.declared.value.Value.TheVariants.{Flag, Label, Whole}
-use Rattle.rv_types.specs.declared.typed.Kind.{Kind}
+use Rattle.rv_types.specs.{declared.typed.Kind.Kind, Variables.is_integer}
 use Rattle.rv_types.specs.declared.typed.Kind.TheVariants as kind
-use Rattle.rv_types.specs.Variables.{is_integer}
 use Rattle.rv_meaning.specs.Meaning.{number}
-use Rattle.rv_rows.specs.declared.linear.Form.{Form}
+use Rattle.rv_rows.specs.{declared.linear.Form.Form, Arithmetic.column_form}
 use Rattle.rv_rows.specs.Forms as forms
-use Rattle.rv_rows.specs.Arithmetic.{column_form}
 use Rattle.rv_agreement.specs.Trees.{System, memory_kinds, memory_places, kind_at}
 use Rattle.rv_agreement.specs.Valuations.{Valuation, at_point, whole_count, rank, width, wholes, spelled}
 use Rattle.rv_agreement.specs.Agreement.{State, point, HasKind, IsTyped, IsSpelled, Spells}
-use Rattle.rv_agreement.proofs.LinearLemmas.{Laws}
-use Rattle.rv_agreement.proofs.Matching.{IsFound}
+use Rattle.rv_agreement.proofs.{LinearLemmas.Laws, Matching.IsFound}
 
 one_whole : (b : Bool) (z : ℤ) (zs : List ℤ) (n : ℕ) → length zs ≡ n → length (cond b (z ∷ zs) zs) ≡ cond b 1 0 + n
 one_whole true z zs n e = omega (arith, e)

@@ -1,19 +1,14 @@
 -- Places by their numbers, and what is found at them.
 use Rattle.std.proofs.Common.{◌≡◌, ◌⊎◌, inl, inr, suc, ◌+◌, ◌<◌, ◌≤◌, Bool, true, false, cond, List, [], ◌∷◌, map, length, get_or, refl, sym, ◌∙◌, ap, subst}
-use Rattle.std.proofs.Common.{arith, Option}
-use Rattle.std.proofs.Common.{None as Nothing}
+use Rattle.std.proofs.Common.{arith, Option, None as Nothing}
 use Rattle.std.proofs.lemmas.List.{length-map, get_or-map, get_or_past}
-use Rattle.std.proofs.lemmas.Bool.{cases_lt}
-use Rattle.std.proofs.lemmas.Cmp.{nat_list_cmp_total, tied_itself}
-use Rattle.std.specs.Ordering.{is_eq, nat_cmp}
-use Rattle.std.specs.Cmp.Lexicographic.{slice_cmp, texts_ties}
-use Rattle.std.specs.List.{Contains}
-use Rattle.std.specs.FinMap.{slice_cmp-IsAntisymmetric, nat_cmp-IsAntisymmetric}
+use Rattle.std.proofs.{lemmas.Bool.cases_lt, lemmas.Cmp.nat_list_cmp_total, lemmas.Cmp.tied_itself}
+use Rattle.std.specs.{Ordering.is_eq, Ordering.nat_cmp, Cmp.Lexicographic.slice_cmp, Cmp.Lexicographic.texts_ties, List.Contains}
+use Rattle.std.specs.{FinMap.slice_cmp-IsAntisymmetric, FinMap.nat_cmp-IsAntisymmetric}
 use Rattle.rv_tree.specs.Places.{Sites, is_same, index_of}
 use Rattle.rv_agreement.specs.Translation.{AreIndexed}
 use Rattle.rv_meaning.proofs.Rows.{only_equal}
-use Rattle.rv_types.proofs.Members.{cons_cases, nothing_in}
-use Rattle.rv_types.proofs.ChainLaws.{no_flag}
+use Rattle.rv_types.proofs.{Members.cons_cases, Members.nothing_in, ChainLaws.no_flag}
 
 -- places with the same numbers are equal
 same_sites : (p q : Sites) → is_same p q ≡ true → p ≡ q

@@ -1,16 +1,10 @@
 -- What is inductive over valuations holds along each run, so the observer is true while the assertions hold.
 use Rattle.std.proofs.Common.{◌≡◌, ℕ, zero, suc, ◌<◌, ◌≤◌, ℤ, Bool, true, List, sym, ◌∙◌, ap, arith, Option, Some}
-use Rattle.rv_base.specs.declared.value.Value.{Value}
-use Rattle.rv_base.specs.declared.value.Value.TheVariants.{Flag}
-use Rattle.rv_agreement.specs.Trees.{System, memory_kinds}
-use Rattle.rv_agreement.specs.Evaluation.{nth, integers}
-use Rattle.rv_agreement.specs.Valuations.{Valuation, Reading, IsCoded, wholes}
+use Rattle.rv_base.specs.{declared.value.Value.Value, declared.value.Value.TheVariants.Flag}
 use Rattle.rv_agreement.specs.Agreement.{State, point, IsAgreed, IsWell, value_there}
-use Rattle.rv_agreement.specs.FlatRuns.{IsFlatRun, AreMetIn, IsInductive}
-use Rattle.rv_agreement.proofs.LinearLemmas.{Laws}
-use Rattle.rv_agreement.proofs.Found.{length-wholes}
-use Rattle.rv_agreement.proofs.Agreed.{some_agreed, gives}
-use Rattle.rv_agreement.proofs.Stepped.{updates_are, leads_to}
+use Rattle.rv_agreement.specs.{Trees.System, Trees.memory_kinds, Evaluation.nth, Evaluation.integers, Valuations.Valuation, Valuations.Reading}
+use Rattle.rv_agreement.specs.{Valuations.IsCoded, Valuations.wholes, FlatRuns.IsFlatRun, FlatRuns.AreMetIn, FlatRuns.IsInductive}
+use Rattle.rv_agreement.proofs.{LinearLemmas.Laws, Found.length-wholes, Agreed.some_agreed, Agreed.gives, Stepped.updates_are, Stepped.leads_to}
 
 module _ (laws : Laws) (s : System) (well : IsWell s) (holds : Valuation → List ℤ → Bool) (inductive : IsInductive s holds) (n : ℕ) (states : ℕ → State)
     (inputs : ℕ → List Value) (rows : ℕ → List (Option Value))

@@ -1,24 +1,21 @@
 -- At a coded valuation each flow that is present reads as its type, and so does each memory after the instant.
 use Rattle.std.proofs.Common.{◌≡◌, ℕ, zero, suc, ◌<◌, ◌≤◌, Bool, true, false, cond, List, [], length, refl, sym, ◌∙◌, ap, subst, arith, Option, Some, inl, inr}
 use Rattle.std.proofs.Common.{None as Nothing}
-use Rattle.std.specs.Prelude.{slice_index_or}
 use Rattle.std.proofs.Math.Nat.{eq-or-lt_of_le}
+use Rattle.std.specs.Prelude.{slice_index_or}
 use Rattle.rv_base.specs.declared.value.Value.{Value}
 use Rattle.rv_base.specs.declared.value.Value.TheVariants as value
-use Rattle.rv_tree.specs.declared.tree.Op.{Op}
+use Rattle.rv_tree.specs.{declared.tree.Op.Op, Places.Sites}
 use Rattle.rv_tree.specs.declared.tree.Op.TheVariants as op
-use Rattle.rv_tree.specs.Places.{Sites}
-use Rattle.rv_types.specs.declared.typed.Kind.{Kind}
+use Rattle.rv_types.specs.{declared.typed.Kind.Kind, Lists.Side}
 use Rattle.rv_types.specs.declared.typed.Kind.TheVariants as kind
-use Rattle.rv_types.specs.Lists.{Side}
 use Rattle.rv_rows.specs.declared.linear.Form.{Form}
 use Rattle.rv_agreement.specs.Trees.{FlatTree, Node, TreeForm, Constant, Flow, Memory, Ticked, Input, Not, Binary, Scale, If, AtMostOne, When, Current}
 use Rattle.rv_agreement.specs.Trees.{nth_item, System, memory_items, memory_kinds, memory_places, kind_at}
-use Rattle.rv_agreement.specs.Evaluation.{nth, is_on, held, is_there, form_value}
 use Rattle.rv_agreement.specs.Valuations.{Valuation, Reading, Truth, Linear, constant_reading, operated, spelled, width, reads_at, found_at, holds_true}
 use Rattle.rv_agreement.specs.Valuations.{IsSymbolic, IsCoded, IsCodedAs, read, updated}
-use Rattle.rv_agreement.specs.Agreement.{HasKind, IsRule, Fits, FormFits, IsWell}
-use Rattle.rv_agreement.specs.Kinding.{ReadsAs}
+use Rattle.rv_agreement.specs.{Evaluation.nth, Evaluation.is_on, Evaluation.held, Evaluation.is_there, Evaluation.form_value, Agreement.HasKind}
+use Rattle.rv_agreement.specs.{Agreement.IsRule, Agreement.Fits, Agreement.FormFits, Agreement.IsWell, Kinding.ReadsAs}
 use Rattle.rv_agreement.proofs.Matching.{there_of_on}
 
 module _ (labels : List ℕ) where

@@ -1,13 +1,10 @@
 -- What the laws of rows and forms say, and what the forms of tests have at a point.
 use Rattle.std.proofs.Common.{◌≡◌, ◌↔◌, ℕ, ◌<◌, ℤ, pos, negsuc, ◌+ℤ◌, ◌-ℤ◌, ◌*ℤ◌, Bool, List, arith}
-use Rattle.std.specs.Prelude.{int_le}
 use Rattle.std.proofs.lemmas.Int.{ints}
-use Rattle.rv_rows.specs.declared.linear.Row.{Row}
-use Rattle.rv_rows.specs.declared.linear.Form.{Form}
-use Rattle.rv_rows.specs.Rows.{Holds}
-use Rattle.rv_rows.specs.Forms as forms
-use Rattle.rv_rows.specs.Tight.{IsTightened}
+use Rattle.std.specs.Prelude.{int_le}
 use Rattle.rv_rows.specs.Arithmetic.{constant_form, column_form, form_sum, form_times, form_difference, test_row}
+use Rattle.rv_rows.specs.{declared.linear.Row.Row, declared.linear.Form.Form, Rows.Holds, Tight.IsTightened}
+use Rattle.rv_rows.specs.Forms as forms
 use Rattle.rv_types.specs.Lists.{Side, AtMost, AtLeast}
 use Rattle.rv_agreement.specs.Valuations.{side_form}
 use Rattle.rv_rows.proofs.FormValues.{less_times}

@@ -1,22 +1,14 @@
 -- Where a valuation spells what an instant finds, and its present tests tell the truth, the symbolic instant gives at the point
 -- what the instant in whole numbers gives.
-use Rattle.std.proofs.Common.{◌≡◌, ℕ, zero, suc, ◌+◌, ◌<◌, ◌≤◌, ℤ, ◌*ℤ◌, Bool, true, false, not, cond, List, [], ◌∷◌, ◌++◌, length, get_or, refl, sym}
-use Rattle.std.proofs.Common.{◌∙◌, ap, subst, arith, inl, inr}
-use Rattle.std.proofs.Common.{Option, None as Nothing, Some}
-use Rattle.std.specs.Prelude.{nat_le, nat_eq}
-use Rattle.std.specs.List.{Contains}
-use Rattle.std.proofs.Math.Nat.{eq-or-lt_of_le}
-use Rattle.std.proofs.lemmas.Bool.{ne_eqb}
-use Rattle.std.proofs.lemmas.List.{length-map, get_or_default}
+use Rattle.std.proofs.Common.{◌≡◌, ℕ, zero, suc, ◌+◌, ◌<◌, ◌≤◌, ℤ, ◌*ℤ◌, Bool, true, false, not, cond, List, [], ◌∷◌, ◌++◌, length, get_or, refl, sym, ◌∙◌, ap}
+use Rattle.std.proofs.Common.{subst, arith, inl, inr, Option, None as Nothing, Some}
 use Rattle.std.proofs.lemmas.List.Elements.{Contains-append_left, Contains-append_right, Contains-append_cases, Contains-get_or}
-use Rattle.rv_base.specs.declared.value.Value.{Value}
-use Rattle.rv_base.specs.declared.value.Value.TheVariants.{Flag, Whole}
-use Rattle.rv_tree.specs.declared.tree.Op.{Op}
-use Rattle.rv_tree.specs.Places.{Sites}
-use Rattle.rv_types.specs.declared.typed.Kind.{Kind}
+use Rattle.std.proofs.{Math.Nat.eq-or-lt_of_le, lemmas.Bool.ne_eqb, lemmas.List.length-map, lemmas.List.get_or_default}
+use Rattle.std.specs.{Prelude.nat_le, Prelude.nat_eq, List.Contains}
+use Rattle.rv_base.specs.{declared.value.Value.Value, declared.value.Value.TheVariants.Flag, declared.value.Value.TheVariants.Whole}
+use Rattle.rv_tree.specs.{declared.tree.Op.Op, Places.Sites}
+use Rattle.rv_types.specs.{declared.typed.Kind.Kind, Variables.is_integer, Lists.Side, Lists.sides_of}
 use Rattle.rv_types.specs.declared.typed.Kind.TheVariants as kind
-use Rattle.rv_types.specs.Variables.{is_integer}
-use Rattle.rv_types.specs.Lists.{Side, sides_of}
 use Rattle.rv_meaning.specs.Meaning.{is_true, number, operate}
 use Rattle.rv_agreement.specs.Trees.{FlatTree, Node, TreeForm, FlatTrees, Constant, Flow, Memory, Ticked, Input, Not, Binary, Scale, If, AtMostOne, When}
 use Rattle.rv_agreement.specs.Trees.{Current, None, More, Item, nth_item, no_item, System, memory_items, memory_kinds, kind_at}
@@ -25,9 +17,8 @@ use Rattle.rv_agreement.specs.Valuations.{Valuation, Reading, at_point, holds_tr
 use Rattle.rv_agreement.specs.Valuations.{comparisons, form_comparisons, comparisons_of, item_comparisons, all_items, all_comparisons, is_of_integers}
 use Rattle.rv_agreement.specs.Valuations.{is_linear, read}
 use Rattle.rv_agreement.specs.Agreement.{State, found_in, IsWholeInstant, value_there, IsRule, IsPlaced, IsNamed, Fits, FormFits, AllFit, ItemFits, IsWell}
-use Rattle.rv_agreement.proofs.LinearLemmas.{Laws, told}
 use Rattle.rv_agreement.proofs.Operators.{truth_at, constant_at, scaled_at, operated_at}
-use Rattle.rv_agreement.proofs.Controls.{of_integers, never_linear}
+use Rattle.rv_agreement.proofs.{LinearLemmas.Laws, LinearLemmas.told, Controls.of_integers, Controls.never_linear}
 use Rattle.rv_types.proofs.Members.{cons_cases, in_flat_map, nothing_in, of_flat_map}
 
 -- Lists.

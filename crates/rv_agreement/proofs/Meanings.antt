@@ -1,26 +1,18 @@
 -- Over the integers the one text of instants is the meaning of expressions at an instant.
-use Rattle.std.proofs.Common.{◌≡◌, ℕ, ◌+◌, ℤ, negsuc, ◌*ℤ◌, Bool, true, false, not, cond, refl, sym, ◌∙◌, ap, unwrap_or, Option, Some}
-use Rattle.std.proofs.Common.{None as Nothing}
-use Rattle.std.specs.Prelude.{nat_le}
+use Rattle.std.proofs.Common.{◌≡◌, ℕ, ◌+◌, ℤ, negsuc, ◌*ℤ◌, Bool, true, false, not, cond, refl, sym, ◌∙◌, ap, unwrap_or, Option, Some, None as Nothing}
 use Rattle.std.proofs.Math.IntN.{*ℤ_comm}
-use Rattle.rv_base.specs.declared.value.Value.{Value}
-use Rattle.rv_base.specs.declared.value.Value.TheVariants.{Flag, Whole}
-use Rattle.rv_tree.specs.declared.tree.Op.{Op}
+use Rattle.std.specs.Prelude.{nat_le}
+use Rattle.rv_base.specs.{declared.value.Value.Value, declared.value.Value.TheVariants.Flag, declared.value.Value.TheVariants.Whole}
+use Rattle.rv_tree.specs.{declared.tree.Op.Op, Tree.Tree, Tree.Form, Tree.Trees, Tree.ProgramTree, Places.Identifier, Places.Sites, Places.is_flow}
 use Rattle.rv_tree.specs.declared.tree.Op.TheVariants as op
 use Rattle.rv_tree.specs.Tree as tree
-use Rattle.rv_tree.specs.Tree.{Tree, Form, Trees, ProgramTree}
-use Rattle.rv_tree.specs.Places.{Identifier, Sites, is_flow}
-use Rattle.rv_types.specs.declared.typed.Clock.TheVariants.{Base}
-use Rattle.rv_types.specs.Types.{is_constant}
-use Rattle.rv_types.specs.Scopes.{node_scope, constant_value}
 use Rattle.rv_types.specs.Instances.{Instance, place, clock_in, output_place}
+use Rattle.rv_types.specs.{declared.typed.Clock.TheVariants.Base, Types.is_constant, Scopes.node_scope, Scopes.constant_value}
 use Rattle.rv_meaning.specs.Meaning.{held, is_on, is_true, number, operate, kept_place}
-use Rattle.rv_meaning.specs.Runs.{Instant, cell}
-use Rattle.rv_meaning.specs.Instants.{State, is_on_in, now, form_now, trues_now}
-use Rattle.rv_agreement.specs.Evaluation.{integers}
+use Rattle.rv_meaning.specs.{Runs.Instant, Runs.cell, Instants.State, Instants.is_on_in, Instants.now, Instants.form_now, Instants.trues_now}
+use Rattle.rv_agreement.specs.{Evaluation.integers, Programs.found_of, Programs.coefficient, Programs.operation, Programs.is_there, Programs.meant}
+use Rattle.rv_agreement.specs.{Programs.form_meant, Programs.trues_meant, Programs.HasProducts, Programs.FormHasProducts, Programs.AllHaveProducts}
 use Rattle.rv_agreement.specs.Evaluation as by
-use Rattle.rv_agreement.specs.Programs.{found_of, coefficient, operation, is_there, meant, form_meant, trues_meant, HasProducts, FormHasProducts}
-use Rattle.rv_agreement.specs.Programs.{AllHaveProducts}
 use Rattle.rv_rows.proofs.FormValues.{less_times}
 
 pub held_same : (o : Option Value) → by.held Value integers o ≡ held o

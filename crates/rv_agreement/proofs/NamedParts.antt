@@ -1,10 +1,8 @@
 -- What is asked of the names of an expression holds of the operands of its comparisons, and what follows from it holds too.
-use Rattle.std.proofs.Common.{inl, inr, ℕ, ◌++◌, subst, Option}
+use Rattle.std.proofs.{Common.inl, Common.inr, Common.ℕ, Common.◌++◌, Common.subst, Common.Option, lemmas.List.Elements.Contains-append_cases}
 use Rattle.std.specs.List.{Contains}
-use Rattle.std.proofs.lemmas.List.Elements.{Contains-append_cases}
 use Rattle.rv_tree.specs.Tree as tree
-use Rattle.rv_tree.specs.Tree.{Tree, Form, Trees, ProgramTree}
-use Rattle.rv_tree.specs.Places.{Identifier, Sites}
+use Rattle.rv_tree.specs.{Tree.Tree, Tree.Form, Tree.Trees, Tree.ProgramTree, Places.Identifier, Places.Sites}
 use Rattle.rv_types.specs.Instances.{Instance, absolute, clock_of}
 use Rattle.rv_agreement.specs.Programs.{Compared, compared, form_compared, compared_all}
 use Rattle.rv_agreement.specs.Translation.{Names, FormNames, AllNames}

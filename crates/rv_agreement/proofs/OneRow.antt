@@ -1,10 +1,8 @@
 -- A flat system has exactly one row for what an instant finds, whatever its expressions are read as.
 use Rattle.std.proofs.Common.{◌≡◌, ℕ, zero, suc, ◌+◌, ◌<◌, ◌≤◌, not, cond, List, [], ◌∷◌, ◌++◌, length, refl, sym, ◌∙◌, subst, ap, arith, length-append, inl}
-use Rattle.std.proofs.Common.{inr}
-use Rattle.std.proofs.Common.{Option, None as Nothing, Some}
+use Rattle.std.proofs.Common.{inr, Option, None as Nothing, Some}
+use Rattle.std.proofs.{lemmas.List.get_or_append_left, lemmas.List.get_or_push, lemmas.List.ext_get_or, Math.Nat.eq-or-lt_of_le}
 use Rattle.std.specs.Prelude.{nat_le}
-use Rattle.std.proofs.lemmas.List.{get_or_append_left, get_or_push, ext_get_or}
-use Rattle.std.proofs.Math.Nat.{eq-or-lt_of_le}
 use Rattle.rv_tree.specs.Places.{Sites}
 use Rattle.rv_types.specs.declared.typed.Kind.{Kind}
 use Rattle.rv_types.specs.declared.typed.Kind.TheVariants as kind

@@ -1,20 +1,16 @@
 -- Operators over readings give, at a point, what operators over integers give there, where tests tell the truth.
 use Rattle.std.proofs.Common.{◌≡◌, ℕ, ℤ, pos, ◌+ℤ◌, ◌-ℤ◌, ◌*ℤ◌, Bool, true, false, not, ◌&&◌, ◌||◌, cond, List, [], ◌∷◌, refl, sym, ◌∙◌, ap, arith}
-use Rattle.std.specs.Prelude.{int_le, int_lt}
-use Rattle.std.specs.Ordering.{int_eq}
-use Rattle.std.specs.List.{Contains}
 use Rattle.std.proofs.lemmas.Int.{ints}
+use Rattle.std.specs.{Prelude.int_le, Prelude.int_lt, Ordering.int_eq, List.Contains}
 use Rattle.rv_base.specs.declared.value.Value.{Value}
 use Rattle.rv_base.specs.declared.value.Value.TheVariants.{Flag, Label, Whole}
-use Rattle.rv_tree.specs.declared.tree.Op.{Op}
+use Rattle.rv_tree.specs.{declared.tree.Op.Op, Places.Sites}
 use Rattle.rv_tree.specs.declared.tree.Op.TheVariants as op
-use Rattle.rv_tree.specs.Places.{Sites}
-use Rattle.rv_types.specs.Lists.{Side, AtMost, AtLeast, sides_of}
+use Rattle.rv_types.specs.{Lists.Side, Lists.AtMost, Lists.AtLeast, Lists.sides_of, declared.typed.Kind.Kind}
 use Rattle.rv_meaning.specs.Meaning.{is_true, number, is_equal, operate}
 use Rattle.rv_rows.specs.Forms as forms
 use Rattle.rv_rows.specs.Arithmetic.{form_times}
 use Rattle.rv_agreement.specs.Valuations.{Reading, Truth, Name, Linear, at_point, holds_true, form_of, is_same, operated, constant_reading, is_of_integers}
-use Rattle.rv_types.specs.declared.typed.Kind.{Kind}
 use Rattle.rv_agreement.specs.Agreement.{IsRule}
 use Rattle.rv_agreement.proofs.LinearLemmas.{Laws, told, difference_value}
 use Rattle.rv_types.proofs.Members.{at_head}

@@ -1,43 +1,25 @@
 -- What holds of the instants of a flat system holds of those of the program that it is read from, by places.
 use Rattle.std.proofs.Common.{◌≡◌, zero, ◌↔◌, ◌⊎◌, inl, inr, ℕ, suc, ◌+◌, ◌<◌, ℤ, Bool, true, false, ◌||◌, cond, List, [], ◌∷◌, ◌++◌, map, length, get_or, refl}
-use Rattle.std.proofs.Common.{sym, ◌∙◌, ap, subst, arith, Option, Some, IsSome}
-use Rattle.std.proofs.Common.{None as Nothing}
-use Rattle.std.specs.Prelude.{slice_index_or}
+use Rattle.std.proofs.Common.{sym, ◌∙◌, ap, subst, arith, Option, Some, IsSome, None as Nothing}
+use Rattle.std.proofs.{lemmas.List.length-map, lemmas.List.get_or-map, lemmas.List.get_or_past, lemmas.Bool.cases_lt, lemmas.Option.slice_get-get_or}
+use Rattle.std.specs.{Prelude.slice_index_or, List.Contains}
 use Rattle.std.specs.FinMap as finite
-use Rattle.std.specs.List.{Contains}
-use Rattle.std.proofs.lemmas.List.{length-map, get_or-map, get_or_past}
-use Rattle.std.proofs.lemmas.Bool.{cases_lt}
-use Rattle.std.proofs.lemmas.Option.{slice_get-get_or}
 use Rattle.rv_base.specs.declared.value.Value.{Value}
 use Rattle.rv_base.specs.declared.value.Value.TheVariants.{Flag, Label, Whole}
-use Rattle.rv_tree.specs.Tree.{Tree, AssertionTree, ProgramTree}
-use Rattle.rv_tree.specs.Places.{Identifier, Sites, index_of}
-use Rattle.rv_tree.specs.Delays.{Delay}
-use Rattle.rv_types.specs.declared.typed.Kind.{Kind}
-use Rattle.rv_types.specs.declared.typed.Kind.TheVariants as kind
-use Rattle.rv_types.specs.declared.typed.Clock.{Clock}
-use Rattle.rv_types.specs.declared.typed.Clock.TheVariants.{Base}
-use Rattle.rv_types.specs.Values.{operand_kind}
-use Rattle.rv_types.specs.Kinds.{kind_in_program}
-use Rattle.rv_types.specs.Variables.{is_integer}
-use Rattle.rv_types.specs.Lists.{MemoryAt, delay_place}
+use Rattle.rv_tree.specs.{Tree.Tree, Tree.AssertionTree, Tree.ProgramTree, Places.Identifier, Places.Sites, Places.index_of, Delays.Delay}
 use Rattle.rv_types.specs.Instances.{Body, Output, Right, Instance, main_instance, absolute, clock_in, clock_of, clock_of_arguments, output_place, node_of}
 use Rattle.rv_types.specs.Instances.{IsInstance, IsFlow}
 use Rattle.rv_types.specs.Needs.{Of, Gives, given, by_equation, by_call}
-use Rattle.rv_meaning.specs.Meaning.{is_true, number}
-use Rattle.rv_meaning.specs.Runs.{Instant, cell, flat, observer_place, AreStarts}
+use Rattle.rv_types.specs.{declared.typed.Kind.Kind, declared.typed.Clock.Clock, declared.typed.Clock.TheVariants.Base, Values.operand_kind}
+use Rattle.rv_types.specs.{Kinds.kind_in_program, Variables.is_integer, Lists.MemoryAt, Lists.delay_place}
+use Rattle.rv_types.specs.declared.typed.Kind.TheVariants as kind
 use Rattle.rv_meaning.specs.Instants.{State, IsInstant, IsNext, AreGiven, is_on_in, now, value_now, right_now}
-use Rattle.rv_meaning.specs.Givers.{AreDefined}
-use Rattle.rv_rows.specs.declared.linear.Form.{Form}
+use Rattle.rv_meaning.specs.{Meaning.is_true, Meaning.number, Runs.Instant, Runs.cell, Runs.flat, Runs.observer_place, Runs.AreStarts, Givers.AreDefined}
+use Rattle.rv_rows.specs.{declared.linear.Form.Form, Arithmetic.column_form}
 use Rattle.rv_rows.specs.Forms as forms
-use Rattle.rv_rows.specs.Arithmetic.{column_form}
-use Rattle.rv_agreement.specs.Trees.{System, nth_item, memory_items, memory_kinds, memory_places, kind_at}
-use Rattle.rv_agreement.specs.Evaluation.{integers}
-use Rattle.rv_agreement.specs.Evaluation as by
 use Rattle.rv_agreement.specs.Valuations.{Valuation, Reading, at_point, holds_true, form_of, rank, whole_count, readings, spelled, width, reads_at, found_at}
 use Rattle.rv_agreement.specs.Valuations.{IsSymbolic, Comparison, all_comparisons, IsPresent, IsRowOf, read, tested, Agrees, updated, next_tick, IsCoded}
 use Rattle.rv_agreement.specs.Valuations.{IsCodedAs, IsAllowed}
-use Rattle.rv_agreement.specs.Agreement as flats
 use Rattle.rv_agreement.specs.Agreement.{point, IsSpelledAs, Leads, found_in, IsWholeInstant, IsTyped, IsSpelled, Spells, IsAgreed, value_there}
 use Rattle.rv_agreement.specs.Programs.{FoundAt, is_there, meant, given_by, IsInstantOf, Compared, IsComparison, in_flow, in_memory, in_assertion, label_counts}
 use Rattle.rv_agreement.specs.Programs.{kinds_of, input_kinds, columns_of, found_by, IsSymbolicOf, tested_in, AgreesWith, found_of, HasProducts}
@@ -45,21 +27,17 @@ use Rattle.rv_agreement.specs.Translation.{Numbers, Names, AreNamed, clock_numbe
 use Rattle.rv_agreement.specs.ProgramAgreement.{integers_of, IsDelay, point_of, IsCodedOf, SpellsOf, IsSymbolicAt, IsAgreedOf, is_there_at, meant_at, is_met_at}
 use Rattle.rv_agreement.specs.ProgramAgreement.{IsAllowedOf, next_tick_at, updated_at, AreUpdated, updates_of, LeadsTo, GivesOf, AreAlikeOf, HaveProducts}
 use Rattle.rv_agreement.specs.ProgramAgreement.{IsSystemOf, memories_of}
-use Rattle.rv_agreement.proofs.LinearLemmas.{Laws}
-use Rattle.rv_agreement.proofs.Operators.{truth_at, number_at}
-use Rattle.rv_agreement.proofs.OneRow.{one_row}
+use Rattle.rv_agreement.specs.{Trees.System, Trees.nth_item, Trees.memory_items, Trees.memory_kinds, Trees.memory_places, Trees.kind_at, Evaluation.integers}
+use Rattle.rv_agreement.specs.Evaluation as by
+use Rattle.rv_agreement.specs.Agreement as flats
 use Rattle.rv_agreement.proofs.Matching.{IsFound, IsTold, read_in, flow_same, assertion_same, memory_same}
-use Rattle.rv_agreement.proofs.Found.{is_found}
-use Rattle.rv_agreement.proofs.Agreed.{tell_agreed, some_agreed, alike}
-use Rattle.rv_agreement.proofs.Spelled.{same_bits}
-use Rattle.rv_agreement.proofs.Stepped.{spelled_as}
-use Rattle.rv_agreement.proofs.Translated.{on_clock, value_read}
 use Rattle.rv_agreement.proofs.Systems.{forward, backward, comparison_there, comparison_from}
 use Rattle.rv_agreement.proofs.Meanings.{held_same, on_same, meant_same, there_same}
-use Rattle.rv_agreement.proofs.Indexed.{index_is, indexed, row_agrees}
-use Rattle.rv_agreement.proofs.NamedParts.{names_more, operands_named, AreNamedIn}
 use Rattle.rv_agreement.proofs.Witnessed.{numbered, length-numbered, numbered_at, wholes_are, has_kind, kinds_same, places_same, width_same, memory_of}
 use Rattle.rv_agreement.proofs.Witnessed.{number_of, own_number, place_numbered, clock_of_tick, tick_at, tick_numbered, is_tick}
+use Rattle.rv_agreement.proofs.{LinearLemmas.Laws, Operators.truth_at, Operators.number_at, OneRow.one_row, Found.is_found, Agreed.tell_agreed}
+use Rattle.rv_agreement.proofs.{Agreed.some_agreed, Agreed.alike, Spelled.same_bits, Stepped.spelled_as, Translated.on_clock, Translated.value_read}
+use Rattle.rv_agreement.proofs.{Indexed.index_is, Indexed.indexed, Indexed.row_agrees, NamedParts.names_more, NamedParts.operands_named, NamedParts.AreNamedIn}
 
 -- a row has nothing at a place that it does not have
 no_cell : (row : Instant) (q : Sites) → (IsSome (finite.get row q) → ⊥) → cell row q ≡ Nothing

@@ -1,46 +1,31 @@
 -- The instants of a run of a program, and what is inductive over the valuations of its flat system.
 use Rattle.std.proofs.Common.{◌≡◌, ◌↔◌, ℕ, zero, suc, ◌+◌, ◌<◌, ◌≤◌, ℤ, Bool, true, false, ◌||◌, cond, List, [], map, length, sym, ◌∙◌, ap, subst, arith}
-use Rattle.std.proofs.Common.{Option, Some}
-use Rattle.std.proofs.Common.{None as Nothing}
-use Rattle.std.specs.Prelude.{slice_index_or}
-use Rattle.std.specs.FinMap.{empty}
+use Rattle.std.proofs.Common.{Option, Some, None as Nothing}
 use Rattle.std.proofs.lemmas.Option.{slice_get-get_or}
-use Rattle.rv_base.specs.declared.value.Value.{Value}
-use Rattle.rv_base.specs.declared.value.Value.TheVariants.{Flag}
-use Rattle.rv_tree.specs.Tree.{ProgramTree}
-use Rattle.rv_tree.specs.Places.{Identifier, Sites}
-use Rattle.rv_types.specs.declared.typed.Kind.{Kind}
+use Rattle.std.specs.{Prelude.slice_index_or, FinMap.empty}
+use Rattle.rv_base.specs.{declared.value.Value.Value, declared.value.Value.TheVariants.Flag}
+use Rattle.rv_tree.specs.{Tree.ProgramTree, Places.Identifier, Places.Sites}
+use Rattle.rv_types.specs.{declared.typed.Kind.Kind, declared.typed.Clock.TheVariants.Base, Values.operand_kind, Lists.delay_place, Instances.Instance}
+use Rattle.rv_types.specs.{Instances.main_instance, Instances.clock_in, Instances.IsNode, Needs.IsSequence, WellFormed.AreWell}
 use Rattle.rv_types.specs.declared.typed.Kind.TheVariants as kind
-use Rattle.rv_types.specs.declared.typed.Clock.TheVariants.{Base}
-use Rattle.rv_types.specs.Values.{operand_kind}
 use Rattle.rv_types.specs.Values as types
-use Rattle.rv_types.specs.Lists.{delay_place}
-use Rattle.rv_types.specs.Instances.{Instance, main_instance, clock_in, IsNode}
-use Rattle.rv_types.specs.Needs.{IsSequence}
-use Rattle.rv_types.specs.WellFormed.{AreWell}
-use Rattle.rv_meaning.specs.Meaning.{is_true}
 use Rattle.rv_meaning.specs.Runs.{History, Instant, cell, cells, AssertionsHold, AreStarts, IsRun, IsAllowed, observer_place}
 use Rattle.rv_meaning.specs.Instants.{State, IsInstant, IsNext, IsStart, AllowsAt, AreGiven, is_on_in, now}
-use Rattle.rv_meaning.specs.Following.{IsStateAt}
-use Rattle.rv_meaning.specs.Givers.{AreDefined}
+use Rattle.rv_meaning.specs.{Meaning.is_true, Following.IsStateAt, Givers.AreDefined}
 use Rattle.rv_rows.specs.Forms as forms
 use Rattle.rv_agreement.specs.Trees.{System, nth_item, memory_items, kind_at}
-use Rattle.rv_agreement.specs.Evaluation.{integers}
-use Rattle.rv_agreement.specs.Evaluation as by
-use Rattle.rv_agreement.specs.Valuations.{Valuation, Reading, IsCodedAs}
-use Rattle.rv_agreement.specs.Agreement as flats
-use Rattle.rv_agreement.specs.Agreement.{found_in, HasKind, IsSpelled}
-use Rattle.rv_agreement.specs.FlatRuns.{IsFlatRun, AreMetIn, IsInductive}
-use Rattle.rv_agreement.specs.Programs.{label_counts, input_kinds, kinds_of}
-use Rattle.rv_agreement.specs.Translation.{Numbers, clock_number, delay_item}
 use Rattle.rv_agreement.specs.ProgramAgreement.{IsCodedOf, IsInitialOf, SpellsOf, IsAgreedOf, IsAllowedOf, GivesOf, LeadsTo, AreAlikeOf, AreUpdated, updates_of}
 use Rattle.rv_agreement.specs.ProgramAgreement.{integers_of, point_of, HaveProducts, KeepsProducts, IsSystemOf, memories_of}
-use Rattle.rv_agreement.proofs.LinearLemmas.{Laws}
-use Rattle.rv_agreement.proofs.Inductive.{observer_true}
+use Rattle.rv_agreement.specs.{Evaluation.integers, Valuations.Valuation, Valuations.Reading, Valuations.IsCodedAs, Agreement.found_in, Agreement.HasKind}
+use Rattle.rv_agreement.specs.{Agreement.IsSpelled, FlatRuns.IsFlatRun, FlatRuns.AreMetIn, FlatRuns.IsInductive, Programs.label_counts, Programs.input_kinds}
+use Rattle.rv_agreement.specs.{Programs.kinds_of, Translation.Numbers, Translation.clock_number, Translation.delay_item}
+use Rattle.rv_agreement.specs.Evaluation as by
+use Rattle.rv_agreement.specs.Agreement as flats
 use Rattle.rv_agreement.proofs.Witnessed.{has_kind, memory_of, own_number, clock_of_tick}
 use Rattle.rv_agreement.proofs.ProgramAgreed.{allowed, flat_state, flat_given, row_of, long_kinds, kept_at, never_ticked, ticked_at, long_kept, long_ticked}
 use Rattle.rv_agreement.proofs.ProgramAgreed.{agrees_row, whole_instant, whole_read, whole_there, typed_state, assertion_given, some_agreed_of, alike_of}
 use Rattle.rv_agreement.proofs.ProgramAgreed.{gives_of, leads_to_of, updates_are_of}
+use Rattle.rv_agreement.proofs.{LinearLemmas.Laws, Inductive.observer_true}
 
 -- the laws of runs
 pub record RunLaws : Type 0 where

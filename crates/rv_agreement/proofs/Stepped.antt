@@ -1,23 +1,17 @@
 -- The state after an instant, by the updates and the next control state of a valuation.
-use Rattle.std.proofs.Common.{◌≡◌, ℕ, suc, ◌<◌, ℤ, Bool, true, false, cond, List, [], ◌∷◌, length, refl, sym, ◌∙◌, ap, arith}
-use Rattle.std.proofs.Common.{Option}
-use Rattle.std.specs.Prelude.{slice_index_or}
+use Rattle.std.proofs.Common.{◌≡◌, ℕ, suc, ◌<◌, ℤ, Bool, true, false, cond, List, [], ◌∷◌, length, refl, sym, ◌∙◌, ap, arith, Option}
 use Rattle.std.proofs.lemmas.List.{length-map}
-use Rattle.rv_base.specs.declared.value.Value.{Value}
-use Rattle.rv_base.specs.declared.value.Value.TheVariants.{Flag, Label}
-use Rattle.rv_types.specs.declared.typed.Kind.{Kind}
+use Rattle.std.specs.Prelude.{slice_index_or}
+use Rattle.rv_base.specs.{declared.value.Value.Value, declared.value.Value.TheVariants.Flag, declared.value.Value.TheVariants.Label}
+use Rattle.rv_types.specs.{declared.typed.Kind.Kind, Variables.is_integer, Variables.bits_for}
 use Rattle.rv_types.specs.declared.typed.Kind.TheVariants as kind
-use Rattle.rv_types.specs.Variables.{is_integer, bits_for}
-use Rattle.rv_meaning.specs.Meaning.{number}
-use Rattle.rv_meaning.specs.Codes.{code}
+use Rattle.rv_meaning.specs.{Meaning.number, Codes.code}
 use Rattle.rv_rows.specs.declared.linear.Form.{Form}
 use Rattle.rv_rows.specs.Forms as forms
 use Rattle.rv_agreement.specs.Trees.{System, memory_kinds, memory_places, kind_at}
 use Rattle.rv_agreement.specs.Valuations.{Valuation, Reading, Truth, Name, Linear, at_point, form_of, width, wholes, updated}
 use Rattle.rv_agreement.specs.Agreement.{State, point, IsWholeInstant, IsNext, IsTyped, IsAgreed, IsWell, forms_from, updates, IsSpelled, IsSpelledAs, Leads}
-use Rattle.rv_agreement.proofs.LinearLemmas.{Laws}
-use Rattle.rv_agreement.proofs.Operators.{number_at}
-use Rattle.rv_agreement.proofs.Agreed.{gives}
+use Rattle.rv_agreement.proofs.{LinearLemmas.Laws, Operators.number_at, Agreed.gives}
 
 -- whole numbers that are the values of forms
 forms_are : (x : List ℤ) (ks : List Kind) (vs : List Value) (f : ℕ → Form) → length vs ≡ length ks

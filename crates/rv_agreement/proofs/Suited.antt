@@ -1,28 +1,19 @@
 -- Each comparison is on the clock that it is given: its expression is on that clock, or is free and takes it.
 use Rattle.std.proofs.Common.{◌≡◌, ◌⊎◌, inl, inr, ℕ, Bool, true, false, cond, nat_eq, List, ◌++◌, length, refl, sym, ◌∙◌, subst, Option}
-use Rattle.std.specs.List.{Contains}
 use Rattle.std.proofs.lemmas.List.Elements.{Contains-append_cases}
-use Rattle.rv_tree.specs.declared.tree.Op.{Op}
+use Rattle.std.specs.List.{Contains}
+use Rattle.rv_tree.specs.{declared.tree.Op.Op, Tree.Tree, Tree.Form, Tree.Trees, Tree.NodeTree, Tree.ProgramTree, Places.Sites, Places.site_of}
 use Rattle.rv_tree.specs.declared.tree.Op.TheVariants as op
 use Rattle.rv_tree.specs.Tree as tree
-use Rattle.rv_tree.specs.Tree.{Tree, Form, Trees, NodeTree, ProgramTree}
-use Rattle.rv_tree.specs.Places.{Sites, site_of}
-use Rattle.rv_types.specs.declared.typed.Clock.{Clock}
-use Rattle.rv_types.specs.declared.typed.Clock.TheVariants.{On}
-use Rattle.rv_types.specs.declared.fault.Pace.{Pace}
 use Rattle.rv_types.specs.declared.fault.Pace.TheVariants.{Free, At, Mute, Differ}
 use Rattle.rv_types.specs.Clocks.{seen, same_clock, meet, clock_at, when_pace, binary_pace, pace, form_pace, pace_of_all}
-use Rattle.rv_types.specs.Types.{is_constant}
-use Rattle.rv_types.specs.Scopes.{node_scope}
-use Rattle.rv_types.specs.Lists.{sides_of}
-use Rattle.rv_types.specs.Instances.{Instance, absolute, clock_of}
-use Rattle.rv_types.specs.WellFormed.{Suits}
+use Rattle.rv_types.specs.{declared.typed.Clock.Clock, declared.typed.Clock.TheVariants.On, declared.fault.Pace.Pace, Types.is_constant, Scopes.node_scope}
+use Rattle.rv_types.specs.{Lists.sides_of, Instances.Instance, Instances.absolute, Instances.clock_of, WellFormed.Suits}
 use Rattle.rv_agreement.specs.Valuations.{is_placed}
 use Rattle.rv_agreement.specs.Programs.{operator_place, operation, Compared, own_compared, compared, form_compared, compared_all}
 use Rattle.rv_agreement.proofs.Matching.{in_own}
 use Rattle.rv_meaning.proofs.Suiting.{suits_both as suits_meet, suits_ground, suits_seen}
-use Rattle.rv_types.proofs.Members.{nothing_in}
-use Rattle.rv_types.proofs.Paces.{clock_same}
+use Rattle.rv_types.proofs.{Members.nothing_in, Paces.clock_same}
 
 pub suits_both : (k c d : Clock) (b : Bool) → same_clock c d ≡ b → Suits k (cond b (At c) Differ) → (c ≡ k) × (d ≡ k)
 suits_both k c d true e h = (h, sym (clock_same c d e) ∙ h)

@@ -1,17 +1,13 @@
 -- A flat system that is read from its program has the instants of the program, whatever expressions are read as, and its comparisons.
 use Rattle.std.proofs.Common.{◌≡◌, ℕ, ◌<◌, Bool, cond, List, [], ◌∷◌, ◌++◌, map, length, refl, sym, ◌∙◌, ap, subst, arith, Option, Some, inl, inr}
 use Rattle.std.proofs.Common.{None as Nothing}
-use Rattle.std.specs.Prelude.{slice_index_or}
-use Rattle.std.specs.List.{Contains}
 use Rattle.std.proofs.lemmas.List.{length-map, get_or-map}
 use Rattle.std.proofs.lemmas.List.Elements.{Contains-get_or, Contains-append_left, Contains-append_right, Contains-append_cases}
-use Rattle.rv_tree.specs.Tree.{Tree, ProgramTree}
-use Rattle.rv_tree.specs.Places.{Identifier, Sites, index_of}
-use Rattle.rv_types.specs.declared.typed.Clock.{Clock}
-use Rattle.rv_types.specs.declared.typed.Clock.TheVariants.{Base}
+use Rattle.std.specs.{Prelude.slice_index_or, List.Contains}
+use Rattle.rv_tree.specs.{Tree.Tree, Tree.ProgramTree, Places.Identifier, Places.Sites, Places.index_of}
 use Rattle.rv_types.specs.Instances.{Body, Output, Instance, absolute, clock_in, clock_of_arguments, output_place}
 use Rattle.rv_types.specs.Needs.{Giver, Given, Of, Gives}
-use Rattle.rv_types.specs.Lists.{delay_place}
+use Rattle.rv_types.specs.{declared.typed.Clock.Clock, declared.typed.Clock.TheVariants.Base, Lists.delay_place}
 use Rattle.rv_meaning.specs.Givers.{AreDefined}
 use Rattle.rv_agreement.specs.Trees.{Item, nth_item, no_item, System, memory_items}
 use Rattle.rv_agreement.specs.Evaluation.{Reads, Found, IsInstant, nth, held, item_value}
@@ -19,8 +15,7 @@ use Rattle.rv_agreement.specs.Valuations.{Comparison, comparisons, item_comparis
 use Rattle.rv_agreement.specs.Programs.{FoundAt, given_by, IsInstantOf, Compared, compared, IsComparison, in_flow, in_memory, in_assertion}
 use Rattle.rv_agreement.specs.Translation.{Names, Numbers, clock_number, tick_number, flat_of, giver_item, assertion_item, IsTranslated, AreNamed, IsClockOf}
 use Rattle.rv_agreement.specs.Translation.{AreIndexed, flat_compared}
-use Rattle.rv_agreement.proofs.Translated.{value_read, on_clock, compared_read}
-use Rattle.rv_agreement.proofs.Matching.{read_in}
+use Rattle.rv_agreement.proofs.{Translated.value_read, Translated.on_clock, Translated.compared_read, Matching.read_in}
 use Rattle.rv_types.proofs.Members.{cons_cases, in_flat_map, in_map, in_tail, nothing_in, of_flat_map}
 
 module _ (V : Type 0) (r : Reads V) (flagged : (b : Bool) → r.truth (r.flag b) ≡ b) (p : ProgramTree) (main : Identifier) (numbers : Numbers) (s : System)

@@ -1,27 +1,21 @@
 -- What is read of an expression has what the expression has, whatever expressions are read as; and its comparisons are its own.
 use Rattle.std.proofs.Common.{◌≡◌, ℕ, ◌+◌, ℤ, negsuc, Bool, true, false, not, cond, List, [], ◌∷◌, ◌++◌, map, length, refl, sym, ◌∙◌, ap, unwrap_or, Option}
-use Rattle.std.proofs.Common.{Some}
-use Rattle.std.proofs.Common.{None as Nothing}
-use Rattle.std.specs.Prelude.{nat_le, nat_eq}
+use Rattle.std.proofs.Common.{Some, None as Nothing}
 use Rattle.std.proofs.lemmas.List.{map-append}
-use Rattle.rv_tree.specs.declared.tree.Op.{Op}
+use Rattle.std.specs.Prelude.{nat_le, nat_eq}
+use Rattle.rv_tree.specs.{declared.tree.Op.Op, Tree.Tree, Tree.Form, Tree.Trees, Tree.ProgramTree, Places.Identifier, Places.Sites, Places.is_flow}
+use Rattle.rv_tree.specs.{Places.index_of}
 use Rattle.rv_tree.specs.declared.tree.Op.TheVariants as op
 use Rattle.rv_tree.specs.Tree as tree
-use Rattle.rv_tree.specs.Tree.{Tree, Form, Trees, ProgramTree}
-use Rattle.rv_tree.specs.Places.{Identifier, Sites, is_flow, index_of}
-use Rattle.rv_types.specs.declared.typed.Clock.TheVariants.{Base}
-use Rattle.rv_types.specs.Types.{is_constant}
-use Rattle.rv_types.specs.Lists.{sides_of}
-use Rattle.rv_types.specs.Scopes.{node_scope, constant_value}
 use Rattle.rv_types.specs.Instances.{Instance, place, absolute, clock_of, clock_in, output_place}
-use Rattle.rv_agreement.specs.Trees.{FlatTree, Item, nth_item}
-use Rattle.rv_agreement.specs.Trees as flat
-use Rattle.rv_agreement.specs.Evaluation.{Reads, Found}
-use Rattle.rv_agreement.specs.Evaluation as by
+use Rattle.rv_types.specs.{declared.typed.Clock.TheVariants.Base, Types.is_constant, Lists.sides_of, Scopes.node_scope, Scopes.constant_value}
 use Rattle.rv_agreement.specs.Valuations.{Comparison, is_placed, own, comparisons, form_comparisons, comparisons_of}
 use Rattle.rv_agreement.specs.Programs.{FoundAt, operator_place, coefficient, operation, is_there, meant, form_meant, trues_meant, Compared, own_compared}
 use Rattle.rv_agreement.specs.Programs.{compared, form_compared, compared_all}
 use Rattle.rv_agreement.specs.Translation.{Names, FormNames, AllNames, Numbers, clock_number, tick_number, flat_of, flat_form, flats_of}
+use Rattle.rv_agreement.specs.{Trees.FlatTree, Trees.Item, Trees.nth_item, Evaluation.Reads, Evaluation.Found}
+use Rattle.rv_agreement.specs.Trees as flat
+use Rattle.rv_agreement.specs.Evaluation as by
 
 -- An operator under a function, and with equal parts.
 operation_under : {A B : Type 0} (f : A → B) (o : Op) (c p z : A) → f (operation o c p z) ≡ operation o (f c) (f p) (f z)

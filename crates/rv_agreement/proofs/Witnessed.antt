@@ -1,34 +1,22 @@
 -- The memories, ticks, inputs and columns of a program by their numbers in a flat system that is read from it.
 use Rattle.std.proofs.Common.{◌≡◌, inl, inr, ℕ, zero, suc, ◌+◌, ◌<◌, Bool, true, false, cond, List, [], ◌∷◌, map, length, get_or, refl, sym, ◌∙◌, ap, subst}
-use Rattle.std.proofs.Common.{arith, Option, Some}
-use Rattle.std.proofs.Common.{None as Nothing}
-use Rattle.std.specs.Prelude.{slice_index_or}
-use Rattle.std.specs.List.{Contains}
-use Rattle.std.proofs.lemmas.List.{length-map, get_or-map}
-use Rattle.std.proofs.lemmas.List.Elements.{Contains-get_or}
+use Rattle.std.proofs.Common.{arith, Option, Some, None as Nothing}
+use Rattle.std.proofs.{lemmas.List.length-map, lemmas.List.get_or-map, lemmas.List.Elements.Contains-get_or}
+use Rattle.std.specs.{Prelude.slice_index_or, List.Contains}
 use Rattle.rv_base.specs.declared.value.Value.{Value}
 use Rattle.rv_base.specs.declared.value.Value.TheVariants as value
-use Rattle.rv_tree.specs.declared.tree.TypeDecl.{TypeDecl}
-use Rattle.rv_tree.specs.Tree.{ProgramTree}
-use Rattle.rv_tree.specs.Places.{Identifier, Sites, index_of}
-use Rattle.rv_tree.specs.Delays.{Delay}
-use Rattle.rv_types.specs.declared.typed.Kind.{Kind}
+use Rattle.rv_tree.specs.{declared.tree.TypeDecl.TypeDecl, Tree.ProgramTree, Places.Identifier, Places.Sites, Places.index_of, Delays.Delay}
+use Rattle.rv_types.specs.{declared.typed.Kind.Kind, Values.label_count, Values.labels_at, Values.operand_kind, Variables.is_integer, Lists.MemoryAt}
+use Rattle.rv_types.specs.{Lists.memory_at, Lists.delay_place, Instances.Instance}
 use Rattle.rv_types.specs.declared.typed.Kind.TheVariants as kind
-use Rattle.rv_types.specs.Values.{label_count, labels_at, operand_kind}
 use Rattle.rv_types.specs.Values as types
-use Rattle.rv_types.specs.Variables.{is_integer}
-use Rattle.rv_types.specs.Lists.{MemoryAt, memory_at, delay_place}
 use Rattle.rv_types.specs.Lists as listed
-use Rattle.rv_types.specs.Instances.{Instance}
 use Rattle.rv_meaning.specs.Meaning.{number}
 use Rattle.rv_agreement.specs.Trees.{Kept, System, memory_kinds, memory_places, kind_at}
-use Rattle.rv_agreement.specs.Valuations.{whole_count, width, wholes}
-use Rattle.rv_agreement.specs.Agreement.{HasKind}
-use Rattle.rv_agreement.specs.Programs.{kinds_of, columns_of}
-use Rattle.rv_agreement.specs.Translation.{Numbers, clock_number, tick_number}
 use Rattle.rv_agreement.specs.ProgramAgreement.{integers_of, IsTick, IsDelay, IsSystemOf, memories_of}
-use Rattle.rv_agreement.proofs.Systems.{from_map}
-use Rattle.rv_agreement.proofs.Indexed.{indexed}
+use Rattle.rv_agreement.specs.{Valuations.whole_count, Valuations.width, Valuations.wholes, Agreement.HasKind, Programs.kinds_of, Programs.columns_of}
+use Rattle.rv_agreement.specs.{Translation.Numbers, Translation.clock_number, Translation.tick_number}
+use Rattle.rv_agreement.proofs.{Systems.from_map, Indexed.indexed}
 use Rattle.rv_types.proofs.Members.{cons_cases, in_map, in_tail}
 use Rattle.rv_base.proofs.Options.{some_same}
 

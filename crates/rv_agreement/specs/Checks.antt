@@ -1,21 +1,15 @@
 -- Tests that a flat system keeps in its type: they say that it is well formed, where its memories are inlined.
 use Rattle.std.specs.Prelude.{◌≡◌, ℕ, zero, suc, ◌+◌, ◌<◌, Bool, true, false, not, ◌&&◌, ◌||◌, cond, nat_eq, nat_lt, List, [], ◌∷◌, length, Option, Some}
-use Rattle.std.specs.Prelude.{IsTrue, slice_get, slice_index_or}
-use Rattle.std.specs.Prelude.{None as Nothing}
+use Rattle.std.specs.Prelude.{IsTrue, slice_get, slice_index_or, None as Nothing}
 use Rattle.rv_base.specs.declared.value.Value.{Value}
 use Rattle.rv_base.specs.declared.value.Value.TheVariants.{Flag, Label, Whole}
-use Rattle.rv_tree.specs.declared.tree.Op.{Op}
+use Rattle.rv_tree.specs.{declared.tree.Op.Op, Places.Sites}
 use Rattle.rv_tree.specs.declared.tree.Op.TheVariants as op
-use Rattle.rv_tree.specs.Places.{Sites}
-use Rattle.rv_types.specs.declared.typed.Kind.{Kind}
+use Rattle.rv_types.specs.{declared.typed.Kind.Kind, Lists.sides_of, Types.same_kind, Variables.is_integer}
 use Rattle.rv_types.specs.declared.typed.Kind.TheVariants as kind
-use Rattle.rv_types.specs.Lists.{sides_of}
-use Rattle.rv_types.specs.Types.{same_kind}
-use Rattle.rv_types.specs.Variables.{is_integer}
 use Rattle.rv_agreement.specs.Trees.{FlatTree, Node, TreeForm, FlatTrees, Constant, Flow, Memory, Ticked, Input, Not, Binary, Scale, If, AtMostOne, When}
 use Rattle.rv_agreement.specs.Trees.{Current, None, More, Item, nth_item, Kept, System, memory_items, memory_kinds, memory_places, kind_at}
-use Rattle.rv_agreement.specs.Valuations.{is_placed}
-use Rattle.rv_agreement.specs.Agreement.{AreApart}
+use Rattle.rv_agreement.specs.{Valuations.is_placed, Agreement.AreApart}
 
 abbrev pub same_sites : Sites → Sites → Bool
 same_sites [] [] = true

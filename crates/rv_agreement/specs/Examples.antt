@@ -1,6 +1,5 @@
 -- Two flat systems that differ in where one comparison is present alone: `y = (a < b) when c` and `y = (a when c) < (b when c)`.
-use Rattle.std.specs.Prelude.{ℕ, [], ◌∷◌, Some}
-use Rattle.std.specs.Prelude.{None as Nothing}
+use Rattle.std.specs.Prelude.{ℕ, [], ◌∷◌, Some, None as Nothing}
 use Rattle.rv_tree.specs.declared.tree.Op.TheVariants as op
 use Rattle.rv_types.specs.declared.typed.Kind.TheVariants as kind
 use Rattle.rv_agreement.specs.Trees.{FlatTree, Node, Flow, Input, Binary, When, Item, System}

@@ -1,12 +1,10 @@
 -- Runs of a flat system in whole numbers, and what is inductive over its valuations.
-use Rattle.std.specs.Prelude.{◌≡◌, ℕ, suc, ◌<◌, ℤ, Bool, true, false, List, ◌++◌, length, Option, Some, slice_index_or}
-use Rattle.std.specs.Prelude.{None as Nothing}
+use Rattle.std.specs.Prelude.{◌≡◌, ℕ, suc, ◌<◌, ℤ, Bool, true, false, List, ◌++◌, length, Option, Some, slice_index_or, None as Nothing}
 use Rattle.rv_base.specs.declared.value.Value.{Value}
 use Rattle.rv_rows.specs.Forms.{values}
-use Rattle.rv_agreement.specs.Trees.{System, memory_kinds, nth_item}
-use Rattle.rv_agreement.specs.Evaluation.{is_met, integers}
 use Rattle.rv_agreement.specs.Valuations.{Valuation, Reading, Truth, whole_count, IsSymbolic, Agrees, IsCoded, IsAllowed, observed}
 use Rattle.rv_agreement.specs.Agreement.{State, found_in, IsWholeInstant, IsNext, IsTyped, updates, Leads}
+use Rattle.rv_agreement.specs.{Trees.System, Trees.memory_kinds, Trees.nth_item, Evaluation.is_met, Evaluation.integers}
 
 -- Each row is the instant at its state and inputs, each next state the one after it, all of their types; no clock has ticked at first.
 pub record IsFlatRun (s : System) (n : ℕ) (states : ℕ → State) (inputs : ℕ → List Value) (rows : ℕ → List (Option Value)) : Type 0 where

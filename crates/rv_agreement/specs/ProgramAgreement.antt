@@ -3,29 +3,19 @@
 use Rattle.std.specs.Prelude.{◌≡◌, ◌↔◌, ◌⊎◌, ℕ, suc, ◌<◌, ℤ, Bool, true, false, cond, ◌||◌, List, [], ◌∷◌, ◌++◌, map, length, Option, Some, slice_index_or}
 use Rattle.std.specs.Prelude.{None as Nothing}
 use Rattle.std.specs.List.{Contains}
-use Rattle.rv_base.specs.declared.value.Value.{Value}
-use Rattle.rv_base.specs.declared.value.Value.TheVariants.{Flag}
-use Rattle.rv_tree.specs.Tree.{Tree, AssertionTree, ProgramTree}
-use Rattle.rv_tree.specs.Places.{Identifier, Sites, index_of}
-use Rattle.rv_tree.specs.Delays.{Delay, node_delays}
-use Rattle.rv_types.specs.declared.typed.Kind.{Kind}
-use Rattle.rv_types.specs.declared.typed.Clock.{Clock}
-use Rattle.rv_types.specs.declared.typed.Clock.TheVariants.{Base}
-use Rattle.rv_types.specs.Values.{operand_kind}
-use Rattle.rv_types.specs.Variables.{is_integer, node_parts, is_arrow}
-use Rattle.rv_types.specs.Lists.{MemoryAt, Side, memory_places, delay_place}
-use Rattle.rv_types.specs.Instances.{Body, Instance, clock_in, IsInstance, IsFlow}
-use Rattle.rv_types.specs.Needs.{Of, Gives}
-use Rattle.rv_meaning.specs.Meaning.{number}
-use Rattle.rv_meaning.specs.Runs.{Instant, cell, observer_place, AreStarts}
-use Rattle.rv_meaning.specs.Instants.{State, IsInstant, AreGiven, value_now}
+use Rattle.rv_base.specs.{declared.value.Value.Value, declared.value.Value.TheVariants.Flag}
+use Rattle.rv_tree.specs.{Tree.Tree, Tree.AssertionTree, Tree.ProgramTree, Places.Identifier, Places.Sites, Places.index_of, Delays.Delay, Delays.node_delays}
+use Rattle.rv_types.specs.{declared.typed.Kind.Kind, declared.typed.Clock.Clock, declared.typed.Clock.TheVariants.Base, Values.operand_kind}
+use Rattle.rv_types.specs.{Variables.is_integer, Variables.node_parts, Variables.is_arrow, Lists.MemoryAt, Lists.Side, Lists.memory_places, Lists.delay_place}
+use Rattle.rv_types.specs.{Instances.Body, Instances.Instance, Instances.clock_in, Instances.IsInstance, Instances.IsFlow, Needs.Of, Needs.Gives}
+use Rattle.rv_meaning.specs.{Meaning.number, Runs.Instant, Runs.cell, Runs.observer_place, Runs.AreStarts, Instants.State, Instants.IsInstant}
+use Rattle.rv_meaning.specs.{Instants.AreGiven, Instants.value_now}
 use Rattle.rv_rows.specs.declared.linear.Form.{Form}
-use Rattle.rv_agreement.specs.Trees.{System, kind_at}
 use Rattle.rv_agreement.specs.Valuations.{Valuation, Reading, at_point, holds_true, form_of, readings, IsPresent, IsCodedAs}
 use Rattle.rv_agreement.specs.Agreement.{IsSpelled, IsSpelledAs, IsWell, bit_count, forms_from, value_there}
 use Rattle.rv_agreement.specs.Programs.{Compared, IsComparison, is_there, meant, label_counts, kinds_of, input_kinds, columns_of, found_by, IsSymbolicOf}
 use Rattle.rv_agreement.specs.Programs.{tested_in, AgreesWith, HasProducts}
-use Rattle.rv_agreement.specs.Translation.{Numbers, IsTranslated, AreNamed, IsClockOf}
+use Rattle.rv_agreement.specs.{Trees.System, Trees.kind_at, Translation.Numbers, Translation.IsTranslated, Translation.AreNamed, Translation.IsClockOf}
 
 -- the integers among values of these types, by their numbers
 abbrev pub integers_of : List Kind → (ℕ → Value) → List ℤ

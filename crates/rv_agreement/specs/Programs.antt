@@ -1,41 +1,23 @@
 -- One text of an instant of a program for all that its expressions may have: whole numbers, or forms at a valuation.
 -- (Halbwachs, Caspi, Raymond and Pilaud 1991 for the language, Jeannet 2003 for the control state.)
 use Rattle.std.specs.Prelude.{◌≡◌, ℕ, ◌+◌, ℤ, pos, negsuc, Bool, true, false, not, ◌&&◌, cond, nat_eq, nat_le, unwrap_or, List, [], ◌∷◌, ◌++◌, map, length}
-use Rattle.std.specs.Prelude.{Option, Some}
-use Rattle.std.specs.Prelude.{None as Nothing}
+use Rattle.std.specs.Prelude.{Option, Some, None as Nothing}
 use Rattle.std.specs.List.{Contains}
-use Rattle.rv_base.specs.declared.value.Value.{Value}
-use Rattle.rv_base.specs.declared.value.Value.TheVariants.{Flag, Whole}
-use Rattle.rv_tree.specs.declared.tree.Op.{Op}
+use Rattle.rv_base.specs.{declared.value.Value.Value, declared.value.Value.TheVariants.Flag, declared.value.Value.TheVariants.Whole}
+use Rattle.rv_tree.specs.{declared.tree.Op.Op, Tree.Tree, Tree.Form, Tree.Trees, Tree.AssertionTree, Tree.ProgramTree, Places.Identifier, Places.Sites}
+use Rattle.rv_tree.specs.{Places.is_flow, Places.index_of, Delays.Delay, Delays.node_delays, Sites.is_comparison}
 use Rattle.rv_tree.specs.declared.tree.Op.TheVariants as op
 use Rattle.rv_tree.specs.Tree as tree
-use Rattle.rv_tree.specs.Tree.{Tree, Form, Trees, AssertionTree, ProgramTree}
-use Rattle.rv_tree.specs.Places.{Identifier, Sites, is_flow, index_of}
-use Rattle.rv_tree.specs.Delays.{Delay, node_delays}
-use Rattle.rv_tree.specs.Sites.{is_comparison}
-use Rattle.rv_types.specs.declared.typed.Kind.{Kind}
-use Rattle.rv_types.specs.declared.typed.Kind.TheVariants as kind
-use Rattle.rv_types.specs.declared.typed.Clock.{Clock}
-use Rattle.rv_types.specs.declared.typed.Clock.TheVariants.{Base}
-use Rattle.rv_types.specs.Kinds.{decl_kinds}
-use Rattle.rv_types.specs.Types.{Scope, is_constant, kind_of}
-use Rattle.rv_types.specs.Constants.{whole_in, value_of}
-use Rattle.rv_types.specs.Scopes.{node_scope, constant_value}
 use Rattle.rv_types.specs.Instances.{Body, Output, Instance, place, absolute, clock_of, clock_in, clock_of_arguments, output_place, node_of, IsInstance}
-use Rattle.rv_types.specs.Needs.{Giver, Given, Of, Gives}
-use Rattle.rv_types.specs.Lists.{MemoryAt, Side, sides_of}
-use Rattle.rv_types.specs.Values.{label_count}
-use Rattle.rv_types.specs.Variables.{is_integer}
-use Rattle.rv_meaning.specs.Meaning.{kept_place, number}
-use Rattle.rv_meaning.specs.Runs.{Instant}
-use Rattle.rv_meaning.specs.Instants.{State, now}
-use Rattle.rv_rows.specs.declared.linear.Row.{Row}
-use Rattle.rv_rows.specs.Rows.{Holds}
-use Rattle.rv_rows.specs.Arithmetic.{column_form}
-use Rattle.rv_agreement.specs.Evaluation.{Reads}
-use Rattle.rv_agreement.specs.Evaluation as flat
-use Rattle.rv_agreement.specs.Trees.{kind_at}
+use Rattle.rv_types.specs.{declared.typed.Kind.Kind, declared.typed.Clock.Clock, declared.typed.Clock.TheVariants.Base, Kinds.decl_kinds, Types.Scope}
+use Rattle.rv_types.specs.{Types.is_constant, Types.kind_of, Constants.whole_in, Constants.value_of, Scopes.node_scope, Scopes.constant_value, Needs.Giver}
+use Rattle.rv_types.specs.{Needs.Given, Needs.Of, Needs.Gives, Lists.MemoryAt, Lists.Side, Lists.sides_of, Values.label_count, Variables.is_integer}
+use Rattle.rv_types.specs.declared.typed.Kind.TheVariants as kind
+use Rattle.rv_meaning.specs.{Meaning.kept_place, Meaning.number, Runs.Instant, Instants.State, Instants.now}
+use Rattle.rv_rows.specs.{declared.linear.Row.Row, Rows.Holds, Arithmetic.column_form}
 use Rattle.rv_agreement.specs.Valuations.{Valuation, Reading, Tested, is_placed, whole_count, rank, readings, spelled, IsRowOf}
+use Rattle.rv_agreement.specs.{Evaluation.Reads, Trees.kind_at}
+use Rattle.rv_agreement.specs.Evaluation as flat
 
 -- What an instant finds, by places.
 pub record FoundAt (V : Type 0) : Type 0 where

@@ -1,26 +1,19 @@
 -- How a flat system that tells where its parts are present is read from its program.
 use Rattle.std.specs.Prelude.{◌≡◌, ℕ, ◌+◌, ◌<◌, pos, negsuc, true, false, cond, unwrap_or, List, [], ◌∷◌, map, length, Option, Some, slice_index_or}
 use Rattle.std.specs.Prelude.{None as Nothing}
-use Rattle.std.specs.List.{Contains}
-use Rattle.std.specs.Option.{option_map}
+use Rattle.std.specs.{List.Contains, Option.option_map}
 use Rattle.rv_base.specs.declared.value.Value.TheVariants.{Flag, Whole}
 use Rattle.rv_tree.specs.declared.tree.Op.TheVariants as op
 use Rattle.rv_tree.specs.Tree as tree
 use Rattle.rv_tree.specs.Tree.{Tree, Form, Trees, AssertionTree, ProgramTree}
-use Rattle.rv_tree.specs.Places.{Identifier, Sites, is_flow, index_of}
-use Rattle.rv_tree.specs.Delays.{Delay, node_delays}
-use Rattle.rv_types.specs.declared.typed.Clock.{Clock}
-use Rattle.rv_types.specs.declared.typed.Clock.TheVariants.{Base}
-use Rattle.rv_types.specs.Types.{is_constant}
-use Rattle.rv_types.specs.Scopes.{node_scope, constant_value}
+use Rattle.rv_tree.specs.{Places.Identifier, Places.Sites, Places.is_flow, Places.index_of, Delays.Delay, Delays.node_delays}
 use Rattle.rv_types.specs.Instances.{Body, Output, Instance, place, absolute, clock_of, clock_in, clock_of_arguments, output_place, IsInstance}
-use Rattle.rv_types.specs.Needs.{Giver, Given, Of, Gives, IsSequence}
-use Rattle.rv_types.specs.Lists.{IsAny, AreMemories, AreTicks, delay_place}
+use Rattle.rv_types.specs.{declared.typed.Clock.Clock, declared.typed.Clock.TheVariants.Base, Types.is_constant, Scopes.node_scope, Scopes.constant_value}
+use Rattle.rv_types.specs.{Needs.Giver, Needs.Given, Needs.Of, Needs.Gives, Needs.IsSequence, Lists.IsAny, Lists.AreMemories, Lists.AreTicks, Lists.delay_place}
 use Rattle.rv_meaning.specs.Meaning.{kept_place}
 use Rattle.rv_agreement.specs.Trees.{FlatTree, TreeForm, FlatTrees, Item, System, nth_item, memory_items, memory_places}
+use Rattle.rv_agreement.specs.{Programs.operator_place, Programs.coefficient, Programs.operation, Programs.Compared, Valuations.Comparison}
 use Rattle.rv_agreement.specs.Trees as flat
-use Rattle.rv_agreement.specs.Programs.{operator_place, coefficient, operation, Compared}
-use Rattle.rv_agreement.specs.Valuations.{Comparison}
 
 -- the places of the flows, of the memories, and of the flows of the ticks but the main one, by their numbers
 pub record Numbers : Type 0 where

@@ -1,10 +1,7 @@
 -- A flat expression that tells of each part where it is present, and a flat system by what an instant asks of it.
-use Rattle.std.specs.Prelude.{ℕ, ℤ, false, List, [], Option, map, slice_index_or}
-use Rattle.std.specs.Prelude.{None as Nothing}
-use Rattle.rv_base.specs.declared.value.Value.{Value}
-use Rattle.rv_base.specs.declared.value.Value.TheVariants.{Flag}
-use Rattle.rv_tree.specs.declared.tree.Op.{Op}
-use Rattle.rv_tree.specs.Places.{Sites}
+use Rattle.std.specs.Prelude.{ℕ, ℤ, false, List, [], Option, map, slice_index_or, None as Nothing}
+use Rattle.rv_base.specs.{declared.value.Value.Value, declared.value.Value.TheVariants.Flag}
+use Rattle.rv_tree.specs.{declared.tree.Op.Op, Places.Sites}
 use Rattle.rv_types.specs.declared.typed.Kind.{Kind}
 use Rattle.rv_types.specs.declared.typed.Kind.TheVariants as kind
 

@@ -1,28 +1,19 @@
 -- Documents go by the names of a flat system and by the numbers of its system of valuations alone.
 use Rattle.std.proofs.Common.{◌≡◌, ℕ, ◌+◌, ◌-◌, ◌||◌, true, nat_eq, List, [], ◌∷◌, ◌++◌, length, map, refl, sym, ◌∙◌, ap, None}
-use Rattle.std.specs.Prelude.{codes, decimal, flat_map, nat_lt, replicate, slice_get}
-use Rattle.std.specs.Str.{bytes_eq}
 use Rattle.std.proofs.lemmas.List.{length-map}
-use Rattle.rv_base.specs.declared.value.Value.{Value}
-use Rattle.rv_base.specs.declared.value.Trace.{Trace}
+use Rattle.std.specs.{Prelude.codes, Prelude.decimal, Prelude.flat_map, Prelude.nat_lt, Prelude.replicate, Prelude.slice_get, Str.bytes_eq}
+use Rattle.rv_base.specs.{declared.value.Value.Value, declared.value.Trace.Trace}
 use Rattle.rv_types.specs.Lists.{MemoryAt}
 use Rattle.rv_proofs.specs.declared.certificate.Certificate.{Certificate}
-use Rattle.rv_flat.specs.declared.flat.Flat.{Flat}
-use Rattle.rv_flat.specs.declared.parts.FlatInput.{FlatInput}
-use Rattle.rv_flat.specs.declared.parts.FlatMemory.{FlatMemory}
-use Rattle.rv_flat.specs.Systems.{memory_of}
+use Rattle.rv_flat.specs.{declared.flat.Flat.Flat, declared.parts.FlatInput.FlatInput, declared.parts.FlatMemory.FlatMemory, Systems.memory_of}
 use Rattle.rv_control.specs.Control.{control_of}
-use Rattle.rv_invfile.specs.Rules.{Fields, Form, Rule, done, await}
-use Rattle.rv_invfile.specs.Parts.{bind, each, times}
-use Rattle.rv_invfile.specs.Forms.{field, is_worded, exactly, names, lists, counts}
-use Rattle.rv_invfile.specs.Texts.{Labels, dotted, value_text}
-use Rattle.rv_invfile.specs.Traces as traces
 use Rattle.rv_invfile.specs.Traces.{trace_rule, trace_records, start, start_records, value_texts, read_value, is_value, read_values, is_value_at, tail_of}
-use Rattle.rv_invariant.specs.declared.counts.Shape.{Shape}
-use Rattle.rv_invariant.specs.Naming.{bit_text, column_text}
-use Rattle.rv_invariant.specs.Shapes.{shape_of}
-use Rattle.rv_invariant.specs.Certificates as certificates
+use Rattle.rv_invfile.specs.{Rules.Fields, Rules.Form, Rules.Rule, Rules.done, Rules.await, Parts.bind, Parts.each, Parts.times, Forms.field, Forms.is_worded}
+use Rattle.rv_invfile.specs.{Forms.exactly, Forms.names, Forms.lists, Forms.counts, Texts.Labels, Texts.dotted, Texts.value_text}
+use Rattle.rv_invfile.specs.Traces as traces
 use Rattle.rv_invariant.specs.Certificates.{certificate_rule, certificate_records, location_records, locations_rule}
+use Rattle.rv_invariant.specs.{declared.counts.Shape.Shape, Naming.bit_text, Naming.column_text, Shapes.shape_of}
+use Rattle.rv_invariant.specs.Certificates as certificates
 
 -- the rule of certificates by the names and numbers
 abbrev rule_by : List ℕ → Fields → Fields → Shape → Rule Certificate

@@ -1,15 +1,9 @@
 -- Two flat systems of one program are one system of valuations.
 use Rattle.std.proofs.Common.{◌≡◌, map, ◌∙◌, ap}
-use Rattle.rv_tree.specs.Tree.{ProgramTree}
-use Rattle.rv_tree.specs.Places.{Identifier}
-use Rattle.rv_flat.specs.declared.flat.Flat.{Flat}
-use Rattle.rv_flat.specs.FlatInstants.{system_of}
-use Rattle.rv_flat.specs.FlatOf.{IsFlatOf, numbers_of}
-use Rattle.rv_flat.specs.Lists.{variable_of}
-use Rattle.rv_control.specs.Control.{control_over, control_of}
-use Rattle.rv_control.specs.Named.{variables_of}
-use Rattle.rv_alike.proofs.Names.{same_variables}
-use Rattle.rv_alike.proofs.Systems.{Laws, same_control}
+use Rattle.rv_tree.specs.{Tree.ProgramTree, Places.Identifier}
+use Rattle.rv_flat.specs.{declared.flat.Flat.Flat, FlatInstants.system_of, FlatOf.IsFlatOf, FlatOf.numbers_of, Lists.variable_of}
+use Rattle.rv_control.specs.{Control.control_over, Control.control_of, Named.variables_of}
+use Rattle.rv_alike.proofs.{Names.same_variables, Systems.Laws, Systems.same_control}
 
 pub same_systems : (program : ProgramTree) (main : Identifier) (f g : Flat) → Laws program main → IsFlatOf program main f → IsFlatOf program main g
     → control_of f ≡ control_of g

@@ -1,15 +1,11 @@
 -- The lists of a program that are in order: there is one of each.
 use Rattle.std.proofs.Common.{◌≡◌, ℕ, ◌<◌, ℤ, pos, List, ◌∷◌, ◌++◌, length, map, get_or, sym, ◌∙◌, subst, arith}
-use Rattle.std.specs.Prelude.{slice_index_or, ◌<ℤ◌}
-use Rattle.std.specs.List.{Contains}
-use Rattle.std.proofs.lemmas.Int.{ints}
-use Rattle.std.proofs.lemmas.List.{get_or_default}
-use Rattle.rv_tree.specs.Tree.{ProgramTree}
-use Rattle.rv_tree.specs.Places.{Identifier, Sites}
-use Rattle.rv_types.specs.Kinds.{decl_kinds}
-use Rattle.rv_types.specs.Instances.{node_of}
+use Rattle.std.proofs.{lemmas.Int.ints, lemmas.List.get_or_default}
+use Rattle.std.specs.{Prelude.slice_index_or, Prelude.◌<ℤ◌, List.Contains}
+use Rattle.rv_tree.specs.{Tree.ProgramTree, Places.Identifier, Places.Sites}
 use Rattle.rv_types.specs.Lists.{MemoryAt, AreMemories, IsAny, AreTicks, ComparisonAt, AreComparisons, Variable, MainTick, Tick, with_copies, memory_variables}
 use Rattle.rv_types.specs.Lists.{input_variables, test_variables, AreVariables, Column, memory_columns, input_columns, AreColumns}
+use Rattle.rv_types.specs.{Kinds.decl_kinds, Instances.node_of}
 use Rattle.rv_flat.specs.Thresholds.{AreThresholds}
 use Rattle.rv_alike.proofs.Rising.{AreSorted, sorted_by, one_sorted, one_rising, one_places}
 

@@ -1,19 +1,13 @@
 -- Two flat systems of one program have the same names.
 use Rattle.std.proofs.Common.{◌≡◌, List, [], ◌∷◌, map, refl, sym, ◌∙◌, ap}
-use Rattle.rv_tree.specs.Tree.{ProgramTree}
-use Rattle.rv_tree.specs.Places.{Identifier}
+use Rattle.rv_tree.specs.{Tree.ProgramTree, Places.Identifier}
 use Rattle.rv_types.specs.Lists as lists
-use Rattle.rv_flat.specs.declared.flat.Flat.{Flat}
-use Rattle.rv_flat.specs.declared.parts.Bit.{Bit}
+use Rattle.rv_flat.specs.{declared.flat.Flat.Flat, declared.parts.Bit.Bit, declared.parts.Column.Column, declared.parts.FlatInput.FlatInput, Lists.side_of}
+use Rattle.rv_flat.specs.{Lists.variable_of, Lists.column_of, Systems.memory_of, FlatOf.IsFlatOf}
 use Rattle.rv_flat.specs.declared.parts.Bit.TheVariants as bit
 use Rattle.rv_flat.specs.declared.parts.Side as declared
 use Rattle.rv_flat.specs.declared.parts.Side.TheVariants as side
-use Rattle.rv_flat.specs.declared.parts.Column.{Column}
 use Rattle.rv_flat.specs.declared.parts.Column.TheVariants as column
-use Rattle.rv_flat.specs.declared.parts.FlatInput.{FlatInput}
-use Rattle.rv_flat.specs.Lists.{side_of, variable_of, column_of}
-use Rattle.rv_flat.specs.Systems.{memory_of}
-use Rattle.rv_flat.specs.FlatOf.{IsFlatOf}
 use Rattle.rv_alike.proofs.Lists.{one_memories, one_variables, one_columns, one_thresholds}
 
 -- what is read back of each element is read back of a list

@@ -1,10 +1,9 @@
 -- A rising list is known by its members.
 use Rattle.std.proofs.Common.{◌≡◌, ◌⊎◌, inl, inr, ℕ, suc, ◌<◌, List, [], ◌∷◌, length, map, get_or, refl, sym, subst, arith}
-use Rattle.std.specs.List.{Contains}
 use Rattle.std.proofs.lemmas.List.{length-map, get_or-map, get_or_default}
+use Rattle.std.specs.List.{Contains}
 use Rattle.rv_tree.specs.Places.{Sites}
-use Rattle.rv_types.specs.Lists.{AreRising}
-use Rattle.rv_types.specs.Needs.{IsBefore}
+use Rattle.rv_types.specs.{Lists.AreRising, Needs.IsBefore}
 use Rattle.rv_invfile.proofs.MemoryLists.{both_before}
 use Rattle.rv_types.proofs.Members.{at_head, cons_cases, in_tail, nothing_in}
 

@@ -1,15 +1,11 @@
 -- The rows of tests at a valuation, of two systems whose comparisons there are the same up to their order.
-use Rattle.std.proofs.Common.{◌≡◌, List, refl, sym, ◌∙◌, ap, subst, Option, Some}
-use Rattle.std.proofs.Common.{None as Nothing}
+use Rattle.std.proofs.Common.{◌≡◌, List, refl, sym, ◌∙◌, ap, subst, Option, Some, None as Nothing}
 use Rattle.std.specs.List.{Contains}
 use Rattle.rv_tree.specs.Places.{Sites}
 use Rattle.rv_types.specs.Lists.{Side}
-use Rattle.rv_rows.specs.declared.linear.Row.{Row}
-use Rattle.rv_rows.specs.Tight.{IsTightened}
-use Rattle.rv_rows.specs.Arithmetic.{test_row}
-use Rattle.rv_agreement.specs.Trees.{System}
-use Rattle.rv_agreement.specs.Agreement.{AreApart}
+use Rattle.rv_rows.specs.{declared.linear.Row.Row, Tight.IsTightened, Arithmetic.test_row}
 use Rattle.rv_agreement.specs.Valuations.{Valuation, Reading, width, Comparison, all_comparisons, tested, tested_form, IsRowOf}
+use Rattle.rv_agreement.specs.{Trees.System, Agreement.AreApart}
 use Rattle.rv_control.specs.Control.{row_among}
 use Rattle.rv_control.proofs.Places.{row_told, row_there}
 

@@ -1,17 +1,11 @@
 -- Two systems that are read from one program are one system of valuations: at each valuation both have the program's symbolic instant.
 use Rattle.std.proofs.Common.{◌≡◌, ◌↔◌, inl, inr, ℕ, zero, suc, ◌+◌, ◌-◌, ◌<◌, ◌≤◌, pos, Bool, true, false, ◌&&◌, ◌||◌, List, [], ◌∷◌, length, map, refl, sym}
-use Rattle.std.proofs.Common.{◌∙◌, ap, subst, arith, Option, Some}
-use Rattle.std.proofs.Common.{None as Nothing}
-use Rattle.std.specs.Prelude.{slice_index_or}
-use Rattle.std.specs.List.{Contains}
-use Rattle.std.proofs.lemmas.Bool.{cases_lt}
-use Rattle.std.proofs.lemmas.List.{length-map, get_or_past}
-use Rattle.rv_tree.specs.Tree.{Tree, ProgramTree}
-use Rattle.rv_tree.specs.Places.{Identifier, Sites, index_of}
-use Rattle.rv_tree.specs.Delays.{Delay}
-use Rattle.rv_types.specs.declared.typed.Clock.TheVariants.{Base}
-use Rattle.rv_types.specs.Instances.{Instance, clock_in}
+use Rattle.std.proofs.Common.{◌∙◌, ap, subst, arith, Option, Some, None as Nothing}
+use Rattle.std.proofs.{lemmas.Bool.cases_lt, lemmas.List.length-map, lemmas.List.get_or_past}
+use Rattle.std.specs.{Prelude.slice_index_or, List.Contains}
+use Rattle.rv_tree.specs.{Tree.Tree, Tree.ProgramTree, Places.Identifier, Places.Sites, Places.index_of, Delays.Delay}
 use Rattle.rv_types.specs.Lists.{Side, MemoryAt, delay_place, Variable, MainTick, Tick, Kept, Next, Input, Test}
+use Rattle.rv_types.specs.{declared.typed.Clock.TheVariants.Base, Instances.Instance, Instances.clock_in}
 use Rattle.rv_types.specs.Lists as lists
 use Rattle.rv_meaning.specs.Runs.{observer_place}
 use Rattle.rv_rows.specs.Arithmetic.{constant_form, column_form}
@@ -27,12 +21,9 @@ use Rattle.rv_agreement.proofs.NamedParts.{names_more, operands_named, AreNamedI
 use Rattle.rv_agreement.proofs.Witnessed.{kinds_same, places_same, memory_of, own_number}
 use Rattle.rv_control.specs.Control.{state_bits, order_tests, names_label, memories_named, none_ticked, is_initial, tick_index, bit_of, is_allowed, row_of}
 use Rattle.rv_control.specs.Control.{next_truth, control_over}
-use Rattle.rv_control.specs.Named.{by_names}
-use Rattle.rv_control.specs.Symbolic.{symbolic}
-use Rattle.rv_control.proofs.Abstract.{allowed_there, allowed_told}
-use Rattle.rv_control.proofs.Readings.{is_symbolic}
-use Rattle.rv_alike.proofs.Lists.{one_memories, one_ticks}
-use Rattle.rv_alike.proofs.Rows.{TightensOnce, HaveTested, same_rows}
+use Rattle.rv_control.specs.{Named.by_names, Symbolic.symbolic}
+use Rattle.rv_control.proofs.{Abstract.allowed_there, Abstract.allowed_told, Readings.is_symbolic}
+use Rattle.rv_alike.proofs.{Lists.one_memories, Lists.one_ticks, Rows.TightensOnce, Rows.HaveTested, Rows.same_rows}
 use Rattle.rv_diagram.proofs.Several.{same_truth}
 
 -- What is taken from the symbolic instants of a program.

@@ -2,11 +2,9 @@
 use Rattle.std.proofs.Common.{ℕ, ◌<◌, ◌≡◌, List, length, ⊎_elim, arith, Some, slice_get, ◌≢◌, zero, suc, [], ◌∷◌, ap, ◌⊎◌, inl, inr, ◌+◌, ◌++◌, take, sym, ◌∙◌}
 use Rattle.std.proofs.Common.{refl, get_or, Bool, true, false, set, length-append, subst, ◌-◌, map, drop, drop-cons, add-one}
 use Rattle.std.proofs.lemmas.Option.{slice_get_cases, same_Some, slice_get_within, get_or_from_slice_get, none-some, slice_get-get_or, slice_get_read}
-use Rattle.std.proofs.lemmas.Bool.{cases_eq, cases_lt}
 use Rattle.std.proofs.lemmas.List.{take_more, length-append, append_assoc, append-nil, nil_from_length, get_or_append_left, get_or-append-add, length-map}
-use Rattle.std.proofs.Math.Seq.{get_or-append_seam}
-use Rattle.std.specs.List.{Contains, flat_map, All}
-use Rattle.std.specs.Prelude.{IfOk, Result, Ok, Err}
+use Rattle.std.proofs.{lemmas.Bool.cases_eq, lemmas.Bool.cases_lt, Math.Seq.get_or-append_seam}
+use Rattle.std.specs.{List.Contains, List.flat_map, List.All, Prelude.IfOk, Prelude.Result, Prelude.Ok, Prelude.Err}
 
 pub item_at : {X : Type 0} (xs : List X) (i : ℕ) → i < length xs → (x : X) × (slice_get xs i ≡ Some x)
 item_at xs i low = ⊎_elim (λ (x, l, at, e). (x, at)) (λ (more, e). absurd (omega (arith, more))) (slice_get_cases xs i).1

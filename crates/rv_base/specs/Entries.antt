@@ -1,9 +1,6 @@
 -- Entries, the newest first, as a finite map.
-use Rattle.std.specs.Prelude.{List, [], ◌∷◌}
-use Rattle.std.specs.String.{string_bytes}
-use Rattle.std.specs.FinMap.{insert, empty}
-use Rattle.rv_base.specs.Shelf.{Shelf}
-use Rattle.rv_base.specs.declared.entries.Entry.{Entry}
+use Rattle.std.specs.{Prelude.List, Prelude.[], Prelude.◌∷◌, String.string_bytes, FinMap.insert, FinMap.empty}
+use Rattle.rv_base.specs.{Shelf.Shelf, declared.entries.Entry.Entry}
 
 -- What the entries hold: of those of one name the newest counts.
 abbrev pub shelf_of : List Entry → Shelf

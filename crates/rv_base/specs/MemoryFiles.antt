@@ -1,8 +1,6 @@
 -- Files in memory as their callers see them.
 use Rattle.std.specs.Prelude.{ℕ, List}
-use Rattle.rv_base.specs.Shelf.{Shelf}
-use Rattle.rv_base.specs.Entries.{shelf_of}
-use Rattle.rv_base.specs.declared.memory_files.MemoryFiles.{MemoryFiles}
+use Rattle.rv_base.specs.{Shelf.Shelf, Entries.shelf_of, declared.memory_files.MemoryFiles.MemoryFiles}
 
 -- What the files hold.
 abbrev pub held_by : MemoryFiles → Shelf

@@ -1,9 +1,6 @@
 -- What files hold: bytes under names, which are texts.
-use Rattle.std.specs.Prelude.{◌≡◌, ℕ, ◌+◌, List, take, ⊤, IsSomeAnd}
-use Rattle.std.specs.Prelude.{Option, None, Some}
-use Rattle.std.specs.Ordering.{nat_cmp}
-use Rattle.std.specs.Cmp.Lexicographic.{slice_cmp}
-use Rattle.std.specs.FinMap.{FinMap, get}
+use Rattle.std.specs.Prelude.{◌≡◌, ℕ, ◌+◌, List, take, ⊤, IsSomeAnd, Option, None, Some}
+use Rattle.std.specs.{Ordering.nat_cmp, Cmp.Lexicographic.slice_cmp, FinMap.FinMap, FinMap.get}
 
 -- A finite map from the bytes of a name to the bytes of a file.
 abbrev pub Shelf : Type 0

@@ -1,7 +1,5 @@
 -- Files in memory that never fail, as their callers see them.
-use Rattle.rv_base.specs.Shelf.{Shelf}
-use Rattle.rv_base.specs.Entries.{shelf_of}
-use Rattle.rv_base.specs.declared.sure_files.SureFiles.{SureFiles}
+use Rattle.rv_base.specs.{Shelf.Shelf, Entries.shelf_of, declared.sure_files.SureFiles.SureFiles}
 
 -- What the files hold.
 abbrev pub held_by : SureFiles → Shelf

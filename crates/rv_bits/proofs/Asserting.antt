@@ -1,28 +1,19 @@
 -- Assertions read in their order.
-use Rattle.std.proofs.Common.{◌≡◌, ℕ, ◌+◌, ◌<◌, ◌≤◌, Bool, true, false, ◌&&◌, cond, List, ◌∷◌, length, drop, refl, sym, ◌∙◌, ap, Option, Some}
-use Rattle.std.proofs.Common.{None as Nothing}
+use Rattle.std.proofs.Common.{◌≡◌, ℕ, ◌+◌, ◌<◌, ◌≤◌, Bool, true, false, ◌&&◌, cond, List, ◌∷◌, length, drop, refl, sym, ◌∙◌, ap, Option, Some, None as Nothing}
 use Rattle.std.proofs.Math.ListN.{drop_of_length-le}
 use Rattle.rv_base.specs.declared.value.Value.TheVariants.{Flag}
 use Rattle.rv_types.specs.declared.typed.Kind.TheVariants as kind
 use Rattle.rv_diagram.specs.Nodes.{Valuation, Diagrams, Answers, IsRef, value_of}
-use Rattle.rv_agreement.specs.Agreement.{ItemFits, IsNamed}
-use Rattle.rv_agreement.specs.Trees.{FlatTree, Item}
 use Rattle.rv_agreement.specs.Valuations.{Reading, Truth, holds_true, read, IsSymbolic}
-use Rattle.rv_control.specs.Control.{all_met}
-use Rattle.rv_control.specs.Named.{named}
-use Rattle.rv_flat.specs.declared.flat.Flat.{Flat}
-use Rattle.rv_flat.specs.FlatInstants.{system_of}
-use Rattle.rv_flat.specs.RawTree.{RawTree, Node, Constant, Flow}
-use Rattle.rv_flat.specs.Systems.{asserted_on}
+use Rattle.rv_agreement.specs.{Agreement.ItemFits, Agreement.IsNamed, Trees.FlatTree, Trees.Item}
+use Rattle.rv_control.specs.{Control.all_met, Named.named}
+use Rattle.rv_flat.specs.{declared.flat.Flat.Flat, FlatInstants.system_of, RawTree.RawTree, RawTree.Node, RawTree.Constant, RawTree.Flow, Systems.asserted_on}
 use Rattle.rv_symbolic.specs.Growing.{Extends, Makes}
 use Rattle.rv_symbolic.proofs.Extending.{extends_trans}
-use Rattle.rv_bits.specs.declared.around.FlowRefs.{FlowRefs}
-use Rattle.rv_bits.specs.declared.assertions.Guard.TheVariants as guard
 use Rattle.rv_bits.specs.Asserted.{is_true_tree, guard_tree, guarded, met_at, IsMetRead, AreMetRead}
-use Rattle.rv_bits.specs.Bits.{bit}
-use Rattle.rv_bits.specs.Shown.{clock_bit, is_there_at, AreFlowRefs, ReadsTo}
-use Rattle.rv_bits.proofs.Showing.{shows_truth}
-use Rattle.rv_bits.proofs.Labels.{and_step}
+use Rattle.rv_bits.specs.{declared.around.FlowRefs.FlowRefs, Bits.bit, Shown.clock_bit, Shown.is_there_at, Shown.AreFlowRefs, Shown.ReadsTo}
+use Rattle.rv_bits.specs.declared.assertions.Guard.TheVariants as guard
+use Rattle.rv_bits.proofs.{Showing.shows_truth, Labels.and_step}
 
 neither : (b : Bool) (whole body : RawTree) → guarded whole (cond b guard.Neither guard.Neither) body ≡ (Nothing, whole)
 neither true whole body = refl

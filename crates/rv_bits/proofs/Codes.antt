@@ -1,11 +1,9 @@
 -- Numbers and their bits.
 use Rattle.std.proofs.Common.{◌≡◌, ◌⊎◌, ℕ, zero, suc, ◌+◌, ◌*◌, ◌/◌, ◌%◌, ◌^◌, ◌<◌, ◌≤◌, Bool, true, false, ◌&&◌, ◌||◌, cond, nat_eq, nat_le, nat_lt, refl, sym}
 use Rattle.std.proofs.Common.{◌∙◌, ap, subst, arith, add_comm, inl, inr}
-use Rattle.std.proofs.Math.Nat.{pow-succ', mod-eq_of_lt, eq-or-lt_of_le}
-use Rattle.std.proofs.Math.Arith.{mod-mul}
 use Rattle.std.proofs.lemmas.Bool.{leb-true, le-leb, ltb-true, lt-ltb, eqb-true, eqb-false, eq-eqb, ne_eqb, cases_Bool, cases_lt, and_parts, and_from}
-use Rattle.std.proofs.lemmas.Nat.{pow_pos}
-use Rattle.std.proofs.lemmas.Nat.Bits.{bit_at-lt, bit_at_above, same_from_bits}
+use Rattle.std.proofs.{Math.Nat.pow-succ', Math.Nat.mod-eq_of_lt, Math.Nat.eq-or-lt_of_le, Math.Arith.mod-mul, lemmas.Nat.pow_pos, lemmas.Nat.Bits.bit_at-lt}
+use Rattle.std.proofs.{lemmas.Nat.Bits.bit_at_above, lemmas.Nat.Bits.same_from_bits}
 use Rattle.std.specs.Int.{bit_at}
 use Rattle.rv_types.specs.Variables.{bits_for}
 use Rattle.rv_meaning.specs.Codes.{code}

@@ -1,6 +1,5 @@
 -- Expressions that fit the first flows.
-use Rattle.std.proofs.Common.{ℕ, ◌≤◌, arith, Option, Some}
-use Rattle.std.proofs.Common.{None as Nothing}
+use Rattle.std.proofs.Common.{ℕ, ◌≤◌, arith, Option, Some, None as Nothing}
 use Rattle.rv_tree.specs.Places.{Sites}
 use Rattle.rv_types.specs.declared.typed.Kind.{Kind}
 use Rattle.rv_types.specs.declared.typed.Kind.TheVariants as kind

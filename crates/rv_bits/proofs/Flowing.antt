@@ -1,34 +1,21 @@
 -- The flows read in their order.
 use Rattle.std.proofs.Common.{◌≡◌, ◌⊎◌, ℕ, ◌+◌, ◌<◌, ◌≤◌, Bool, true, false, ◌&&◌, cond, List, [], ◌∷◌, ◌++◌, length, refl, sym, ◌∙◌, ap, subst, arith, inl}
-use Rattle.std.proofs.Common.{inr, length-append, Option, Some}
-use Rattle.std.proofs.Common.{None as Nothing}
-use Rattle.std.proofs.lemmas.Bool.{cases_lt}
-use Rattle.std.proofs.Math.ListN.{get_or-eq_default}
+use Rattle.std.proofs.Common.{inr, length-append, Option, Some, None as Nothing}
+use Rattle.std.proofs.{lemmas.Bool.cases_lt, Math.ListN.get_or-eq_default}
 use Rattle.rv_types.specs.declared.typed.Kind.{Kind}
 use Rattle.rv_types.specs.declared.typed.Kind.TheVariants as kind
-use Rattle.rv_diagram.specs.declared.Triple.{Triple}
-use Rattle.rv_diagram.specs.Nodes.{Valuation, Diagrams, IsRef, value_of}
-use Rattle.rv_diagram.specs.Several.{ref_at}
-use Rattle.rv_agreement.specs.Agreement.{Fits, IsNamed, IsWell}
-use Rattle.rv_agreement.specs.Evaluation.{is_on, nth}
+use Rattle.rv_diagram.specs.{declared.Triple.Triple, Nodes.Valuation, Nodes.Diagrams, Nodes.IsRef, Nodes.value_of, Several.ref_at}
 use Rattle.rv_agreement.specs.Trees.{FlatTree, Item, nth_item, kind_at}
 use Rattle.rv_agreement.specs.Valuations.{Reading, Truth, Name, Linear, holds_true, reads_at, read, IsSymbolic}
-use Rattle.rv_flat.specs.declared.flat.Flat.{Flat}
-use Rattle.rv_flat.specs.FlatInstants.{system_of}
+use Rattle.rv_agreement.specs.{Agreement.Fits, Agreement.IsNamed, Agreement.IsWell, Evaluation.is_on, Evaluation.nth}
+use Rattle.rv_flat.specs.{declared.flat.Flat.Flat, FlatInstants.system_of}
 use Rattle.rv_control.specs.Named.{named}
-use Rattle.rv_symbolic.specs.Growing.{Extends}
-use Rattle.rv_symbolic.specs.Linked.{AreRefs}
+use Rattle.rv_symbolic.specs.{Growing.Extends, Linked.AreRefs}
 use Rattle.rv_symbolic.proofs.Extending.{extends_refl, extends_trans, refs_after}
-use Rattle.rv_bits.specs.declared.around.FlowRefs.{FlowRefs}
-use Rattle.rv_bits.specs.Bits.{bit}
-use Rattle.rv_bits.specs.Flows.{on_bit, AreFlowsRead, AreAfters}
 use Rattle.rv_bits.specs.Shown.{Shows, refs_at, is_there_at, clock_bit, AreFlowRefs, IsAfter, ReadsTo}
-use Rattle.rv_bits.specs.Reads.{ShowsTo}
-use Rattle.rv_bits.proofs.Making.{any_ref, refs_more, ref_before, ref_last, bits_kept}
-use Rattle.rv_bits.proofs.Showing.{shows_kept, shows_truth}
-use Rattle.rv_bits.proofs.Keeping.{flows_kept, one_after_kept}
-use Rattle.rv_bits.proofs.Listing.{element_before, element_last}
-use Rattle.rv_bits.proofs.Fitting.{fits_more}
+use Rattle.rv_bits.specs.{declared.around.FlowRefs.FlowRefs, Bits.bit, Flows.on_bit, Flows.AreFlowsRead, Flows.AreAfters, Reads.ShowsTo}
+use Rattle.rv_bits.proofs.{Making.any_ref, Making.refs_more, Making.ref_before, Making.ref_last, Making.bits_kept, Showing.shows_kept, Showing.shows_truth}
+use Rattle.rv_bits.proofs.{Keeping.flows_kept, Keeping.one_after_kept, Listing.element_before, Listing.element_last, Fitting.fits_more}
 use Rattle.rv_base.proofs.Options.{some_same}
 use Rattle.rv_types.proofs.ChainLaws.{no_flag}
 

@@ -1,36 +1,22 @@
 -- What is shown stays shown as the store grows.
 use Rattle.std.proofs.Common.{◌≡◌, ℕ, zero, suc, ◌+◌, ◌<◌, ◌≤◌, Bool, true, cond, List, [], ◌∷◌, ◌++◌, length, map, drop, refl, sym, ◌∙◌, ap, subst, arith, inl}
-use Rattle.std.proofs.Common.{inr, Option, Some, Result, Ok, Err, IfOk, OnOk}
-use Rattle.std.proofs.Common.{None as Nothing}
-use Rattle.std.specs.Prelude.{slice_get, slice_set, slice_index_or}
-use Rattle.std.proofs.lemmas.Bool.{cases_eq}
+use Rattle.std.proofs.Common.{inr, Option, Some, Result, Ok, Err, IfOk, OnOk, None as Nothing}
 use Rattle.std.proofs.lemmas.List.{get_or-set_same, get_or-set_other, length-set, length-map, length-append}
-use Rattle.std.proofs.Math.ListN.{drop_of_length-le}
+use Rattle.std.proofs.{lemmas.Bool.cases_eq, Math.ListN.drop_of_length-le}
+use Rattle.std.specs.Prelude.{slice_get, slice_set, slice_index_or}
 use Rattle.rv_types.specs.declared.typed.Kind.TheVariants as kind
-use Rattle.rv_diagram.specs.declared.Triple.{Triple}
-use Rattle.rv_diagram.specs.Nodes.{Valuation, Diagrams, value_of}
-use Rattle.rv_diagram.specs.Several.{ref_at}
-use Rattle.rv_agreement.specs.Agreement.{Fits, AllFit}
-use Rattle.rv_agreement.specs.Trees.{More, Kept, nth_item, memory_items, kind_at, memory_kinds}
-use Rattle.rv_agreement.specs.Valuations.{Reading, Truth, holds_true, read, IsSymbolic}
-use Rattle.rv_flat.specs.declared.flat.Flat.{Flat}
-use Rattle.rv_flat.specs.declared.parts.FlatExpr.{FlatExpr}
-use Rattle.rv_flat.specs.declared.parts.FlatMemory.{FlatMemory}
-use Rattle.rv_flat.specs.Inlined.{IsTable, tree_among}
-use Rattle.rv_flat.specs.Systems.{kept_of, memory_item}
-use Rattle.rv_flat.specs.FlatInstants.{system_of}
+use Rattle.rv_diagram.specs.{declared.Triple.Triple, Nodes.Valuation, Nodes.Diagrams, Nodes.value_of, Several.ref_at}
+use Rattle.rv_agreement.specs.{Agreement.Fits, Agreement.AllFit, Trees.More, Trees.Kept, Trees.nth_item, Trees.memory_items, Trees.kind_at, Trees.memory_kinds}
+use Rattle.rv_agreement.specs.{Valuations.Reading, Valuations.Truth, Valuations.holds_true, Valuations.read, Valuations.IsSymbolic}
+use Rattle.rv_flat.specs.{declared.flat.Flat.Flat, declared.parts.FlatExpr.FlatExpr, declared.parts.FlatMemory.FlatMemory, Inlined.IsTable, Inlined.tree_among}
+use Rattle.rv_flat.specs.{Systems.kept_of, Systems.memory_item, FlatInstants.system_of}
 use Rattle.rv_control.specs.Named.{named}
-use Rattle.rv_symbolic.specs.Growing.{Extends}
-use Rattle.rv_symbolic.specs.Linked.{AreRefs}
+use Rattle.rv_symbolic.specs.{Growing.Extends, Linked.AreRefs}
 use Rattle.rv_symbolic.proofs.Extending.{extends_refl, refs_after}
-use Rattle.rv_bits.specs.declared.around.Around.{Around}
-use Rattle.rv_bits.specs.declared.around.Tables.{Tables}
-use Rattle.rv_bits.specs.declared.around.FlowRefs.{FlowRefs}
-use Rattle.rv_bits.specs.Bits.{bit, count_true}
 use Rattle.rv_bits.specs.Shown.{refs_at, found, is_there_at, AreTables, AreFlowRefs, IsAfter, AreAfter, IsAround, ReadsTo}
 use Rattle.rv_bits.specs.Reads.{trees_in, tree_in, true_at, ShowsTo}
-use Rattle.rv_bits.proofs.Making.{any_ref, bits_kept, ref_before, ref_last}
-use Rattle.rv_bits.proofs.Showing.{shows_same, shows_kept, shows_truth}
+use Rattle.rv_bits.specs.{declared.around.Around.Around, declared.around.Tables.Tables, declared.around.FlowRefs.FlowRefs, Bits.bit, Bits.count_true}
+use Rattle.rv_bits.proofs.{Making.any_ref, Making.bits_kept, Making.ref_before, Making.ref_last, Showing.shows_same, Showing.shows_kept, Showing.shows_truth}
 use Rattle.rv_base.proofs.Options.{some_same}
 
 pub tables_kept : (f : Flat) (a b : Diagrams) (t : Tables) → Extends a b → AreTables f a.nodes t → AreTables f b.nodes t

@@ -1,15 +1,12 @@
 -- Codes that name labels, and ticks that have not been.
 use Rattle.std.proofs.Common.{◌≡◌, ℕ, suc, ◌+◌, ◌<◌, ◌≤◌, Bool, true, false, not, ◌&&◌, nat_lt, List, ◌∷◌, length, drop, refl, ◌∙◌, ap, arith, Option}
-use Rattle.std.specs.Prelude.{slice_index_or}
 use Rattle.std.proofs.Math.ListN.{drop_of_length-le}
+use Rattle.std.specs.Prelude.{slice_index_or}
 use Rattle.rv_tree.specs.Places.{Sites}
-use Rattle.rv_types.specs.declared.typed.Kind.{Kind}
+use Rattle.rv_types.specs.{declared.typed.Kind.Kind, Variables.bits_for}
 use Rattle.rv_types.specs.declared.typed.Kind.TheVariants as kind
-use Rattle.rv_types.specs.Variables.{bits_for}
 use Rattle.rv_diagram.specs.Nodes.{Valuation as Numbered, Diagrams, Answers, IsRef, value_of}
-use Rattle.rv_agreement.specs.Agreement.{bit_count}
-use Rattle.rv_agreement.specs.Trees.{Kept}
-use Rattle.rv_agreement.specs.Valuations.{Valuation}
+use Rattle.rv_agreement.specs.{Agreement.bit_count, Trees.Kept, Valuations.Valuation}
 use Rattle.rv_control.specs.Control.{names_label, memories_named, inputs_named, none_ticked}
 use Rattle.rv_symbolic.specs.Growing.{Extends, Makes}
 use Rattle.rv_symbolic.proofs.Extending.{extends_refl}

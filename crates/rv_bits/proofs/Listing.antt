@@ -1,26 +1,19 @@
 -- Lists of references that grow.
 use Rattle.std.proofs.Common.{◌≡◌, ℕ, ◌+◌, ◌<◌, Bool, ◌&&◌, nat_lt, List, [], ◌∷◌, ◌++◌, length, map, drop, refl, sym, ◌∙◌, ap, subst, arith, inl, inr}
-use Rattle.std.proofs.Common.{length-append, Option, Some}
-use Rattle.std.proofs.Common.{None as Nothing}
-use Rattle.std.specs.Prelude.{slice_index_or}
-use Rattle.std.proofs.lemmas.Bool.{cases_lt, lt-ltb}
+use Rattle.std.proofs.Common.{length-append, Option, Some, None as Nothing}
 use Rattle.std.proofs.lemmas.List.{get_or_append_left, get_or-map, append-nil, append_assoc}
-use Rattle.std.proofs.Math.Seq.{get_or-append_seam}
+use Rattle.std.proofs.{lemmas.Bool.cases_lt, lemmas.Bool.lt-ltb, Math.Seq.get_or-append_seam}
+use Rattle.std.specs.Prelude.{slice_index_or}
 use Rattle.rv_tree.specs.Places.{Sites}
-use Rattle.rv_types.specs.declared.typed.Kind.{Kind}
-use Rattle.rv_types.specs.Lists.{Variable}
-use Rattle.rv_diagram.specs.Nodes.{Valuation, Diagrams, value_of}
-use Rattle.rv_diagram.specs.Several.{ref_at}
+use Rattle.rv_types.specs.{declared.typed.Kind.Kind, Lists.Variable}
+use Rattle.rv_diagram.specs.{Nodes.Valuation, Nodes.Diagrams, Nodes.value_of, Several.ref_at}
 use Rattle.rv_agreement.specs.Agreement.{bit_count}
-use Rattle.rv_flat.specs.declared.parts.Bit.{Bit}
+use Rattle.rv_flat.specs.{declared.parts.Bit.Bit, Lists.tick_places}
 use Rattle.rv_flat.specs.declared.parts.Bit.TheVariants as variant
-use Rattle.rv_flat.specs.Lists.{tick_places}
 use Rattle.rv_control.specs.Named.{truth_at, tick_variable}
 use Rattle.rv_symbolic.specs.Growing.{Extends, Makes}
 use Rattle.rv_symbolic.proofs.Extending.{extends_refl, extends_trans, refs_after}
-use Rattle.rv_bits.specs.Bits.{Spells}
-use Rattle.rv_bits.specs.Shown.{refs_at}
-use Rattle.rv_bits.specs.Tables.{AreTickRefs, AreBits, AreBitLists, ticks_in}
+use Rattle.rv_bits.specs.{Bits.Spells, Shown.refs_at, Tables.AreTickRefs, Tables.AreBits, Tables.AreBitLists, Tables.ticks_in}
 use Rattle.rv_bits.proofs.Making.{any_ref, refs_more, ref_before, ref_last, bits_kept}
 
 pub element_before : {A : Type 0} (xs : List A) (y d : A) (k : ℕ) → k < length xs → slice_index_or (xs ++ y ∷ []) k d ≡ slice_index_or xs k d

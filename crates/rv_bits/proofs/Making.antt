@@ -1,19 +1,12 @@
 -- What calls of the store make of references.
 use Rattle.std.proofs.Common.{◌≡◌, ℕ, suc, ◌+◌, ◌-◌, ◌*◌, ◌/◌, ◌%◌, ◌^◌, ◌<◌, ◌≤◌, Bool, true, false, not, ◌&&◌, ◌||◌, cond, nat_eq, nat_le, nat_lt, max, List}
 use Rattle.std.proofs.Common.{[], ◌∷◌, ◌++◌, length, refl, sym, ◌∙◌, ap, subst, arith, length-append, inl, inr}
-use Rattle.std.proofs.lemmas.Bool.{cases_lt}
-use Rattle.std.proofs.lemmas.List.{get_or_append_left}
-use Rattle.std.proofs.Math.ListN.{get_or-eq_default}
-use Rattle.std.proofs.Math.Seq.{get_or-append_seam}
-use Rattle.rv_diagram.specs.declared.Triple.{Triple}
-use Rattle.rv_diagram.specs.Nodes.{Valuation, Diagrams, Answers, IsRef, value_of, choice}
-use Rattle.rv_diagram.specs.Several.{ref_at}
-use Rattle.rv_diagram.proofs.Calls.{value_of-false, value_of-true}
-use Rattle.rv_symbolic.specs.Growing.{Extends, Makes}
-use Rattle.rv_symbolic.specs.Linked.{AreRefs}
-use Rattle.rv_symbolic.proofs.Extending.{extends_trans, grows_extends}
 use Rattle.std.proofs.Math.Nat.{pow-succ', le-max_left, le-max_right, mul_comm, div-div-eq-div-mul, lt-div-mul-add}
-use Rattle.std.proofs.lemmas.Nat.{pow_pos}
+use Rattle.std.proofs.{lemmas.Bool.cases_lt, lemmas.List.get_or_append_left, Math.ListN.get_or-eq_default, Math.Seq.get_or-append_seam, lemmas.Nat.pow_pos}
+use Rattle.rv_diagram.specs.{declared.Triple.Triple, Nodes.Valuation, Nodes.Diagrams, Nodes.Answers, Nodes.IsRef, Nodes.value_of, Nodes.choice, Several.ref_at}
+use Rattle.rv_diagram.proofs.Calls.{value_of-false, value_of-true}
+use Rattle.rv_symbolic.specs.{Growing.Extends, Growing.Makes, Linked.AreRefs}
+use Rattle.rv_symbolic.proofs.Extending.{extends_trans, grows_extends}
 use Rattle.rv_meaning.specs.Codes.{code}
 use Rattle.rv_types.specs.Variables.{bits_for}
 use Rattle.rv_bits.specs.Bits.{bit, bit_of, is_same, are_same, count_true, Spells, AreCounted}

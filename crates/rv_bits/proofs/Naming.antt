@@ -1,11 +1,9 @@
 -- Variables found by their names, and how many bits a type has.
 use Rattle.std.proofs.Common.{◌≡◌, ◌⊎◌, ℕ, zero, suc, ◌+◌, ◌-◌, ◌^◌, ◌<◌, ◌≤◌, true, false, cond, nat_le, List, [], ◌∷◌, length, map, get_or, refl, sym, ◌∙◌}
-use Rattle.std.proofs.Common.{ap, subst, arith, inl, inr, Some}
-use Rattle.std.proofs.Common.{None as Nothing}
-use Rattle.std.specs.Prelude.{slice_get}
+use Rattle.std.proofs.Common.{ap, subst, arith, inl, inr, Some, None as Nothing}
 use Rattle.std.proofs.lemmas.Bool.{and_parts, leb-true, le-leb, cases_Bool}
-use Rattle.rv_types.specs.Lists.{Variable, Next}
-use Rattle.rv_types.specs.Variables.{bits_from}
+use Rattle.std.specs.Prelude.{slice_get}
+use Rattle.rv_types.specs.{Lists.Variable, Lists.Next, Variables.bits_from}
 use Rattle.rv_diagram.specs.Nodes.{Valuation}
 use Rattle.rv_flat.specs.Facts.{all_few}
 use Rattle.rv_control.specs.Named.{same_variable, truth_at}

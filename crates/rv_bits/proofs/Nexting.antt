@@ -1,42 +1,26 @@
 -- What the state bits are after the instant.
-use Rattle.std.proofs.Common.{◌≡◌, ℕ, zero, suc, ◌+◌, ◌*◌, ◌<◌, ◌≤◌, Bool, true, false, cond, nat_eq, List, [], ◌∷◌, ◌++◌, length, map, drop, refl, sym}
-use Rattle.std.proofs.Common.{◌∙◌, ap, subst, arith, inl, inr, length-append, Option, Some}
-use Rattle.std.proofs.Common.{None as Nothing}
-use Rattle.std.specs.Prelude.{slice_get, slice_index_or}
+use Rattle.std.proofs.Common.{◌≡◌, ℕ, zero, suc, ◌+◌, ◌*◌, ◌<◌, ◌≤◌, Bool, true, false, cond, nat_eq, List, [], ◌∷◌, ◌++◌, length, map, drop, refl, sym, ◌∙◌}
+use Rattle.std.proofs.Common.{ap, subst, arith, inl, inr, length-append, Option, Some, None as Nothing}
 use Rattle.std.proofs.lemmas.Bool.{and_parts, eqb-true, cases_lt}
-use Rattle.std.proofs.Math.ListN.{drop_of_length-le}
-use Rattle.std.proofs.lemmas.List.{length-map}
-use Rattle.std.proofs.lemmas.Option.{slice_get_within}
+use Rattle.std.proofs.{Math.ListN.drop_of_length-le, lemmas.List.length-map, lemmas.Option.slice_get_within}
+use Rattle.std.specs.Prelude.{slice_get, slice_index_or}
 use Rattle.rv_tree.specs.Places.{Sites, is_same, index_of}
 use Rattle.rv_types.specs.declared.typed.Kind.{Kind}
 use Rattle.rv_types.specs.declared.typed.Kind.TheVariants as kind
 use Rattle.rv_types.specs.Lists as lists
-use Rattle.rv_diagram.specs.declared.Triple.{Triple}
-use Rattle.rv_diagram.specs.Nodes.{Valuation, Diagrams, IsRef, value_of}
-use Rattle.rv_diagram.specs.Several.{ref_at}
+use Rattle.rv_diagram.specs.{declared.Triple.Triple, Nodes.Valuation, Nodes.Diagrams, Nodes.IsRef, Nodes.value_of, Several.ref_at}
 use Rattle.rv_diagram.proofs.Calls.{value_of-false}
-use Rattle.rv_agreement.specs.Evaluation.{after}
-use Rattle.rv_agreement.specs.Trees.{Item, Kept, no_item, nth_item, memory_items, memory_kinds, kind_at}
 use Rattle.rv_agreement.specs.Valuations.{Reading, Truth, Name, Linear, reads_at, found_at, updated, IsSymbolic}
-use Rattle.rv_control.specs.Control.{bit_of, state_bits, tick_index, next_truth}
-use Rattle.rv_control.specs.Named.{named, same_variable}
-use Rattle.rv_flat.specs.declared.flat.Flat.{Flat}
-use Rattle.rv_flat.specs.declared.parts.Bit.{Bit}
-use Rattle.rv_flat.specs.declared.parts.Bit.TheVariants as variant
-use Rattle.rv_flat.specs.declared.parts.FlatMemory.{FlatMemory}
-use Rattle.rv_flat.specs.Systems.{kept_of}
-use Rattle.rv_flat.specs.FlatInstants.{system_of}
+use Rattle.rv_agreement.specs.{Evaluation.after, Trees.Item, Trees.Kept, Trees.no_item, Trees.nth_item, Trees.memory_items, Trees.memory_kinds, Trees.kind_at}
+use Rattle.rv_control.specs.{Control.bit_of, Control.state_bits, Control.tick_index, Control.next_truth, Named.named, Named.same_variable}
 use Rattle.rv_flat.specs.Lists.{variable_of, tick_places}
-use Rattle.rv_symbolic.specs.Growing.{Extends}
-use Rattle.rv_symbolic.specs.Linked.{AreRefs}
+use Rattle.rv_flat.specs.{declared.flat.Flat.Flat, declared.parts.Bit.Bit, declared.parts.FlatMemory.FlatMemory, Systems.kept_of, FlatInstants.system_of}
+use Rattle.rv_flat.specs.declared.parts.Bit.TheVariants as variant
+use Rattle.rv_symbolic.specs.{Growing.Extends, Linked.AreRefs}
 use Rattle.rv_symbolic.proofs.Extending.{extends_trans}
 use Rattle.rv_bits.specs.Following.{copies_in, kept_ref, variable_at, IsNextRead, AreNextRead}
-use Rattle.rv_bits.specs.Flows.{AreAfters}
-use Rattle.rv_bits.specs.Shown.{Shows, IsAfter, refs_at}
-use Rattle.rv_bits.proofs.Keeping.{one_after_kept}
-use Rattle.rv_bits.specs.Tables.{ticks_in}
-use Rattle.rv_bits.proofs.Making.{any_ref, ref_before, ref_last}
-use Rattle.rv_bits.proofs.Showing.{shows_truth}
+use Rattle.rv_bits.specs.{Flows.AreAfters, Shown.Shows, Shown.IsAfter, Shown.refs_at, Tables.ticks_in}
+use Rattle.rv_bits.proofs.{Keeping.one_after_kept, Making.any_ref, Making.ref_before, Making.ref_last, Showing.shows_truth}
 use Rattle.rv_types.proofs.ChainLaws.{no_flag}
 
 -- one variable more is counted

@@ -1,21 +1,15 @@
 -- What references show of expressions, form by form.
 use Rattle.std.proofs.Common.{◌≡◌, ℕ, zero, suc, ◌^◌, ◌<◌, ◌≤◌, Bool, true, false, not, ◌&&◌, ◌||◌, cond, nat_eq, nat_le, max, List, [], ◌∷◌, length, refl, sym}
-use Rattle.std.proofs.Common.{◌∙◌, ap, subst, arith, Option, Some}
-use Rattle.std.proofs.Common.{None as Nothing}
-use Rattle.std.specs.Prelude.{ℤ}
+use Rattle.std.proofs.Common.{◌∙◌, ap, subst, arith, Option, Some, None as Nothing}
 use Rattle.std.proofs.Math.Nat.{le-max_left, le-max_right}
+use Rattle.std.specs.Prelude.{ℤ}
 use Rattle.rv_base.specs.declared.value.Value.{Value}
 use Rattle.rv_base.specs.declared.value.Value.TheVariants.{Flag, Label, Whole}
-use Rattle.rv_tree.specs.declared.tree.Op.{Op}
+use Rattle.rv_tree.specs.{declared.tree.Op.Op, Places.Sites}
 use Rattle.rv_tree.specs.declared.tree.Op.TheVariants as op
-use Rattle.rv_tree.specs.Places.{Sites}
-use Rattle.rv_types.specs.declared.typed.Kind.{Kind}
+use Rattle.rv_types.specs.{declared.typed.Kind.Kind, Lists.Variable, Lists.Test, Lists.AtMost, Lists.AtLeast, Lists.Side, Variables.is_integer}
 use Rattle.rv_types.specs.declared.typed.Kind.TheVariants as kind
-use Rattle.rv_types.specs.Lists.{Variable, Test, AtMost, AtLeast, Side}
-use Rattle.rv_types.specs.Variables.{is_integer}
-use Rattle.rv_diagram.specs.declared.Triple.{Triple}
-use Rattle.rv_diagram.specs.Nodes.{Valuation, Diagrams, IsRef, value_of}
-use Rattle.rv_diagram.specs.Several.{ref_at}
+use Rattle.rv_diagram.specs.{declared.Triple.Triple, Nodes.Valuation, Nodes.Diagrams, Nodes.IsRef, Nodes.value_of, Several.ref_at}
 use Rattle.rv_diagram.proofs.Calls.{value_of-false}
 use Rattle.rv_agreement.specs.Agreement.{Fits, HasKind, IsRule, IsPlaced, IsNamed, IsWell}
 use Rattle.rv_agreement.specs.Evaluation.{is_on, held, nth}
@@ -23,21 +17,14 @@ use Rattle.rv_agreement.specs.Trees.{FlatTree, Node, FlatTrees, Constant, Flow, 
 use Rattle.rv_agreement.specs.Trees.{nth_item, memory_items, memory_kinds, kind_at}
 use Rattle.rv_agreement.specs.Valuations.{Reading, Truth, Name, Linear, holds_true, is_linear, is_placed, is_same, operated, constant_reading, width, reads_at}
 use Rattle.rv_agreement.specs.Valuations.{read, updated, IsSymbolic}
-use Rattle.rv_flat.specs.declared.flat.Flat.{Flat}
-use Rattle.rv_flat.specs.FlatInstants.{system_of}
+use Rattle.rv_flat.specs.{declared.flat.Flat.Flat, FlatInstants.system_of}
 use Rattle.rv_control.specs.Named.{named, variables_of, truth_at}
-use Rattle.rv_symbolic.specs.Growing.{Extends, Makes}
-use Rattle.rv_symbolic.specs.Linked.{AreRefs}
+use Rattle.rv_symbolic.specs.{Growing.Extends, Growing.Makes, Linked.AreRefs}
 use Rattle.rv_symbolic.proofs.Extending.{extends_refl, extends_trans}
-use Rattle.rv_bits.specs.declared.around.Tables.{Tables}
-use Rattle.rv_bits.specs.declared.around.FlowRefs.{FlowRefs}
-use Rattle.rv_bits.specs.Bits.{bit, bit_of, are_same, count_true, Spells, IsSingle}
-use Rattle.rv_bits.specs.Constants.{constant_bit}
-use Rattle.rv_bits.specs.Operators.{same_by, operated_by}
 use Rattle.rv_bits.specs.Shown.{IsNumber, as_number, Shows, refs_at, found, is_there_at, AreTables, AreFlowRefs, ReadsTo, clock_bit}
-use Rattle.rv_bits.specs.Reads.{AreCountedIn, ShowsTo, true_at}
-use Rattle.rv_bits.proofs.Codes.{bit_past, same_numbers}
-use Rattle.rv_bits.proofs.Making.{any_ref, bit_none, bits_kept}
+use Rattle.rv_bits.specs.{declared.around.Tables.Tables, declared.around.FlowRefs.FlowRefs, Bits.bit, Bits.bit_of, Bits.are_same, Bits.count_true, Bits.Spells}
+use Rattle.rv_bits.specs.{Bits.IsSingle, Constants.constant_bit, Operators.same_by, Operators.operated_by, Reads.AreCountedIn, Reads.ShowsTo, Reads.true_at}
+use Rattle.rv_bits.proofs.{Codes.bit_past, Codes.same_numbers, Making.any_ref, Making.bit_none, Making.bits_kept}
 use Rattle.rv_types.proofs.ChainLaws.{no_flag}
 
 -- NUMBERS

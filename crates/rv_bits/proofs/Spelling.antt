@@ -1,44 +1,26 @@
 -- Bits that spell what an instant finds.
 use Rattle.std.proofs.Common.{◌≡◌, ℕ, zero, suc, ◌<◌, Bool, List, [], ◌∷◌, length, map, refl, sym, ◌∙◌, ap, subst, arith, inl, inr}
+use Rattle.std.proofs.{lemmas.Bool.cases_lt, lemmas.List.length-map, Math.ListN.get_or-eq_default}
 use Rattle.std.specs.Prelude.{slice_index_or}
-use Rattle.std.proofs.lemmas.Bool.{cases_lt}
-use Rattle.std.proofs.lemmas.List.{length-map}
-use Rattle.std.proofs.Math.ListN.{get_or-eq_default}
 use Rattle.rv_tree.specs.Places.{Sites}
-use Rattle.rv_types.specs.declared.typed.Kind.{Kind}
+use Rattle.rv_types.specs.{declared.typed.Kind.Kind, Lists.Variable, Lists.Input, Variables.bits_for}
 use Rattle.rv_types.specs.declared.typed.Kind.TheVariants as kind
-use Rattle.rv_types.specs.Lists.{Variable, Input}
 use Rattle.rv_types.specs.Lists as lists
-use Rattle.rv_types.specs.Variables.{bits_for}
 use Rattle.rv_meaning.specs.Codes.{code}
 use Rattle.rv_rows.specs.declared.linear.Form.{Form}
-use Rattle.rv_diagram.specs.declared.Triple.{Triple}
-use Rattle.rv_diagram.specs.Nodes.{Valuation, Diagrams}
-use Rattle.rv_diagram.specs.Several.{ref_at}
-use Rattle.rv_agreement.specs.Agreement.{bit_count}
-use Rattle.rv_agreement.specs.Trees.{Kept, kind_at}
+use Rattle.rv_diagram.specs.{declared.Triple.Triple, Nodes.Valuation, Nodes.Diagrams, Several.ref_at}
+use Rattle.rv_agreement.specs.{Agreement.bit_count, Trees.Kept, Trees.kind_at, Valuations.spelled}
 use Rattle.rv_agreement.specs.Trees as trees
-use Rattle.rv_agreement.specs.Valuations.{spelled}
 use Rattle.rv_control.specs.Named.{variables_of, truth_at}
-use Rattle.rv_flat.specs.declared.flat.Flat.{Flat}
-use Rattle.rv_flat.specs.declared.parts.FlatMemory.{FlatMemory}
-use Rattle.rv_flat.specs.declared.parts.FlatInput.{FlatInput}
-use Rattle.rv_flat.specs.FlatInstants.{system_of, memory_places}
-use Rattle.rv_flat.specs.Steps.{label_counts, memory_kinds, input_kinds}
-use Rattle.rv_flat.specs.Systems.{kept_of, tick_flows_of}
-use Rattle.rv_symbolic.specs.Growing.{Extends}
-use Rattle.rv_symbolic.specs.Linked.{AreRefs}
+use Rattle.rv_flat.specs.{declared.flat.Flat.Flat, declared.parts.FlatMemory.FlatMemory, declared.parts.FlatInput.FlatInput, FlatInstants.system_of}
+use Rattle.rv_flat.specs.{FlatInstants.memory_places, Steps.label_counts, Steps.memory_kinds, Steps.input_kinds, Systems.kept_of, Systems.tick_flows_of}
+use Rattle.rv_symbolic.specs.{Growing.Extends, Linked.AreRefs}
 use Rattle.rv_symbolic.proofs.Extending.{extends_trans, refs_after}
-use Rattle.rv_bits.specs.Shown.{IsNumber, as_number, Shows, refs_at}
 use Rattle.rv_bits.specs.Tables.{AreTickRefs, AreBits, AreBitLists, AreAllBits, memory_bit}
-use Rattle.rv_bits.specs.Whole.{AreTablesRead}
-use Rattle.rv_bits.specs.declared.around.Tables.{Tables}
-use Rattle.rv_bits.proofs.Codes.{bit_of_code, bit_past}
-use Rattle.rv_bits.proofs.Making.{any_ref, bit_none}
-use Rattle.rv_bits.proofs.Nexting.{places_same}
+use Rattle.rv_bits.specs.{Shown.IsNumber, Shown.as_number, Shown.Shows, Shown.refs_at, Whole.AreTablesRead, declared.around.Tables.Tables}
+use Rattle.rv_bits.proofs.{Codes.bit_of_code, Codes.bit_past, Making.any_ref, Making.bit_none, Nexting.places_same, Listing.are_bits_kept, Showing.truth_bit}
+use Rattle.rv_bits.proofs.{Showing.truth_small}
 use Rattle.rv_agreement.proofs.Spelled.{code_below}
-use Rattle.rv_bits.proofs.Listing.{are_bits_kept}
-use Rattle.rv_bits.proofs.Showing.{truth_bit, truth_small}
 
 -- the bits of a type spell what a valuation gives it
 pub bits_show : (nodes : List Triple) (names : List Variable) (labels : List ℕ) (j : Kind) (owned : ℕ → Variable) (refs : List ℕ) (v : Valuation) (w : ℕ → Bool)

@@ -2,17 +2,14 @@
 use Rattle.std.proofs.Common.{◌≡◌, ℕ, List, map, sym, ◌∙◌, ap}
 use Rattle.rv_base.specs.declared.value.Value.{Value}
 use Rattle.rv_agreement.specs.Trees.{Node, Constant, Memory, Ticked, Not, If, AtMostOne, When}
-use Rattle.rv_flat.specs.declared.parts.FlatExpr.{FlatExpr}
-use Rattle.rv_flat.specs.declared.parts.FlatForm.{FlatForm}
-use Rattle.rv_flat.specs.declared.parts.FlatForm.TheOpen as step
 use Rattle.rv_flat.specs.declared.parts.FlatForm.TheFolds.{fold-FlatForm, fold_out-FlatExpr, fold-roll-FlatForm}
 use Rattle.rv_flat.specs.declared.parts.FlatForm.TheViews.{rolls-Constant, rolls-Memory, rolls-Ticked, rolls-Not, rolls-If, rolls-AtMostOne, rolls-When}
-use Rattle.rv_flat.specs.declared.parts.FlatForm.TheVariants as form
-use Rattle.rv_flat.specs.Inlined.{inlined, table_of}
 use Rattle.rv_flat.specs.RawTree.{RawTree, RawForm, raw_tree, raw_trees, form_of}
+use Rattle.rv_flat.specs.{declared.parts.FlatExpr.FlatExpr, declared.parts.FlatForm.FlatForm, Inlined.inlined, Inlined.table_of}
+use Rattle.rv_flat.specs.declared.parts.FlatForm.TheOpen as step
+use Rattle.rv_flat.specs.declared.parts.FlatForm.TheVariants as form
 use Rattle.rv_flat.specs.RawTree as raw
-use Rattle.rv_bits.specs.declared.around.Around.{Around}
-use Rattle.rv_bits.specs.Reads.{tree_in, trees_in}
+use Rattle.rv_bits.specs.{declared.around.Around.Around, Reads.tree_in, Reads.trees_in}
 
 abbrev raw_form : FlatForm → RawForm
 raw_form = fold-FlatForm RawForm RawTree form_of (λ e. raw.Node e.at.sites e.form)

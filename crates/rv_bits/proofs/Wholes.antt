@@ -1,10 +1,8 @@
 -- What is read of a whole flat system.
 use Rattle.std.proofs.Common.{◌≡◌, ℕ, Bool, ◌&&◌, List, refl, ◌∙◌, Option}
-use Rattle.rv_diagram.specs.Nodes.{Valuation as Numbered, Diagrams, Answers, IsRef, value_of}
-use Rattle.rv_agreement.specs.Trees.{System}
-use Rattle.rv_agreement.specs.Valuations.{Valuation, Reading}
+use Rattle.rv_diagram.specs.{Nodes.Valuation as Numbered, Nodes.Diagrams, Nodes.Answers, Nodes.IsRef, Nodes.value_of, Several.ref_at}
+use Rattle.rv_agreement.specs.{Trees.System, Valuations.Valuation, Valuations.Reading}
 use Rattle.rv_control.specs.Control.{all_met, inputs_named, is_allowed, is_initial, memories_named, none_ticked}
-use Rattle.rv_diagram.specs.Several.{ref_at}
 use Rattle.rv_flat.specs.declared.flat.Flat.{Flat}
 use Rattle.rv_bits.specs.Following.{AreNextRead}
 use Rattle.rv_bits.proofs.Making.{ref_kept}

@@ -1,18 +1,12 @@
 -- The parts of an assertion: the flow of its clock and its body.
-use Rattle.std.specs.Prelude.{◌≡◌, ℕ, Bool, true, false, List, length, Option, Some}
-use Rattle.std.specs.Prelude.{None as Nothing}
+use Rattle.std.specs.Prelude.{◌≡◌, ℕ, Bool, true, false, List, length, Option, Some, None as Nothing}
 use Rattle.rv_base.specs.declared.value.Value.TheVariants.{Flag}
 use Rattle.rv_types.specs.declared.typed.Kind.TheVariants as kind
 use Rattle.rv_diagram.specs.Nodes.{Valuation, Diagrams, IsRef, value_of}
-use Rattle.rv_agreement.specs.Agreement.{ItemFits}
-use Rattle.rv_agreement.specs.Evaluation.{is_met}
-use Rattle.rv_agreement.specs.Trees.{Item}
 use Rattle.rv_agreement.specs.Valuations.{Reading, reads_at, found_at, IsSymbolic}
-use Rattle.rv_control.specs.Control.{all_met}
-use Rattle.rv_control.specs.Named.{named}
-use Rattle.rv_flat.specs.declared.flat.Flat.{Flat}
-use Rattle.rv_flat.specs.FlatInstants.{system_of}
-use Rattle.rv_flat.specs.RawTree.{RawTree, Node, Constant, Flow}
+use Rattle.rv_agreement.specs.{Agreement.ItemFits, Evaluation.is_met, Trees.Item}
+use Rattle.rv_control.specs.{Control.all_met, Named.named}
+use Rattle.rv_flat.specs.{declared.flat.Flat.Flat, FlatInstants.system_of, RawTree.RawTree, RawTree.Node, RawTree.Constant, RawTree.Flow}
 use Rattle.rv_symbolic.specs.Growing.{Extends}
 use Rattle.rv_bits.specs.declared.assertions.Guard.{Guard}
 use Rattle.rv_bits.specs.declared.assertions.Guard.TheVariants as guard

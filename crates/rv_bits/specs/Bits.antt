@@ -2,11 +2,8 @@
 -- constant false.
 use Rattle.std.specs.Prelude.{◌≡◌, ℕ, zero, suc, ◌+◌, Bool, true, not, ◌&&◌, cond, nat_eq, nat_le, List, [], ◌∷◌}
 use Rattle.std.specs.Int.{bit_at}
-use Rattle.rv_diagram.specs.declared.Triple.{Triple}
-use Rattle.rv_diagram.specs.Nodes.{Valuation, Diagrams, IsRef, value_of}
-use Rattle.rv_diagram.specs.Several.{ref_at}
-use Rattle.rv_symbolic.specs.Growing.{Extends, Makes}
-use Rattle.rv_symbolic.specs.Linked.{AreRefs}
+use Rattle.rv_diagram.specs.{declared.Triple.Triple, Nodes.Valuation, Nodes.Diagrams, Nodes.IsRef, Nodes.value_of, Several.ref_at}
+use Rattle.rv_symbolic.specs.{Growing.Extends, Growing.Makes, Linked.AreRefs}
 
 -- a bit of what some references spell
 abbrev pub bit : List Triple → List ℕ → Valuation → ℕ → Bool

@@ -2,17 +2,11 @@
 use Rattle.std.specs.Prelude.{◌≡◌, ℕ, ◌<◌, Bool, false, ◌&&◌, List, length, Option}
 use Rattle.rv_types.specs.declared.typed.Kind.{Kind}
 use Rattle.rv_types.specs.declared.typed.Kind.TheVariants as kind
-use Rattle.rv_diagram.specs.declared.Triple.{Triple}
-use Rattle.rv_diagram.specs.Nodes.{Valuation, Diagrams, IsRef, value_of}
-use Rattle.rv_flat.specs.declared.flat.Flat.{Flat}
-use Rattle.rv_flat.specs.declared.parts.FlatFlow.{FlatFlow}
+use Rattle.rv_diagram.specs.{declared.Triple.Triple, Nodes.Valuation, Nodes.Diagrams, Nodes.IsRef, Nodes.value_of}
+use Rattle.rv_flat.specs.{declared.flat.Flat.Flat, declared.parts.FlatFlow.FlatFlow}
 use Rattle.rv_symbolic.specs.Growing.{Extends}
-use Rattle.rv_bits.specs.declared.around.Around.{Around}
-use Rattle.rv_bits.specs.declared.around.FlowRefs.{FlowRefs}
-use Rattle.rv_bits.specs.declared.flows.FlowRef.{FlowRef}
-use Rattle.rv_bits.specs.Bits.{bit}
 use Rattle.rv_bits.specs.Shown.{clock_bit, refs_at, AreFlowRefs, IsAfter, ReadsTo}
-use Rattle.rv_bits.specs.Reads.{tree_in}
+use Rattle.rv_bits.specs.{declared.around.Around.Around, declared.around.FlowRefs.FlowRefs, declared.flows.FlowRef.FlowRef, Bits.bit, Reads.tree_in}
 
 -- whether a flow of this type, on this clock, is there and true, by its bits
 abbrev pub on_bit : List Triple → List ℕ → Kind → Option ℕ → List ℕ → Valuation → Bool

@@ -1,19 +1,13 @@
 -- What is read of the state bits after the instant.
 use Rattle.std.specs.Prelude.{◌≡◌, ℕ, ◌*◌, ◌<◌, List, length, Option, slice_index_or}
 use Rattle.rv_tree.specs.Places.{Sites, index_of}
-use Rattle.rv_types.specs.declared.typed.Kind.{Kind}
+use Rattle.rv_types.specs.{declared.typed.Kind.Kind, Lists.Variable, Lists.Next}
 use Rattle.rv_types.specs.declared.typed.Kind.TheVariants as kind
-use Rattle.rv_types.specs.Lists.{Variable, Next}
-use Rattle.rv_diagram.specs.declared.Triple.{Triple}
-use Rattle.rv_diagram.specs.Nodes.{Valuation, Diagrams, IsRef, value_of}
-use Rattle.rv_diagram.specs.Several.{ref_at}
+use Rattle.rv_diagram.specs.{declared.Triple.Triple, Nodes.Valuation, Nodes.Diagrams, Nodes.IsRef, Nodes.value_of, Several.ref_at}
 use Rattle.rv_agreement.specs.Valuations.{Reading, IsSymbolic, next_tick, updated}
-use Rattle.rv_control.specs.Control.{bit_of, next_truth}
-use Rattle.rv_control.specs.Named.{named, variables_of}
-use Rattle.rv_flat.specs.declared.flat.Flat.{Flat}
-use Rattle.rv_flat.specs.declared.parts.Bit.{Bit}
+use Rattle.rv_control.specs.{Control.bit_of, Control.next_truth, Named.named, Named.variables_of}
+use Rattle.rv_flat.specs.{declared.flat.Flat.Flat, declared.parts.Bit.Bit, FlatInstants.memory_places, FlatInstants.system_of}
 use Rattle.rv_flat.specs.declared.parts.Bit.TheVariants as variant
-use Rattle.rv_flat.specs.FlatInstants.{memory_places, system_of}
 use Rattle.rv_symbolic.specs.Growing.{Extends}
 
 -- the variable with a number

@@ -3,9 +3,8 @@ use Rattle.std.specs.Prelude.{ℕ}
 use Rattle.rv_types.specs.Lists.{Variable}
 use Rattle.rv_types.specs.Lists as lists
 use Rattle.rv_flat.specs.Lists.{side_of}
-use Rattle.rv_bits.specs.declared.names.Named.{Named}
+use Rattle.rv_bits.specs.{declared.names.Named.Named, declared.names.Owner.Owner}
 use Rattle.rv_bits.specs.declared.names.Named.TheVariants as name
-use Rattle.rv_bits.specs.declared.names.Owner.{Owner}
 use Rattle.rv_bits.specs.declared.names.Owner.TheVariants as owner
 
 -- the variable of this name

@@ -1,11 +1,9 @@
 -- What operators make of the bits of their operands, and comparisons of integers of their tests.
 use Rattle.std.specs.Prelude.{ℕ, Bool, false, not, ◌&&◌, ◌||◌, cond, max, List, length}
-use Rattle.rv_tree.specs.declared.tree.Op.{Op}
+use Rattle.rv_tree.specs.{declared.tree.Op.Op, Places.Sites}
 use Rattle.rv_tree.specs.declared.tree.Op.TheVariants as op
-use Rattle.rv_tree.specs.Places.{Sites}
 use Rattle.rv_types.specs.Lists.{Variable, Test, AtMost, AtLeast}
-use Rattle.rv_diagram.specs.declared.Triple.{Triple}
-use Rattle.rv_diagram.specs.Nodes.{Valuation}
+use Rattle.rv_diagram.specs.{declared.Triple.Triple, Nodes.Valuation}
 use Rattle.rv_agreement.specs.Valuations.{is_placed}
 use Rattle.rv_control.specs.Named.{truth_at}
 use Rattle.rv_bits.specs.Bits.{bit, are_same}

@@ -1,25 +1,15 @@
 -- What references show of a flat system at each valuation.
-use Rattle.std.specs.Prelude.{◌≡◌, ℕ, ◌<◌, ◌≤◌, Bool, true, cond, List, [], length, Option, Some, slice_index_or}
-use Rattle.std.specs.Prelude.{None as Nothing}
+use Rattle.std.specs.Prelude.{◌≡◌, ℕ, ◌<◌, ◌≤◌, Bool, true, cond, List, [], length, Option, Some, slice_index_or, None as Nothing}
 use Rattle.rv_types.specs.declared.typed.Kind.{Kind}
 use Rattle.rv_types.specs.declared.typed.Kind.TheVariants as kind
-use Rattle.rv_diagram.specs.declared.Triple.{Triple}
-use Rattle.rv_diagram.specs.Nodes.{Valuation, Diagrams, value_of}
-use Rattle.rv_diagram.specs.Several.{ref_at}
-use Rattle.rv_agreement.specs.Agreement.{Fits, IsWell}
+use Rattle.rv_diagram.specs.{declared.Triple.Triple, Nodes.Valuation, Nodes.Diagrams, Nodes.value_of, Several.ref_at}
 use Rattle.rv_agreement.specs.Evaluation.{Found, is_on, is_there, nth}
-use Rattle.rv_agreement.specs.Trees.{FlatTree, kind_at, memory_kinds}
 use Rattle.rv_agreement.specs.Valuations.{Reading, Truth, Name, is_linear, reads_at, found_at, read, updated, IsSymbolic}
-use Rattle.rv_flat.specs.declared.flat.Flat.{Flat}
-use Rattle.rv_flat.specs.FlatInstants.{system_of}
-use Rattle.rv_flat.specs.Inlined.{IsTable}
+use Rattle.rv_agreement.specs.{Agreement.Fits, Agreement.IsWell, Trees.FlatTree, Trees.kind_at, Trees.memory_kinds}
+use Rattle.rv_flat.specs.{declared.flat.Flat.Flat, FlatInstants.system_of, Inlined.IsTable}
 use Rattle.rv_control.specs.Named.{named}
-use Rattle.rv_symbolic.specs.Growing.{Extends}
-use Rattle.rv_symbolic.specs.Linked.{AreRefs}
-use Rattle.rv_bits.specs.declared.around.Around.{Around}
-use Rattle.rv_bits.specs.declared.around.Tables.{Tables}
-use Rattle.rv_bits.specs.declared.around.FlowRefs.{FlowRefs}
-use Rattle.rv_bits.specs.Bits.{bit, bit_of}
+use Rattle.rv_symbolic.specs.{Growing.Extends, Linked.AreRefs}
+use Rattle.rv_bits.specs.{declared.around.Around.Around, declared.around.Tables.Tables, declared.around.FlowRefs.FlowRefs, Bits.bit, Bits.bit_of}
 
 -- the references spell a number
 abbrev pub IsNumber : List Triple → Valuation → List ℕ → ℕ → Type 0

@@ -1,22 +1,14 @@
 -- The references of diagram variables by name, in lists.
-use Rattle.std.specs.Prelude.{◌≡◌, ℕ, ◌<◌, List, [], ◌∷◌, length, Option, Some, slice_index_or}
-use Rattle.std.specs.Prelude.{None as Nothing}
+use Rattle.std.specs.Prelude.{◌≡◌, ℕ, ◌<◌, List, [], ◌∷◌, length, Option, Some, slice_index_or, None as Nothing}
 use Rattle.rv_tree.specs.Places.{Sites}
-use Rattle.rv_types.specs.declared.typed.Kind.{Kind}
-use Rattle.rv_types.specs.Lists.{Variable, Kept}
-use Rattle.rv_diagram.specs.declared.Triple.{Triple}
-use Rattle.rv_diagram.specs.Nodes.{Valuation, Diagrams, value_of}
-use Rattle.rv_diagram.specs.Several.{ref_at}
+use Rattle.rv_types.specs.{declared.typed.Kind.Kind, Lists.Variable, Lists.Kept}
+use Rattle.rv_diagram.specs.{declared.Triple.Triple, Nodes.Valuation, Nodes.Diagrams, Nodes.value_of, Several.ref_at}
 use Rattle.rv_agreement.specs.Agreement.{bit_count}
-use Rattle.rv_flat.specs.declared.flat.Flat.{Flat}
-use Rattle.rv_flat.specs.FlatInstants.{memory_places}
-use Rattle.rv_flat.specs.declared.parts.Bit.{Bit}
+use Rattle.rv_flat.specs.{declared.flat.Flat.Flat, FlatInstants.memory_places, declared.parts.Bit.Bit}
 use Rattle.rv_flat.specs.declared.parts.Bit.TheVariants as variant
 use Rattle.rv_control.specs.Named.{truth_at, tick_variable}
-use Rattle.rv_symbolic.specs.Growing.{Extends}
-use Rattle.rv_symbolic.specs.Linked.{AreRefs}
-use Rattle.rv_bits.specs.Bits.{bit}
-use Rattle.rv_bits.specs.Shown.{refs_at}
+use Rattle.rv_symbolic.specs.{Growing.Extends, Linked.AreRefs}
+use Rattle.rv_bits.specs.{Bits.bit, Shown.refs_at}
 
 -- the tick that a variable is, by the place of its clock's flow; the main tick is no such variable
 abbrev pub ticks_in : Bit → List (Option Sites)

@@ -1,31 +1,17 @@
 -- The certificate of a closed claim, put together from its parts.
-use Rattle.std.proofs.Common.{◌≡◌, ℕ, ◌^◌, ◌<◌, true, false, List, [], ◌∷◌, length, Some, IsTrue, slice_get, arith, sym, ap, ◌∙◌}
-use Rattle.std.proofs.Common.{subst, ◌⊎◌, inl, inr}
-use Rattle.std.proofs.lemmas.Bool.{cases_Bool}
-use Rattle.std.proofs.lemmas.Option.{slice_get_within}
-use Rattle.rv_diagram.specs.Nodes.{Valuation}
-use Rattle.rv_diagram.specs.declared.frozen.Frozen.{Frozen}
+use Rattle.std.proofs.Common.{◌≡◌, ℕ, ◌^◌, ◌<◌, true, false, List, [], ◌∷◌, length, Some, IsTrue, slice_get, arith, sym, ap, ◌∙◌, subst, ◌⊎◌, inl, inr}
+use Rattle.std.proofs.{lemmas.Bool.cases_Bool, lemmas.Option.slice_get_within}
+use Rattle.rv_diagram.specs.{Nodes.Valuation, declared.frozen.Frozen.Frozen}
 use Rattle.rv_rows.specs.declared.linear.Row.{Row}
-use Rattle.rv_proofs.specs.Systems.{System}
-use Rattle.rv_proofs.specs.Scopes.{IsIn}
-use Rattle.rv_proofs.specs.Ranges.{IsControlSet, AreKept}
-use Rattle.rv_proofs.specs.Boxes.{BoxClaim, IsTaken, IsGood}
-use Rattle.rv_proofs.specs.Cases.{AreCases, IsInitialSet}
-use Rattle.rv_proofs.specs.declared.certificate.Certificate.{Certificate}
-use Rattle.rv_proofs.specs.declared.certificate.Location.{Location}
-use Rattle.rv_proofs.specs.declared.certificate.Entry.{Entry}
-use Rattle.rv_proofs.specs.declared.report.Case.{Case}
+use Rattle.rv_proofs.specs.{Systems.System, Scopes.IsIn, Ranges.IsControlSet, Ranges.AreKept, Boxes.BoxClaim, Boxes.IsTaken, Boxes.IsGood, Cases.AreCases}
+use Rattle.rv_proofs.specs.{Cases.IsInitialSet, declared.certificate.Certificate.Certificate, declared.certificate.Location.Location}
+use Rattle.rv_proofs.specs.{declared.certificate.Entry.Entry, declared.report.Case.Case}
 use Rattle.rv_walk.specs.Ends.{has}
-use Rattle.rv_boxes.specs.declared.frame.Frame.{Frame}
-use Rattle.rv_boxes.specs.declared.claim.Claim.{Claim}
-use Rattle.rv_boxes.specs.declared.rounds.Others.{Others}
 use Rattle.rv_boxes.specs.Built.{AreBounds, HasBounds, IsBuiltEntry, IsBuiltLocation, IsBuilt}
-use Rattle.rv_boxes.specs.Claiming.{claim_of}
 use Rattle.rv_boxes.specs.Rounds.{IsSetting, IsInCases}
 use Rattle.rv_boxes.specs.Certifying.{IsJudgeable, AreEntriesOf, IsLocationOf, IsPart, IsCertifiable}
-use Rattle.rv_boxes.specs.Passing.{IsProof}
-use Rattle.rv_boxes.proofs.Building.{accepted, plain}
-use Rattle.rv_boxes.proofs.Rounding.{setting_first, setting_others, in_a_case}
+use Rattle.rv_boxes.specs.{declared.frame.Frame.Frame, declared.claim.Claim.Claim, declared.rounds.Others.Others, Claiming.claim_of, Passing.IsProof}
+use Rattle.rv_boxes.proofs.{Building.accepted, Building.plain, Rounding.setting_first, Rounding.setting_others, Rounding.in_a_case}
 use Rattle.rv_walk.proofs.Stages.{rest_from}
 use Rattle.rv_base.proofs.Lists.{item_at}
 

@@ -1,19 +1,13 @@
 -- Points of the box of premises.
-use Rattle.std.proofs.Common.{◌≡◌, ◌≢◌, ℕ, zero, suc, ◌<◌, ◌≤◌, ℤ, pos, negsuc, ◌+ℤ◌, ◌-ℤ◌, ◌*ℤ◌, ◌≤ℤ◌, ◌<ℤ◌, List, [], ◌∷◌, length, Option, Some}
-use Rattle.std.proofs.Common.{None, IfSome, arith, refl, sym, ◌∙◌, subst, ◌⊎◌, inl, inr}
-use Rattle.std.proofs.Math.IntN.{*ℤ-zero, zero-*ℤ}
-use Rattle.std.proofs.lemmas.Int.{ints, by_lt_z}
-use Rattle.std.proofs.lemmas.Bool.{cases_lt, cases_eq}
-use Rattle.std.proofs.lemmas.List.{get_or_past}
-use Rattle.rv_rows.specs.declared.linear.Row.{Row}
-use Rattle.rv_rows.specs.Rows.{dot, Holds, coefficient, row_at}
-use Rattle.rv_rows.specs.Forms.{number}
+use Rattle.std.proofs.Common.{◌≡◌, ◌≢◌, ℕ, zero, suc, ◌<◌, ◌≤◌, ℤ, pos, negsuc, ◌+ℤ◌, ◌-ℤ◌, ◌*ℤ◌, ◌≤ℤ◌, ◌<ℤ◌, List, [], ◌∷◌, length, Option, Some, None, IfSome}
+use Rattle.std.proofs.Common.{arith, refl, sym, ◌∙◌, subst, ◌⊎◌, inl, inr}
+use Rattle.std.proofs.{Math.IntN.*ℤ-zero, Math.IntN.zero-*ℤ, lemmas.Int.ints, lemmas.Int.by_lt_z, lemmas.Bool.cases_lt, lemmas.Bool.cases_eq}
+use Rattle.std.proofs.{lemmas.List.get_or_past}
+use Rattle.rv_rows.specs.{declared.linear.Row.Row, Rows.dot, Rows.Holds, Rows.coefficient, Rows.row_at, Forms.number}
 use Rattle.rv_rows.proofs.IntLemmas.{mul_add}
-use Rattle.rv_proofs.specs.Boxes.{HasOneColumn}
-use Rattle.rv_boxes.specs.declared.ends.End.{End}
-use Rattle.rv_boxes.specs.Ends.{IsClosest, IsEnd, AreEnds, end_at}
-use Rattle.rv_proofs.specs.Boxes.{IsUnitAt}
-use Rattle.rv_boxes.specs.Boxed.{IsBoxed, HasBoxed, ArePremises, IsCrossed}
+use Rattle.rv_proofs.specs.Boxes.{HasOneColumn, IsUnitAt}
+use Rattle.rv_boxes.specs.{declared.ends.End.End, Ends.IsClosest, Ends.IsEnd, Ends.AreEnds, Ends.end_at, Boxed.IsBoxed, Boxed.HasBoxed, Boxed.ArePremises}
+use Rattle.rv_boxes.specs.{Boxed.IsCrossed}
 
 -- sums over points
 dot-zeros : (cs xs : List ℤ) → ((n : ℕ) → number n cs ≡ pos 0) → dot cs xs ≡ pos 0

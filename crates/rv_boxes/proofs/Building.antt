@@ -1,46 +1,29 @@
 -- A closed good claim gives an accepted certificate.
-use Rattle.std.proofs.Common.{◌≡◌, ◌≢◌, ℕ, zero, suc, ◌+◌, ◌-◌, ◌<◌, ◌≤◌, ℤ, pos, negsuc, ◌+ℤ◌, ◌-ℤ◌, ◌*ℤ◌, ◌≤ℤ◌, ◌<ℤ◌, List, [], ◌∷◌, ◌++◌, length}
-use Rattle.std.proofs.Common.{get_or, true, false, Bool, All, Some, IsTrue, slice_get, arith, lit≤, refl, sym, ap, ◌∙◌, subst, ◌⊎◌, inl, inr}
-use Rattle.std.proofs.Common.{None as Nothing}
-use Rattle.std.specs.List.{Contains}
-use Rattle.std.proofs.lemmas.Int.{ints}
-use Rattle.std.proofs.lemmas.Bool.{cases_lt}
-use Rattle.std.proofs.lemmas.Option.{slice_get_within, get_or_from_slice_get, same_Some}
+use Rattle.std.proofs.Common.{◌≡◌, ◌≢◌, ℕ, zero, suc, ◌+◌, ◌-◌, ◌<◌, ◌≤◌, ℤ, pos, negsuc, ◌+ℤ◌, ◌-ℤ◌, ◌*ℤ◌, ◌≤ℤ◌, ◌<ℤ◌, List, [], ◌∷◌, ◌++◌, length, get_or}
+use Rattle.std.proofs.Common.{true, false, Bool, All, Some, IsTrue, slice_get, arith, lit≤, refl, sym, ap, ◌∙◌, subst, ◌⊎◌, inl, inr, None as Nothing}
 use Rattle.std.proofs.lemmas.List.{get_or_append_left, get_or-append-add, length-append, get_or_past, get_or-map}
-use Rattle.std.proofs.lemmas.List.Elements.{All-nil, All-cons, All-contains}
+use Rattle.std.proofs.{lemmas.Int.ints, lemmas.Bool.cases_lt, lemmas.Option.slice_get_within, lemmas.Option.get_or_from_slice_get, lemmas.Option.same_Some}
+use Rattle.std.proofs.{lemmas.List.Elements.All-nil, lemmas.List.Elements.All-cons, lemmas.List.Elements.All-contains}
+use Rattle.std.specs.List.{Contains}
 use Rattle.rv_diagram.specs.Nodes.{Valuation}
-use Rattle.rv_rows.specs.declared.linear.Row.{Row}
-use Rattle.rv_rows.specs.declared.linear.Form.{Form}
-use Rattle.rv_rows.specs.declared.farkas.Weight.{Weight}
-use Rattle.rv_rows.specs.declared.farkas.Multipliers.{Multipliers}
-use Rattle.rv_rows.specs.Rows.{dot, Holds, coefficient, row_at}
-use Rattle.rv_rows.specs.Forms.{number, value, values, IsSubstituted}
-use Rattle.rv_rows.specs.Multipliers.{weighted, Proves}
+use Rattle.rv_rows.specs.{declared.linear.Row.Row, declared.linear.Form.Form, declared.farkas.Weight.Weight, declared.farkas.Multipliers.Multipliers, Rows.dot}
+use Rattle.rv_rows.specs.{Rows.Holds, Rows.coefficient, Rows.row_at, Forms.number, Forms.value, Forms.values, Forms.IsSubstituted, Multipliers.weighted}
+use Rattle.rv_rows.specs.{Multipliers.Proves, Tight.Fits}
 use Rattle.rv_rows.proofs.FormLemmas.{substituted_same}
-use Rattle.rv_proofs.specs.Systems.{System, IsSystem}
-use Rattle.rv_proofs.specs.Counts.{HasLoop, IsLoopKind, HasKindCounts}
-use Rattle.rv_proofs.specs.Ranges.{IsInRange, IsRecord, HasDivisor, AreKept}
 use Rattle.rv_proofs.specs.Scopes.{IsIn, IsInScope, IsSettledTest, IsSettledUpdate, refutation, after, Implication, each, rows_into, implications}
-use Rattle.rv_proofs.specs.Implied.{AreTestRows, AreForms, IsImplied, form_at}
 use Rattle.rv_proofs.specs.Accepted.{IsAccepted, IsEntry, IsStepKind, AreImplied, Leads, IsIncluded}
-use Rattle.rv_proofs.specs.Samples.{by_one}
-use Rattle.rv_proofs.specs.Boxes.{BoxClaim, IsInBox, IsOpen, IsTaken, IsClosed, IsGood, HasOneColumn}
-use Rattle.rv_proofs.proofs.Settling.{settled_from_implied}
-use Rattle.rv_proofs.proofs.Sampling.{prove_one}
-use Rattle.rv_proofs.specs.declared.certificate.Certificate.{Certificate}
-use Rattle.rv_proofs.specs.declared.certificate.Location.{Location}
-use Rattle.rv_proofs.specs.declared.certificate.Entry.{Entry}
-use Rattle.rv_proofs.specs.declared.certificate.EntryKind.{EntryKind}
-use Rattle.rv_proofs.specs.declared.certificate.EntryKind.TheVariants.{Dead, Go, Loop}
+use Rattle.rv_proofs.specs.Boxes.{BoxClaim, IsInBox, IsOpen, IsTaken, IsClosed, IsGood, HasOneColumn, IsUnitAt}
+use Rattle.rv_proofs.specs.{Systems.System, Systems.IsSystem, Counts.HasLoop, Counts.IsLoopKind, Counts.HasKindCounts, Ranges.IsInRange, Ranges.IsRecord}
+use Rattle.rv_proofs.specs.{Ranges.HasDivisor, Ranges.AreKept, Implied.AreTestRows, Implied.AreForms, Implied.IsImplied, Implied.form_at, Samples.by_one}
+use Rattle.rv_proofs.specs.{declared.certificate.Certificate.Certificate, declared.certificate.Location.Location, declared.certificate.Entry.Entry}
+use Rattle.rv_proofs.specs.{declared.certificate.EntryKind.EntryKind, declared.certificate.EntryKind.TheVariants.Dead}
+use Rattle.rv_proofs.specs.{declared.certificate.EntryKind.TheVariants.Go, declared.certificate.EntryKind.TheVariants.Loop}
+use Rattle.rv_proofs.proofs.{Settling.settled_from_implied, Sampling.prove_one}
 use Rattle.rv_walk.specs.Plain.{ArePlain}
-use Rattle.rv_boxes.specs.declared.peaks.Peak.{Peak}
-use Rattle.rv_proofs.specs.Boxes.{IsUnitAt}
-use Rattle.rv_boxes.specs.Boxed.{IsBoxed, IsOpenBox, IsGreatest, IsUnbounded, IsVoid}
-use Rattle.rv_boxes.specs.Built.{nothing, IsUpperRow, IsLowerRow, AreBounds, IsReached, IsBuiltKind, IsToldCase, IsClaimedAt, AreBoundsAt}
-use Rattle.rv_boxes.specs.Built.{IsBuiltEntry, IsBuiltLocation, IsBuilt}
-use Rattle.rv_rows.specs.Tight.{Fits}
-use Rattle.rv_boxes.proofs.Shutting.{record_from, IsRanged}
-use Rattle.rv_boxes.proofs.BoxLemmas.{unit_value, unit_has_one}
+use Rattle.rv_boxes.specs.Built.{nothing, IsUpperRow, IsLowerRow, AreBounds, IsReached, IsBuiltKind, IsToldCase, IsClaimedAt, AreBoundsAt, IsBuiltEntry}
+use Rattle.rv_boxes.specs.Built.{IsBuiltLocation, IsBuilt}
+use Rattle.rv_boxes.specs.{declared.peaks.Peak.Peak, Boxed.IsBoxed, Boxed.IsOpenBox, Boxed.IsGreatest, Boxed.IsUnbounded, Boxed.IsVoid}
+use Rattle.rv_boxes.proofs.{Shutting.record_from, Shutting.IsRanged, BoxLemmas.unit_value, BoxLemmas.unit_has_one}
 
 -- premises of lists and of tests
 pub test_at : (given rows : List Row) (t : ℕ) → row_at (given ++ rows) (length given + t) ≡ row_at rows t

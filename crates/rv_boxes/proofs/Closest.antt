@@ -1,12 +1,10 @@
 -- The ends of columns, premise by premise.
 use Rattle.std.proofs.Common.{◌≡◌, ◌≢◌, ℕ, ◌+◌, ◌<◌, ◌≤◌, ℤ, pos, negsuc, ◌≤ℤ◌, List, length, Option, Some, arith, sym, ◌∙◌, subst, ◌⊎◌, inl, inr}
 use Rattle.std.proofs.Common.{None as Nothing}
-use Rattle.std.specs.Prelude.{slice_set, IfSome}
-use Rattle.std.proofs.lemmas.Bool.{cases_lt, cases_eq}
 use Rattle.std.proofs.lemmas.List.{get_or-set_other, get_or-set_same, length-set}
-use Rattle.std.proofs.lemmas.Option.{same_Some}
-use Rattle.rv_rows.specs.declared.linear.Row.{Row}
-use Rattle.rv_rows.specs.Rows.{coefficient, row_at}
+use Rattle.std.proofs.{lemmas.Bool.cases_lt, lemmas.Bool.cases_eq, lemmas.Option.same_Some}
+use Rattle.std.specs.Prelude.{slice_set, IfSome}
+use Rattle.rv_rows.specs.{declared.linear.Row.Row, Rows.coefficient, Rows.row_at}
 use Rattle.rv_proofs.specs.Boxes.{HasOneColumn, IsUnitAt}
 use Rattle.rv_boxes.specs.declared.ends.End.{End}
 use Rattle.rv_boxes.specs.Ends.{IsOnlyColumn, IsClosest, IsEnd, IsCloser, IsEndWith, AreEndsAmong, end_at, no_end}

@@ -1,16 +1,11 @@
 -- Where a claim takes a valuation, collected case by case.
 use Rattle.std.proofs.Common.{◌≡◌, ℕ, ◌+◌, Bool, true, false, ◌||◌, List, length, Some, slice_get, arith, refl, sym, ap, ◌∙◌, ◌⊎◌, inl, inr}
-use Rattle.rv_diagram.specs.Nodes.{Valuation, Diagrams, Answers, IsRef, value_of}
-use Rattle.rv_diagram.specs.declared.frozen.Frozen.{Frozen}
-use Rattle.rv_proofs.specs.Systems.{System}
-use Rattle.rv_proofs.specs.Scopes.{IsIn}
-use Rattle.rv_proofs.specs.Boxes.{BoxClaim, IsTaken}
-use Rattle.rv_proofs.specs.declared.report.Case.{Case}
+use Rattle.rv_diagram.specs.{Nodes.Valuation, Nodes.Diagrams, Nodes.Answers, Nodes.IsRef, Nodes.value_of, declared.frozen.Frozen.Frozen}
+use Rattle.rv_proofs.specs.{Systems.System, Scopes.IsIn, Boxes.BoxClaim, Boxes.IsTaken, declared.report.Case.Case}
 use Rattle.rv_symbolic.specs.Growing.{Extends, Makes}
 use Rattle.rv_symbolic.proofs.Extending.{extends_trans, grows_extends}
 use Rattle.rv_walk.specs.Ends.{has}
-use Rattle.rv_boxes.specs.Rounds.{IsInCases}
-use Rattle.rv_boxes.specs.Layering.{IsCollected, IsTakenAt}
+use Rattle.rv_boxes.specs.{Rounds.IsInCases, Layering.IsCollected, Layering.IsTakenAt}
 use Rattle.rv_boxes.proofs.Composing.{more_cases}
 use Rattle.rv_base.proofs.Truths.{either_then}
 

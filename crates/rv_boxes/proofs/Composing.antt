@@ -1,24 +1,13 @@
 -- A claim that grows twice, and one that does not grow.
-use Rattle.std.proofs.Common.{◌≡◌, ℕ, ◌+◌, ◌<◌, ◌≤◌, ℤ, pos, ◌-ℤ◌, ◌≤ℤ◌, Bool, true, false, ◌||◌, List, Option, Some, slice_get}
-use Rattle.std.proofs.Common.{refl, sym, ap, ◌∙◌, subst, arith, ◌⊎◌, inl, inr}
-use Rattle.std.proofs.Common.{None as Nothing}
-use Rattle.std.proofs.lemmas.Int.{ints}
-use Rattle.std.proofs.lemmas.Bool.{cases_Bool, cases_lt}
-use Rattle.std.proofs.lemmas.Option.{same_Some}
-use Rattle.rv_diagram.specs.Nodes.{Valuation}
-use Rattle.rv_diagram.specs.declared.frozen.Frozen.{Frozen}
+use Rattle.std.proofs.Common.{◌≡◌, ℕ, ◌+◌, ◌<◌, ◌≤◌, ℤ, pos, ◌-ℤ◌, ◌≤ℤ◌, Bool, true, false, ◌||◌, List, Option, Some, slice_get, refl, sym, ap, ◌∙◌, subst}
+use Rattle.std.proofs.Common.{arith, ◌⊎◌, inl, inr, None as Nothing}
+use Rattle.std.proofs.{lemmas.Int.ints, lemmas.Bool.cases_Bool, lemmas.Bool.cases_lt, lemmas.Bool.or_parts, lemmas.Option.same_Some}
+use Rattle.rv_diagram.specs.{Nodes.Valuation, declared.frozen.Frozen.Frozen}
 use Rattle.rv_rows.specs.Forms.{value}
-use Rattle.rv_proofs.specs.Systems.{System}
-use Rattle.rv_proofs.specs.Scopes.{IsIn}
-use Rattle.rv_proofs.specs.Boxes.{BoxClaim}
-use Rattle.rv_proofs.specs.declared.report.Case.{Case}
-use Rattle.rv_boxes.specs.declared.frame.Frame.{Frame}
-use Rattle.rv_boxes.specs.declared.claim.Claim.{Claim}
-use Rattle.rv_boxes.specs.Claiming.{turned, claim_of}
-use Rattle.rv_boxes.specs.Limits.{HaveNotFallen, limit_at}
+use Rattle.rv_proofs.specs.{Systems.System, Scopes.IsIn, Boxes.BoxClaim, declared.report.Case.Case}
 use Rattle.rv_boxes.specs.Rounds.{IsKeptClaim, IsHeld, IsAbove, HasGrown, IsInCases, left_of}
+use Rattle.rv_boxes.specs.{declared.frame.Frame.Frame, declared.claim.Claim.Claim, Claiming.turned, Claiming.claim_of, Limits.HaveNotFallen, Limits.limit_at}
 use Rattle.rv_base.proofs.Truths.{either_then}
-use Rattle.std.proofs.lemmas.Bool.{or_parts}
 
 -- bounds from below as limits of opposites
 pub turned_back : (o : Option ℤ) (b : ℤ) → turned o ≡ Some b → o ≡ Some (pos 0 -ℤ b)

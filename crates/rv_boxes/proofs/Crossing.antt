@@ -1,10 +1,8 @@
 -- Columns whose ends exclude each other.
 use Rattle.std.proofs.Common.{◌≡◌, ℕ, ◌<ℤ◌, ◌+ℤ◌, pos, List, sym, ◌∙◌, subst, Some}
 use Rattle.std.proofs.lemmas.Option.{same_Some}
-use Rattle.rv_rows.specs.declared.linear.Row.{Row}
-use Rattle.rv_rows.specs.Rows.{row_at}
-use Rattle.rv_boxes.specs.declared.ends.End.{End}
-use Rattle.rv_boxes.specs.Boxed.{IsCrossed}
+use Rattle.rv_rows.specs.{declared.linear.Row.Row, Rows.row_at}
+use Rattle.rv_boxes.specs.{declared.ends.End.End, Boxed.IsCrossed}
 
 pub crossed_at : (rows : List Row) (e : End) (low high : ℕ) → IsCrossed rows e → e.low ≡ Some low → e.high ≡ Some high
     → ((row_at rows low).bound +ℤ (row_at rows high).bound) <ℤ pos 0

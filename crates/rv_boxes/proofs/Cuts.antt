@@ -1,26 +1,17 @@
 -- Cases that are cut out of others.
-use Rattle.std.proofs.Common.{◌≡◌, ◌⊎◌, ℕ, ◌+◌, ◌<◌, ◌≤◌, Bool, true, false, ◌&&◌, List, [], ◌∷◌, ◌++◌, length, Option, Some, slice_get, arith, sym, ap}
-use Rattle.std.proofs.Common.{◌∙◌, subst, inl, inr}
-use Rattle.std.proofs.Common.{None as Nothing}
+use Rattle.std.proofs.Common.{◌≡◌, ◌⊎◌, ℕ, ◌+◌, ◌<◌, ◌≤◌, Bool, true, false, ◌&&◌, List, [], ◌∷◌, ◌++◌, length, Option, Some, slice_get, arith, sym, ap, ◌∙◌}
+use Rattle.std.proofs.Common.{subst, inl, inr, None as Nothing}
+use Rattle.std.proofs.{lemmas.Bool.cases_lt, lemmas.Bool.and_from, lemmas.Option.same_Some, lemmas.Option.slice_get_within}
 use Rattle.std.specs.Prelude.{MatchOption, MatchBool}
-use Rattle.std.proofs.lemmas.Bool.{cases_lt}
-use Rattle.std.proofs.lemmas.Option.{same_Some, slice_get_within}
-use Rattle.rv_diagram.specs.Nodes.{Valuation, Diagrams, Answers, value_of, IsOrderedOver}
-use Rattle.rv_diagram.specs.declared.frozen.Frozen.{Frozen}
+use Rattle.rv_diagram.specs.{Nodes.Valuation, Nodes.Diagrams, Nodes.Answers, Nodes.value_of, Nodes.IsOrderedOver, declared.frozen.Frozen.Frozen}
 use Rattle.rv_proofs.specs.Systems.{System, IsSystem, IsSameValuation}
-use Rattle.rv_proofs.specs.Scopes.{IsIn}
-use Rattle.rv_proofs.specs.Ranges.{IsControlSet, IsCondition}
-use Rattle.rv_proofs.specs.Cases.{IsCaseOf, AreCases}
-use Rattle.rv_proofs.specs.declared.report.Case.{Case}
+use Rattle.rv_proofs.specs.{Scopes.IsIn, Ranges.IsControlSet, Ranges.IsCondition, Cases.IsCaseOf, Cases.AreCases, declared.report.Case.Case}
 use Rattle.rv_symbolic.specs.Growing.{Extends}
-use Rattle.rv_symbolic.proofs.Extending.{extends_trans, grows_extends, needed_same}
 use Rattle.rv_symbolic.proofs.Reading.{control-value, condition-value, condition_set, valuation_state}
+use Rattle.rv_symbolic.proofs.{Extending.extends_trans, Extending.grows_extends, Extending.needed_same, Parting.kept-append}
 use Rattle.rv_walk.specs.Ends.{has}
 use Rattle.rv_boxes.specs.Cutting.{both_of, IsFrozenSome, IsMeet, case_with, HasCut, AreCut}
-use Rattle.rv_symbolic.proofs.Parting.{kept-append}
-use Rattle.rv_base.proofs.Lists.{get_push, push_cases}
-use Rattle.rv_base.proofs.Truths.{both_of as both_true, clash}
-use Rattle.std.proofs.lemmas.Bool.{and_from}
+use Rattle.rv_base.proofs.{Lists.get_push, Lists.push_cases, Truths.both_of as both_true, Truths.clash}
 
 -- two sets meet in a store
 module _ (s0 s1 s2 s3 : Diagrams) (a b : Frozen) (one other both : ℕ) (p : Answers s0 s1 (value_of a.nodes a.root) one)

@@ -1,20 +1,11 @@
 -- How a pass ends.
 use Rattle.std.proofs.Common.{◌↔◌, ℤ, List}
-use Rattle.rv_proofs.specs.Systems.{System}
 use Rattle.rv_proofs.specs.Boxes.{IsGood, HasGoodBox}
-use Rattle.rv_proofs.specs.Reached.{AreLayers}
-use Rattle.rv_proofs.specs.declared.certificate.Certificate.{Certificate}
-use Rattle.rv_proofs.specs.declared.report.Layers.{Layers}
+use Rattle.rv_proofs.specs.{Systems.System, Reached.AreLayers, declared.certificate.Certificate.Certificate, declared.report.Layers.Layers}
 use Rattle.rv_proofs.proofs.Leasts.{least_good}
-use Rattle.rv_walk.specs.declared.end.BoxEnd.{BoxEnd}
-use Rattle.rv_walk.specs.declared.end.BoxEnd.TheVariants.{Good, Bad}
-use Rattle.rv_walk.specs.Ends.{IsGoodEnd}
-use Rattle.rv_boxes.specs.declared.frame.Frame.{Frame}
-use Rattle.rv_boxes.specs.declared.claim.Claim.{Claim}
-use Rattle.rv_boxes.specs.Claiming.{claim_of}
-use Rattle.rv_boxes.specs.Rounds.{IsLeastClaim}
-use Rattle.rv_boxes.specs.Certifying.{IsBad}
+use Rattle.rv_walk.specs.{declared.end.BoxEnd.BoxEnd, declared.end.BoxEnd.TheVariants.Good, declared.end.BoxEnd.TheVariants.Bad, Ends.IsGoodEnd}
 use Rattle.rv_boxes.specs.Passing.{IsProof, IsEndOf}
+use Rattle.rv_boxes.specs.{declared.frame.Frame.Frame, declared.claim.Claim.Claim, Claiming.claim_of, Rounds.IsLeastClaim, Certifying.IsBad}
 use Rattle.rv_base.proofs.Truths.{clash}
 
 pub ends_good : (s : System) (f : Frame) (c : Claim) (x : Certificate) → IsLeastClaim s f c → IsProof s x → IsGood s (claim_of c)

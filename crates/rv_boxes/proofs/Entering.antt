@@ -1,32 +1,19 @@
 -- The entry of a case in the certificate of a closed claim.
-use Rattle.std.proofs.Common.{◌≡◌, ℕ, ◌^◌, ◌<◌, ◌≤◌, ℤ, pos, negsuc, ◌*ℤ◌, true, false, List, [], ◌∷◌, ◌++◌, map, length, All, Some, slice_get, arith}
-use Rattle.std.proofs.Common.{refl, sym, ap, ◌∙◌, subst, ◌⊎◌, inl, inr}
-use Rattle.std.specs.Int.RustNames.{unsigned_abs}
-use Rattle.std.proofs.lemmas.Int.{ints}
+use Rattle.std.proofs.Common.{◌≡◌, ℕ, ◌^◌, ◌<◌, ◌≤◌, ℤ, pos, negsuc, ◌*ℤ◌, true, false, List, [], ◌∷◌, ◌++◌, map, length, All, Some, slice_get, arith, refl}
+use Rattle.std.proofs.Common.{sym, ap, ◌∙◌, subst, ◌⊎◌, inl, inr}
 use Rattle.std.proofs.lemmas.List.Elements.{All-from_get_or, All-head, All-map, All-weaker}
+use Rattle.std.proofs.{lemmas.Int.ints, lemmas.Option.slice_get_within, lemmas.Option.get_or_from_slice_get}
+use Rattle.std.specs.Int.RustNames.{unsigned_abs}
 use Rattle.rv_diagram.specs.declared.frozen.Frozen.{Frozen}
-use Rattle.rv_rows.specs.declared.linear.Row.{Row}
-use Rattle.rv_rows.specs.declared.linear.Form.{Form}
-use Rattle.rv_rows.specs.Forms.{number, IsSubstituted, forms_width}
-use Rattle.rv_rows.specs.Tight.{Fits}
-use Rattle.std.proofs.lemmas.Option.{slice_get_within, get_or_from_slice_get}
-use Rattle.rv_proofs.specs.Systems.{System, IsUpdate}
-use Rattle.rv_proofs.specs.Scopes.{IsIn}
-use Rattle.rv_proofs.specs.Boxes.{BoxClaim, IsUnitAt}
-use Rattle.rv_proofs.specs.Cases.{AreCases}
-use Rattle.rv_proofs.specs.declared.certificate.EntryKind.{EntryKind}
-use Rattle.rv_proofs.specs.declared.report.Case.{Case}
+use Rattle.rv_rows.specs.{declared.linear.Row.Row, declared.linear.Form.Form, Forms.number, Forms.IsSubstituted, Forms.forms_width, Tight.Fits}
+use Rattle.rv_proofs.specs.{Systems.System, Systems.IsUpdate, Scopes.IsIn, Boxes.BoxClaim, Boxes.IsUnitAt, Cases.AreCases}
+use Rattle.rv_proofs.specs.{declared.certificate.EntryKind.EntryKind, declared.report.Case.Case}
 use Rattle.rv_proofs.proofs.Rooms.{has_room, number_within}
-use Rattle.rv_boxes.specs.declared.frame.Frame.{Frame}
-use Rattle.rv_boxes.specs.Boxed.{IsOpenBox, IsUnbounded}
-use Rattle.rv_boxes.specs.Built.{IsToldCase, IsUpperRow, IsLowerRow, IsBuiltKind}
-use Rattle.rv_boxes.specs.Opening.{ArePremisesOf}
-use Rattle.rv_boxes.specs.Rounds.{place, IsSetting, IsCaseIn}
 use Rattle.rv_boxes.specs.Certifying.{CanReach, IsJudgeable, IsBad, IsEntryOf, AreCasesIn}
-use Rattle.rv_boxes.proofs.BoxLemmas.{unit_value}
-use Rattle.rv_boxes.proofs.Building.{closed_bounded}
-use Rattle.rv_boxes.proofs.Fitting.{case_entry, all_updates, many_updates}
-use Rattle.rv_boxes.proofs.Stepping.{told_case, all_taken, taken_opens}
+use Rattle.rv_boxes.specs.{declared.frame.Frame.Frame, Boxed.IsOpenBox, Boxed.IsUnbounded, Built.IsToldCase, Built.IsUpperRow, Built.IsLowerRow}
+use Rattle.rv_boxes.specs.{Built.IsBuiltKind, Opening.ArePremisesOf, Rounds.place, Rounds.IsSetting, Rounds.IsCaseIn}
+use Rattle.rv_boxes.proofs.{BoxLemmas.unit_value, Building.closed_bounded, Fitting.case_entry, Fitting.all_updates, Fitting.many_updates, Stepping.told_case}
+use Rattle.rv_boxes.proofs.{Stepping.all_taken, Stepping.taken_opens}
 
 pub cases_in : (s : System) (from : Frozen) (cases : List Case) → AreCases s from cases → AreCasesIn s from cases
 cases_in s from cases are j c at = record { case = are.each j c at; within = λ v i. are.within j c v at i }

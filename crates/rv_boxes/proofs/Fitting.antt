@@ -1,34 +1,17 @@
 -- The premises and the updates of a case.
-use Rattle.std.proofs.Common.{◌≡◌, ℕ, ◌^◌, ◌<◌, ◌≤◌, ℤ, pos, negsuc, List, [], ◌++◌, length, get_or, All, Some, slice_get, arith}
-use Rattle.std.proofs.Common.{refl, sym, ap, ◌∙◌, subst, ◌⊎◌, inl, inr}
-use Rattle.std.proofs.Common.{None as Nothing}
-use Rattle.std.specs.Int.RustNames.{unsigned_abs}
-use Rattle.std.proofs.lemmas.Option.{slice_get_within, slice_get-get_or}
-use Rattle.std.proofs.lemmas.List.{length-append}
+use Rattle.std.proofs.Common.{◌≡◌, ℕ, ◌^◌, ◌<◌, ◌≤◌, ℤ, pos, negsuc, List, [], ◌++◌, length, get_or, All, Some, slice_get, arith, refl, sym, ap, ◌∙◌, subst}
+use Rattle.std.proofs.Common.{◌⊎◌, inl, inr, None as Nothing}
 use Rattle.std.proofs.lemmas.List.Elements.{All-append, All-weaker, All-nil, All-from_get_or}
-use Rattle.rv_diagram.specs.Nodes.{Valuation}
-use Rattle.rv_diagram.specs.declared.frozen.Frozen.{Frozen}
-use Rattle.rv_rows.specs.declared.linear.Row.{Row}
-use Rattle.rv_rows.specs.declared.linear.Form.{Form}
-use Rattle.rv_rows.specs.Rows.{row_at, RowWithin}
-use Rattle.rv_rows.specs.Forms.{FormWithin}
+use Rattle.std.proofs.{lemmas.Option.slice_get_within, lemmas.Option.slice_get-get_or, lemmas.List.length-append}
+use Rattle.std.specs.Int.RustNames.{unsigned_abs}
+use Rattle.rv_diagram.specs.{Nodes.Valuation, declared.frozen.Frozen.Frozen}
+use Rattle.rv_rows.specs.{declared.linear.Row.Row, declared.linear.Form.Form, Rows.row_at, Rows.RowWithin, Forms.FormWithin}
 use Rattle.rv_proofs.specs.Systems.{System, IsSystem, IsTestRow, IsUpdate}
-use Rattle.rv_proofs.specs.Scopes.{IsIn}
-use Rattle.rv_proofs.specs.Implied.{form_at}
-use Rattle.rv_proofs.specs.Samples.{by_none}
-use Rattle.rv_proofs.specs.Boxes.{BoxClaim, HasUnit, IsUnitAt}
-use Rattle.rv_proofs.specs.declared.report.Case.{Case}
-use Rattle.rv_proofs.specs.declared.certificate.Entry.{Entry}
-use Rattle.rv_proofs.specs.declared.certificate.EntryKind.TheVariants.{Dead}
-use Rattle.rv_proofs.proofs.Tightened.{tight_unit}
-use Rattle.rv_proofs.proofs.Rooms.{premise_of_test, premise_of_kept}
-use Rattle.rv_boxes.specs.declared.frame.Frame.{Frame}
-use Rattle.rv_boxes.specs.Boxed.{ArePremises}
-use Rattle.rv_boxes.specs.Built.{nothing, IsToldCase, IsUpperRow, IsLowerRow}
+use Rattle.rv_proofs.specs.{Scopes.IsIn, Implied.form_at, Samples.by_none, Boxes.BoxClaim, Boxes.HasUnit, Boxes.IsUnitAt, declared.report.Case.Case}
+use Rattle.rv_proofs.specs.{declared.certificate.Entry.Entry, declared.certificate.EntryKind.TheVariants.Dead, Cases.IsCaseOf}
+use Rattle.rv_proofs.proofs.{Tightened.tight_unit, Rooms.premise_of_test, Rooms.premise_of_kept, Claims.update_at, Claims.updates_long}
 use Rattle.rv_boxes.specs.Opening.{IsFrameOf, IsTold, HasTests, AreUpdates, AreOppositeForms}
-use Rattle.rv_proofs.specs.Cases.{IsCaseOf}
-use Rattle.rv_boxes.specs.Rounds.{IsSetting}
-use Rattle.rv_proofs.proofs.Claims.{update_at, updates_long}
+use Rattle.rv_boxes.specs.{declared.frame.Frame.Frame, Boxed.ArePremises, Built.nothing, Built.IsToldCase, Built.IsUpperRow, Built.IsLowerRow, Rounds.IsSetting}
 use Rattle.rv_base.proofs.Lists.{found_or_not}
 
 -- the opposites of updates can be updates

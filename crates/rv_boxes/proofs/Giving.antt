@@ -2,12 +2,9 @@
 use Rattle.std.proofs.Common.{◌≡◌, subst, sym}
 use Rattle.rv_diagram.specs.Nodes.{Diagrams, IsMeant}
 use Rattle.rv_proofs.specs.Systems.{System}
-use Rattle.rv_symbolic.specs.declared.relation.Relation.{Relation}
-use Rattle.rv_symbolic.specs.declared.relation.Parts.{Parts}
-use Rattle.rv_symbolic.specs.Represented.{parts_of}
+use Rattle.rv_symbolic.specs.{declared.relation.Relation.Relation, declared.relation.Parts.Parts, Represented.parts_of}
 use Rattle.rv_cases.specs.declared.asking.Questions.{Questions}
-use Rattle.rv_boxes.specs.declared.frame.Frame.{Frame}
-use Rattle.rv_boxes.specs.Rounds.{IsGiven}
+use Rattle.rv_boxes.specs.{declared.frame.Frame.Frame, Rounds.IsGiven}
 
 pub given_allowed : (s : System) (old new : Diagrams) (r : Relation) (q : Questions) (f : Frame) → IsGiven s old r q f → new ≡ old → (p : Parts)
     → p ≡ parts_of r

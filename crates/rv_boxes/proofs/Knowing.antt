@@ -1,22 +1,13 @@
 -- Control states whose cases are known.
-use Rattle.std.proofs.Common.{◌≡◌, ℕ, Bool, true, false, not, ◌&&◌, List, [], Some, sym, ◌∙◌}
-use Rattle.std.proofs.Common.{None as Nothing}
-use Rattle.rv_diagram.specs.Nodes.{Valuation}
-use Rattle.rv_diagram.specs.declared.frozen.Frozen.{Frozen}
-use Rattle.rv_proofs.specs.Systems.{System}
-use Rattle.rv_proofs.specs.Ranges.{IsControlSet}
-use Rattle.rv_proofs.specs.Cases.{AreCases}
-use Rattle.rv_proofs.specs.declared.report.Case.{Case}
-use Rattle.rv_walk.specs.Ends.{has}
-use Rattle.rv_walk.specs.Extended.{fresh_of, IsExtended, IsWithout}
-use Rattle.rv_walk.specs.declared.sets.Extended.{Extended}
-use Rattle.rv_rows.specs.declared.linear.Row.{Row}
-use Rattle.rv_boxes.specs.declared.known.Known.{Known}
-use Rattle.rv_boxes.specs.declared.claim.Claim.{Claim}
-use Rattle.rv_boxes.specs.Rounds.{IsRest}
-use Rattle.rv_boxes.specs.Knowing.{IsWithin, IsWider, IsKnown, Knows}
-use Rattle.rv_walk.proofs.Stages.{no_rest, rest_from, rest_parts}
+use Rattle.std.proofs.Common.{◌≡◌, ℕ, Bool, true, false, not, ◌&&◌, List, [], Some, sym, ◌∙◌, None as Nothing}
 use Rattle.std.proofs.lemmas.Bool.{or_right}
+use Rattle.rv_diagram.specs.{Nodes.Valuation, declared.frozen.Frozen.Frozen}
+use Rattle.rv_proofs.specs.{Systems.System, Ranges.IsControlSet, Cases.AreCases, declared.report.Case.Case}
+use Rattle.rv_walk.specs.{Ends.has, Extended.fresh_of, Extended.IsExtended, Extended.IsWithout, declared.sets.Extended.Extended}
+use Rattle.rv_rows.specs.declared.linear.Row.{Row}
+use Rattle.rv_boxes.specs.Knowing.{IsWithin, IsWider, IsKnown, Knows}
+use Rattle.rv_boxes.specs.{declared.known.Known.Known, declared.claim.Claim.Claim, Rounds.IsRest}
+use Rattle.rv_walk.proofs.Stages.{no_rest, rest_from, rest_parts}
 
 never : (a : Bool) → (a && not a) ≡ true → ⊥
 never true e = cc

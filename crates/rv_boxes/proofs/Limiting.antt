@@ -1,26 +1,15 @@
 -- Lists that grow along a loop: copies, rows of limits, loosened limits.
-use Rattle.std.proofs.Common.{◌≡◌, ◌≢◌, ℕ, suc, ◌+◌, ◌^◌, ◌<◌, ◌≤◌, ℤ, pos, negsuc, ◌+ℤ◌, ◌-ℤ◌, ◌*ℤ◌, ◌≤ℤ◌, ◌<ℤ◌, Bool, true, false, ◌||◌, List, []}
-use Rattle.std.proofs.Common.{◌∷◌, ◌++◌, length, All, Option, Some, arith, refl, sym, ap, ◌∙◌, subst, ◌⊎◌, inl, inr}
-use Rattle.std.proofs.Common.{None as Nothing}
-use Rattle.std.specs.Int.RustNames.{unsigned_abs}
-use Rattle.std.proofs.lemmas.Int.{ints}
-use Rattle.std.proofs.lemmas.Bool.{cases_lt}
-use Rattle.std.proofs.lemmas.Option.{same_Some}
+use Rattle.std.proofs.Common.{◌≡◌, ◌≢◌, ℕ, suc, ◌+◌, ◌^◌, ◌<◌, ◌≤◌, ℤ, pos, negsuc, ◌+ℤ◌, ◌-ℤ◌, ◌*ℤ◌, ◌≤ℤ◌, ◌<ℤ◌, Bool, true, false, ◌||◌, List, [], ◌∷◌, ◌++◌}
+use Rattle.std.proofs.Common.{length, All, Option, Some, arith, refl, sym, ap, ◌∙◌, subst, ◌⊎◌, inl, inr, None as Nothing}
 use Rattle.std.proofs.lemmas.List.{length_push, get_or_push, get_or_append_left}
-use Rattle.std.proofs.lemmas.List.Elements.{All-contains, All-from_get_or}
-use Rattle.rv_rows.specs.declared.linear.Row.{Row}
-use Rattle.rv_rows.specs.declared.linear.Form.{Form}
-use Rattle.rv_rows.specs.Rows.{row_at, dot}
+use Rattle.std.proofs.{lemmas.Int.ints, lemmas.Bool.cases_lt, lemmas.Option.same_Some, lemmas.List.Elements.All-contains, lemmas.List.Elements.All-from_get_or}
+use Rattle.std.specs.{Int.RustNames.unsigned_abs, Prelude.MatchBool}
 use Rattle.rv_rows.specs.Forms.{value, number, FormWithin, IsMultiple}
-use Rattle.std.specs.Prelude.{MatchBool}
-use Rattle.rv_boxes.specs.declared.peaks.Peak.{Peak}
-use Rattle.rv_proofs.specs.Implied.{form_at}
-use Rattle.rv_proofs.specs.Boxes.{IsUnitAt}
-use Rattle.rv_boxes.specs.Boxed.{IsGreatest, IsUnbounded}
-use Rattle.rv_boxes.specs.Orders.{IsLeastAbove}
-use Rattle.rv_boxes.specs.Built.{nothing}
+use Rattle.rv_rows.specs.{declared.linear.Row.Row, declared.linear.Form.Form, Rows.row_at, Rows.dot}
 use Rattle.rv_boxes.specs.Bounding.{IsLimitRow, AreLimitRows, IsNoted}
 use Rattle.rv_boxes.specs.Limits.{limit_at, IsLoosened, AreLoosened, HasChanged, room_of, room}
+use Rattle.rv_boxes.specs.{declared.peaks.Peak.Peak, Boxed.IsGreatest, Boxed.IsUnbounded, Orders.IsLeastAbove, Built.nothing}
+use Rattle.rv_proofs.specs.{Implied.form_at, Boxes.IsUnitAt}
 
 -- the row of one memory's limit more
 pub limit_noted : (limits : List (Option ℤ)) (memories : ℕ) (sign : ℤ) (n : ℕ) (old new : List Row) → n < memories → AreLimitRows limits memories sign n old

@@ -1,13 +1,10 @@
 -- The layers of the least closed claim are those of the system whose allowed valuations are the taken ones.
 use Rattle.std.proofs.Common.{◌≡◌, ◌↔◌, ℕ, zero, suc, ◌*◌, ◌<◌, ℤ, Bool, true, false, List, IsTrue, arith, refl, sym, ◌∙◌}
-use Rattle.rv_diagram.specs.Nodes.{Valuation}
-use Rattle.rv_diagram.specs.declared.frozen.Frozen.{Frozen}
-use Rattle.rv_proofs.specs.Systems.{System, IsSystem, HasSameState, IsSameValuation, IsRead}
-use Rattle.rv_proofs.specs.Boxes.{BoxClaim, IsBoxClaim, IsInBox, IsTaken, IsClosed}
+use Rattle.rv_diagram.specs.{Nodes.Valuation, declared.frozen.Frozen.Frozen}
 use Rattle.rv_proofs.specs.Reached.{HasNoIntegers, IsLeastClosed, Reaches, AreLayers, IsControlClosed, unbounded}
+use Rattle.rv_proofs.specs.{Systems.System, Systems.IsSystem, Systems.HasSameState, Systems.IsSameValuation, Systems.IsRead, Boxes.BoxClaim, Boxes.IsBoxClaim}
+use Rattle.rv_proofs.specs.{Boxes.IsInBox, Boxes.IsTaken, Boxes.IsClosed, declared.certificate.Certificate.Certificate, declared.report.Layers.Layers}
 use Rattle.rv_proofs.proofs.Leasts.{open_all}
-use Rattle.rv_proofs.specs.declared.certificate.Certificate.{Certificate}
-use Rattle.rv_proofs.specs.declared.report.Layers.{Layers}
 use Rattle.rv_walk.specs.Ends.{has, IsLeastControl, IsGoodCertificate, AreBadLayers}
 use Rattle.rv_boxes.specs.Narrowed.{narrowed}
 use Rattle.rv_diagram.proofs.Several.{same_truth}

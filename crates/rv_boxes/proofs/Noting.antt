@@ -1,24 +1,15 @@
 -- Marks of cases.
-use Rattle.std.proofs.Common.{◌≡◌, ◌≢◌, ◌⊎◌, ℕ, ◌+◌, ◌<◌, ◌≤◌, true, false, List, [], length, Option, Some, slice_get, arith, sym, ap, ◌∙◌}
-use Rattle.std.proofs.Common.{subst, inl, inr}
+use Rattle.std.proofs.Common.{◌≡◌, ◌≢◌, ◌⊎◌, ℕ, ◌+◌, ◌<◌, ◌≤◌, true, false, List, [], length, Option, Some, slice_get, arith, sym, ap, ◌∙◌, subst, inl, inr}
 use Rattle.std.proofs.Common.{None as Nothing}
+use Rattle.std.proofs.{lemmas.Bool.cases_lt, lemmas.Bool.cases_eq, lemmas.Bool.and_from, lemmas.List.get_or-set_other, lemmas.List.get_or-set_same}
+use Rattle.std.proofs.{lemmas.List.length-set, lemmas.Option.same_Some, lemmas.Option.slice_get_within, lemmas.Option.get_or_from_slice_get}
 use Rattle.std.specs.Prelude.{slice_set, slice_index_or}
-use Rattle.std.proofs.lemmas.Bool.{cases_lt, cases_eq}
-use Rattle.std.proofs.lemmas.List.{get_or-set_other, get_or-set_same, length-set}
-use Rattle.std.proofs.lemmas.Option.{same_Some, slice_get_within, get_or_from_slice_get}
-use Rattle.rv_diagram.specs.Nodes.{Valuation}
-use Rattle.rv_diagram.specs.declared.frozen.Frozen.{Frozen}
-use Rattle.rv_proofs.specs.Scopes.{IsIn}
-use Rattle.rv_proofs.specs.declared.report.Case.{Case}
+use Rattle.rv_diagram.specs.{Nodes.Valuation, declared.frozen.Frozen.Frozen}
+use Rattle.rv_proofs.specs.{Scopes.IsIn, declared.report.Case.Case}
 use Rattle.rv_walk.specs.Ends.{has}
-use Rattle.rv_boxes.specs.declared.frame.Frame.{Frame}
-use Rattle.rv_boxes.specs.declared.opening.Told.{Told}
-use Rattle.rv_boxes.specs.Cutting.{both_of}
-use Rattle.rv_boxes.specs.Opening.{IsToldOf}
-use Rattle.rv_boxes.specs.Rounds.{IsMet}
 use Rattle.rv_boxes.specs.Marking.{IsMarkOf, AreMarked, HasMarked}
+use Rattle.rv_boxes.specs.{declared.frame.Frame.Frame, declared.opening.Told.Told, Cutting.both_of, Opening.IsToldOf, Rounds.IsMet}
 use Rattle.rv_base.proofs.Truths.{both_of as both_true, clash}
-use Rattle.std.proofs.lemmas.Bool.{and_from}
 
 some_nothing : {X : Type 0} (x : X) (o : Option X) → o ≡ Some x → o ≡ Nothing → ⊥
 some_nothing x (Some y) some none = cc

@@ -1,18 +1,11 @@
 -- Numbers of a sum, and facts of the code about them.
-use Rattle.std.proofs.Common.{◌≡◌, ℕ, ◌+◌, ◌*◌, ◌^◌, ◌<◌, ◌≤◌, ℤ, pos, negsuc, ◌*ℤ◌, List, [], ◌∷◌, ◌++◌, length, All, Some, slice_get, arith, sym}
-use Rattle.std.proofs.Common.{ap, ◌∙◌, subst}
-use Rattle.std.proofs.Math.Nat.{mul-le-mul}
+use Rattle.std.proofs.Common.{◌≡◌, ℕ, ◌+◌, ◌*◌, ◌^◌, ◌<◌, ◌≤◌, ℤ, pos, negsuc, ◌*ℤ◌, List, [], ◌∷◌, ◌++◌, length, All, Some, slice_get, arith, sym, ap, ◌∙◌}
+use Rattle.std.proofs.Common.{subst}
+use Rattle.std.proofs.{Math.Nat.mul-le-mul, lemmas.Option.get_or_from_slice_get, lemmas.Option.slice_get_within, lemmas.Int.ints}
 use Rattle.std.specs.Int.RustNames.{unsigned_abs}
-use Rattle.std.proofs.lemmas.Option.{get_or_from_slice_get, slice_get_within}
-use Rattle.std.proofs.lemmas.Int.{ints}
-use Rattle.rv_rows.proofs.FormLemmas.{pushed}
-use Rattle.rv_rows.specs.declared.linear.Row.{Row}
-use Rattle.rv_rows.specs.Rows.{RowWithin, row_at}
-use Rattle.rv_rows.specs.Forms.{number}
-use Rattle.rv_rows.proofs.RowLemmas.{bound_within}
-use Rattle.rv_boxes.specs.declared.ends.End.{End}
-use Rattle.rv_boxes.specs.Ends.{end_at, no_end}
-use Rattle.rv_boxes.specs.Boxed.{IsTowards, IsLoose}
+use Rattle.rv_rows.proofs.{FormLemmas.pushed, RowLemmas.bound_within}
+use Rattle.rv_rows.specs.{declared.linear.Row.Row, Rows.RowWithin, Rows.row_at, Forms.number}
+use Rattle.rv_boxes.specs.{declared.ends.End.End, Ends.end_at, Ends.no_end, Boxed.IsTowards, Boxed.IsLoose}
 
 pub row_read : (rows : List Row) (p : ℕ) (r : Row) → slice_get rows p ≡ Some r → row_at rows p ≡ r
 row_read rows p r e = get_or_from_slice_get rows p r (record { coefficients = []; bound = pos 0 }) e

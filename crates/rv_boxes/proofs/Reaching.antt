@@ -3,15 +3,9 @@ use Rattle.std.proofs.Common.{◌≡◌, ℕ, ◌+◌, List, [], ◌∷◌, ◌+
 use Rattle.std.proofs.lemmas.Option.{same_Some, slice_get_within, slice_get-get_or, get_or_from_slice_get}
 use Rattle.std.proofs.lemmas.List.{length_push, get_or_append_left}
 use Rattle.rv_diagram.specs.declared.frozen.Frozen.{Frozen}
-use Rattle.rv_rows.specs.declared.linear.Row.{Row}
-use Rattle.rv_rows.specs.declared.linear.Form.{Form}
-use Rattle.rv_rows.specs.declared.farkas.Multipliers.{Multipliers}
-use Rattle.rv_proofs.specs.Systems.{System}
-use Rattle.rv_proofs.specs.Boxes.{BoxClaim}
-use Rattle.rv_proofs.specs.declared.certificate.Entry.{Entry}
-use Rattle.rv_proofs.specs.declared.report.Case.{Case}
-use Rattle.rv_boxes.specs.Built.{IsReached}
-use Rattle.rv_boxes.specs.Certifying.{AreReached, AreCasesIn, IsEntryOf, AreEntriesOf}
+use Rattle.rv_rows.specs.{declared.linear.Row.Row, declared.linear.Form.Form, declared.farkas.Multipliers.Multipliers}
+use Rattle.rv_proofs.specs.{Systems.System, Boxes.BoxClaim, declared.certificate.Entry.Entry, declared.report.Case.Case}
+use Rattle.rv_boxes.specs.{Built.IsReached, Certifying.AreReached, Certifying.AreCasesIn, Certifying.IsEntryOf, Certifying.AreEntriesOf}
 use Rattle.rv_base.proofs.Lists.{push_cases}
 
 pub reached_more : (width : ℕ) (premises : List Row) (forms : List Form) (wanted : List Row) (n : ℕ) (reach : List Multipliers) (m : Multipliers) (r : Row)

@@ -1,16 +1,10 @@
 -- The relation of the valuations that a claim takes.
 use Rattle.std.proofs.Common.{◌≡◌, ℕ, List, refl, sym, ap, ◌∙◌, subst}
-use Rattle.rv_diagram.specs.Nodes.{Diagrams, IsRef, value_of}
-use Rattle.rv_proofs.specs.Systems.{System}
-use Rattle.rv_proofs.specs.Boxes.{BoxClaim}
-use Rattle.rv_symbolic.specs.declared.relation.Parts.{Parts}
-use Rattle.rv_symbolic.specs.Growing.{Extends}
-use Rattle.rv_symbolic.specs.Represented.{HaveRefs, AreParts}
-use Rattle.rv_boxes.specs.Narrowed.{narrowed}
-use Rattle.rv_boxes.specs.Layering.{IsOpening, ArePartsWith}
+use Rattle.rv_diagram.specs.{Nodes.Diagrams, Nodes.IsRef, Nodes.value_of, declared.frozen.Frozen.Frozen}
+use Rattle.rv_proofs.specs.{Systems.System, Boxes.BoxClaim}
+use Rattle.rv_symbolic.specs.{declared.relation.Parts.Parts, Growing.Extends, Represented.HaveRefs, Represented.AreParts}
+use Rattle.rv_boxes.specs.{Narrowed.narrowed, Layering.IsOpening, Layering.ArePartsWith, declared.frame.Frame.Frame}
 use Rattle.rv_rows.specs.declared.linear.Row.{Row}
-use Rattle.rv_diagram.specs.declared.frozen.Frozen.{Frozen}
-use Rattle.rv_boxes.specs.declared.frame.Frame.{Frame}
 
 parts_same : (a b : Parts) → a.allowed ≡ b.allowed → a.observer ≡ b.observer → a.initial ≡ b.initial → a.next ≡ b.next → a ≡ b
 parts_same a b e f g h =

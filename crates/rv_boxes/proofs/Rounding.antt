@@ -1,39 +1,22 @@
 -- Rounds, and the claim at which they end.
-use Rattle.std.proofs.Common.{◌≡◌, ◌≢◌, ℕ, ◌+◌, ◌-◌, ◌*◌, ◌^◌, ◌<◌, ◌≤◌, ℤ, pos, negsuc, ◌-ℤ◌, ◌*ℤ◌, ◌≤ℤ◌, ◌<ℤ◌, Bool, true, false, cond}
-use Rattle.std.proofs.Common.{List, [], length, get_or, All, Option, Some, IsTrue, arith, lit≤, refl, sym, ap, ◌∙◌, subst, ◌⊎◌, inl, inr}
-use Rattle.std.proofs.Common.{None as Nothing}
-use Rattle.std.specs.List.{Contains}
-use Rattle.std.specs.Int.RustNames.{unsigned_abs}
-use Rattle.std.proofs.lemmas.Int.{ints}
-use Rattle.std.proofs.lemmas.Bool.{cases_lt, cases_eq, cases_Bool}
+use Rattle.std.proofs.Common.{◌≡◌, ◌≢◌, ℕ, ◌+◌, ◌-◌, ◌*◌, ◌^◌, ◌<◌, ◌≤◌, ℤ, pos, negsuc, ◌-ℤ◌, ◌*ℤ◌, ◌≤ℤ◌, ◌<ℤ◌, Bool, true, false, cond, List, [], length}
+use Rattle.std.proofs.Common.{get_or, All, Option, Some, IsTrue, arith, lit≤, refl, sym, ap, ◌∙◌, subst, ◌⊎◌, inl, inr, None as Nothing}
 use Rattle.std.proofs.lemmas.Option.{same_Some, none-some, slice_get_within, get_or_from_slice_get}
 use Rattle.std.proofs.lemmas.List.{get_or_append_left, get_or-append-add, length-append, get_or_read, get_or_default, get_or_past}
-use Rattle.std.proofs.lemmas.List.Elements.{All-nil, All-contains, All-from_get_or}
-use Rattle.rv_diagram.specs.Nodes.{Valuation}
-use Rattle.rv_diagram.specs.declared.frozen.Frozen.{Frozen}
-use Rattle.rv_rows.specs.declared.linear.Row.{Row}
-use Rattle.rv_rows.specs.Rows.{coefficient, row_at}
-use Rattle.rv_rows.specs.Forms.{number}
-use Rattle.rv_rows.specs.Tight.{Fits}
-use Rattle.rv_proofs.specs.Systems.{System, IsSystem, HasSameState}
-use Rattle.rv_proofs.specs.Scopes.{IsIn}
-use Rattle.rv_proofs.specs.Ranges.{AreKept}
-use Rattle.rv_proofs.specs.Boxes.{BoxClaim, IsBoxClaim, IsInBox, IsTaken, IsClosed, IsUnitAt}
-use Rattle.rv_proofs.specs.Cases.{AreCases, IsInitialSet}
-use Rattle.rv_proofs.specs.declared.report.Case.{Case}
+use Rattle.std.proofs.{lemmas.Int.ints, lemmas.Bool.cases_lt, lemmas.Bool.cases_eq, lemmas.Bool.cases_Bool, lemmas.List.Elements.All-nil}
+use Rattle.std.proofs.{lemmas.List.Elements.All-contains, lemmas.List.Elements.All-from_get_or}
+use Rattle.std.specs.{List.Contains, Int.RustNames.unsigned_abs}
+use Rattle.rv_diagram.specs.{Nodes.Valuation, declared.frozen.Frozen.Frozen}
+use Rattle.rv_rows.specs.{declared.linear.Row.Row, Rows.coefficient, Rows.row_at, Forms.number, Tight.Fits}
+use Rattle.rv_proofs.specs.{Systems.System, Systems.IsSystem, Systems.HasSameState, Scopes.IsIn, Ranges.AreKept, Boxes.BoxClaim, Boxes.IsBoxClaim}
+use Rattle.rv_proofs.specs.{Boxes.IsInBox, Boxes.IsTaken, Boxes.IsClosed, Boxes.IsUnitAt, Cases.AreCases, Cases.IsInitialSet, declared.report.Case.Case}
 use Rattle.rv_proofs.proofs.ControlReads.{control_same}
 use Rattle.rv_walk.specs.Ends.{has}
-use Rattle.rv_boxes.specs.declared.frame.Frame.{Frame}
-use Rattle.rv_boxes.specs.declared.claim.Claim.{Claim}
-use Rattle.rv_boxes.specs.Built.{nothing, IsUpperRow, IsLowerRow, AreBounds, HasBounds}
-use Rattle.rv_boxes.specs.Bounding.{IsLimitRow, AreBothRows}
-use Rattle.rv_boxes.specs.Orders.{IsBelowClosed, IsLeastAbove}
-use Rattle.rv_boxes.specs.Limits.{limit_at, AreAmong}
-use Rattle.rv_boxes.specs.Opening.{IsFrameOf, AreOpposite}
-use Rattle.rv_boxes.specs.Claiming.{turned, claim_with, claim_of}
 use Rattle.rv_boxes.specs.Rounds.{IsSetting, IsHeld, IsKeptClaim, HasGrown, IsInCases, IsRising, IsRound, IsRest, AreFirst, IsLeastClaim, left_of}
-use Rattle.rv_boxes.proofs.Composing.{turned_back, held_above}
-use Rattle.rv_boxes.proofs.Stepping.{opposite_in}
+use Rattle.rv_boxes.specs.{declared.frame.Frame.Frame, declared.claim.Claim.Claim, Built.nothing, Built.IsUpperRow, Built.IsLowerRow, Built.AreBounds}
+use Rattle.rv_boxes.specs.{Built.HasBounds, Bounding.IsLimitRow, Bounding.AreBothRows, Orders.IsBelowClosed, Orders.IsLeastAbove, Limits.limit_at}
+use Rattle.rv_boxes.specs.{Limits.AreAmong, Opening.IsFrameOf, Opening.AreOpposite, Claiming.turned, Claiming.claim_with, Claiming.claim_of}
+use Rattle.rv_boxes.proofs.{Composing.turned_back, Composing.held_above, Stepping.opposite_in}
 use Rattle.rv_walk.proofs.Stages.{rest_from, rest_parts}
 use Rattle.rv_base.proofs.Truths.{clash}
 use Rattle.rv_diagram.proofs.Several.{same_truth}

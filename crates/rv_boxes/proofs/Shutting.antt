@@ -1,24 +1,13 @@
 -- Refutations that the ends of a box give.
-use Rattle.std.proofs.Common.{◌≡◌, ◌≢◌, ℕ, ◌^◌, ◌<◌, ◌≤◌, ℤ, pos, negsuc, ◌+ℤ◌, ◌-ℤ◌, ◌*ℤ◌, ◌≤ℤ◌, ◌<ℤ◌, List, [], length, get_or, All, Some, arith}
-use Rattle.std.proofs.Common.{refl, ap, ◌∙◌, subst, ◌⊎◌, inl, inr}
-use Rattle.std.proofs.lemmas.Int.{ints}
-use Rattle.std.proofs.lemmas.Bool.{cases_eq}
-use Rattle.std.proofs.lemmas.List.Elements.{All-nil}
-use Rattle.rv_rows.specs.declared.linear.Row.{Row}
-use Rattle.rv_rows.specs.declared.farkas.Weight.{Weight}
-use Rattle.rv_rows.specs.declared.farkas.Multipliers.{Multipliers}
+use Rattle.std.proofs.Common.{◌≡◌, ◌≢◌, ℕ, ◌^◌, ◌<◌, ◌≤◌, ℤ, pos, negsuc, ◌+ℤ◌, ◌-ℤ◌, ◌*ℤ◌, ◌≤ℤ◌, ◌<ℤ◌, List, [], length, get_or, All, Some, arith, refl, ap}
+use Rattle.std.proofs.Common.{◌∙◌, subst, ◌⊎◌, inl, inr}
+use Rattle.std.proofs.{lemmas.Int.ints, lemmas.Bool.cases_eq, lemmas.List.Elements.All-nil}
 use Rattle.rv_rows.specs.Rows.{dot, Holds, coefficient, row_at}
-use Rattle.rv_rows.specs.Forms.{number}
-use Rattle.rv_rows.specs.Multipliers.{weighted}
+use Rattle.rv_rows.specs.{declared.linear.Row.Row, declared.farkas.Weight.Weight, declared.farkas.Multipliers.Multipliers, Forms.number, Multipliers.weighted}
 use Rattle.rv_rows.proofs.TightLemmas.{dot-scale}
-use Rattle.rv_proofs.specs.Boxes.{HasOneColumn}
-use Rattle.rv_proofs.specs.Ranges.{IsRecord}
-use Rattle.rv_boxes.specs.declared.ends.End.{End}
-use Rattle.rv_boxes.specs.declared.peaks.Peak.{Peak}
-use Rattle.rv_boxes.specs.Ends.{AreEnds, end_at}
-use Rattle.rv_proofs.specs.Boxes.{IsUnitAt}
-use Rattle.rv_boxes.specs.Weighing.{Rises, IsInserted}
+use Rattle.rv_proofs.specs.{Boxes.HasOneColumn, Boxes.IsUnitAt, Ranges.IsRecord}
 use Rattle.rv_boxes.specs.Boxed.{IsBoxed, HasBoxed, ArePremises, IsGreatest, IsUnbounded, IsVoid, IsRefutation}
+use Rattle.rv_boxes.specs.{declared.ends.End.End, declared.peaks.Peak.Peak, Ends.AreEnds, Ends.end_at, Weighing.Rises, Weighing.IsInserted}
 use Rattle.rv_boxes.proofs.WeightLemmas.{weighted-inserted, All-inserted, length-inserted, Rises-inserted, rising_from}
 use Rattle.rv_boxes.proofs.BoxLemmas.{closest, unit_has_one, crossed_none}
 

@@ -1,45 +1,26 @@
 -- What a case does to a claim.
 use Rattle.std.proofs.Common.{◌≡◌, ℕ, ◌+◌, ◌<◌, ◌≤◌, ℤ, pos, negsuc, ◌+ℤ◌, ◌-ℤ◌, ◌*ℤ◌, ◌≤ℤ◌, ◌<ℤ◌, Bool, true, false, ◌||◌, List, [], ◌++◌, length, get_or}
-use Rattle.std.proofs.Common.{Option, Some, IsTrue, arith, refl, sym, ap, ◌∙◌, subst, ◌⊎◌, inl, inr}
-use Rattle.std.proofs.Common.{None as Nothing}
+use Rattle.std.proofs.Common.{Option, Some, IsTrue, arith, refl, sym, ap, ◌∙◌, subst, ◌⊎◌, inl, inr, None as Nothing}
+use Rattle.std.proofs.{lemmas.Int.ints, lemmas.Bool.cases_lt, lemmas.Bool.cases_Bool, lemmas.Bool.or_parts, lemmas.Option.same_Some, lemmas.Option.none-some}
+use Rattle.std.proofs.{lemmas.Option.slice_get-get_or, lemmas.List.get_or_past, lemmas.List.get_or_read, lemmas.List.get_or_default, lemmas.List.length-append}
 use Rattle.std.specs.List.{Contains}
-use Rattle.std.proofs.lemmas.Int.{ints}
-use Rattle.std.proofs.lemmas.Bool.{cases_lt, cases_Bool}
-use Rattle.std.proofs.lemmas.Option.{same_Some, none-some, slice_get-get_or}
-use Rattle.std.proofs.lemmas.List.{get_or_past, get_or_read, get_or_default, length-append}
-use Rattle.rv_diagram.specs.Nodes.{Valuation}
-use Rattle.rv_diagram.specs.declared.frozen.Frozen.{Frozen}
-use Rattle.rv_rows.specs.declared.linear.Row.{Row}
-use Rattle.rv_rows.specs.declared.linear.Form.{Form}
-use Rattle.rv_rows.specs.Rows.{row_at, Holds}
-use Rattle.rv_rows.specs.Forms.{number, value}
+use Rattle.rv_diagram.specs.{Nodes.Valuation, declared.frozen.Frozen.Frozen}
+use Rattle.rv_rows.specs.{declared.linear.Row.Row, declared.linear.Form.Form, Rows.row_at, Rows.Holds, Forms.number, Forms.value}
 use Rattle.rv_proofs.specs.Systems.{System, IsSystem, HasSameState}
-use Rattle.rv_proofs.specs.Scopes.{IsIn}
-use Rattle.rv_proofs.specs.Implied.{form_at}
-use Rattle.rv_proofs.specs.Ranges.{IsControlSet}
 use Rattle.rv_proofs.specs.Boxes.{BoxClaim, IsBoxClaim, HasOneColumn, IsInBox, IsTaken, IsClosed}
-use Rattle.rv_proofs.specs.Reached.{IsTighter}
-use Rattle.rv_proofs.specs.Cases.{IsImage, IsCaseOf}
-use Rattle.rv_proofs.specs.declared.report.Case.{Case}
+use Rattle.rv_proofs.specs.{Scopes.IsIn, Implied.form_at, Ranges.IsControlSet, Reached.IsTighter, Cases.IsImage, Cases.IsCaseOf, declared.report.Case.Case}
 use Rattle.rv_proofs.proofs.Leasts.{box_within, taken_within}
-use Rattle.rv_walk.specs.Ends.{has}
-use Rattle.rv_walk.specs.Walks.{missing}
-use Rattle.rv_boxes.specs.declared.frame.Frame.{Frame}
-use Rattle.rv_boxes.specs.declared.claim.Claim.{Claim}
-use Rattle.rv_boxes.specs.declared.opening.Opened.{Opened}
-use Rattle.rv_boxes.specs.Boxed.{IsBoxed, IsOpenBox, ArePremises}
+use Rattle.rv_walk.specs.{Ends.has, Walks.missing}
 use Rattle.rv_boxes.specs.Built.{IsToldCase, AreBoundsAt, IsUpperRow, IsLowerRow}
-use Rattle.rv_boxes.specs.Orders.{IsBelowClosed, IsLeastAbove}
 use Rattle.rv_boxes.specs.Limits.{limit_at, IsLoosened, AreLoosened, AreAmong, HaveNotFallen, HasChanged, room}
 use Rattle.rv_boxes.specs.Opening.{IsFrameOf, ArePremisesOf, AreOpposite, AreOppositeForms, IsOpened}
-use Rattle.rv_boxes.specs.Claiming.{turned, claim_of}
 use Rattle.rv_boxes.specs.Rounds.{place, IsSetting, IsHeld, IsKeptClaim, IsAbove, HasGrown, HasTaken, IsMet, left_of}
+use Rattle.rv_boxes.specs.{declared.frame.Frame.Frame, declared.claim.Claim.Claim, declared.opening.Opened.Opened, Boxed.IsBoxed, Boxed.IsOpenBox}
+use Rattle.rv_boxes.specs.{Boxed.ArePremises, Orders.IsBelowClosed, Orders.IsLeastAbove, Claiming.turned, Claiming.claim_of}
 use Rattle.rv_boxes.proofs.Building.{in_box, taken, boxed_back, open_back, test_at}
 use Rattle.rv_boxes.proofs.Fitting.{case_entry, here, updates_of_case, many_updates, premises_fit}
-use Rattle.rv_boxes.proofs.Composing.{turned_back, above_same}
-use Rattle.rv_boxes.proofs.Limiting.{changed_le}
+use Rattle.rv_boxes.proofs.{Composing.turned_back, Composing.above_same, Limiting.changed_le}
 use Rattle.rv_base.proofs.Truths.{either_then}
-use Rattle.std.proofs.lemmas.Bool.{or_parts}
 
 -- limits stay among the thresholds
 pub loosened_among : (thresholds : List ℤ) (width : ℕ) (rows : List Row) (forms : List Form) (old new : List (Option ℤ))

@@ -1,25 +1,14 @@
 -- Sums of columns over the box, with the weights that prove them.
-use Rattle.std.proofs.Common.{◌≡◌, ◌≢◌, ℕ, ◌+◌, ◌*◌, ◌^◌, ◌<◌, ◌≤◌, ℤ, pos, negsuc, ◌+ℤ◌, ◌*ℤ◌, ◌<ℤ◌, List, length, get_or, All, arith, refl, ap, sym}
-use Rattle.std.proofs.Common.{◌∙◌, subst, ◌⊎◌, inl, inr}
-use Rattle.std.proofs.Math.IntN.{*ℤ-zero}
-use Rattle.std.proofs.Math.Nat.{mul-le-mul}
+use Rattle.std.proofs.Common.{◌≡◌, ◌≢◌, ℕ, ◌+◌, ◌*◌, ◌^◌, ◌<◌, ◌≤◌, ℤ, pos, negsuc, ◌+ℤ◌, ◌*ℤ◌, ◌<ℤ◌, List, length, get_or, All, arith, refl, ap, sym, ◌∙◌}
+use Rattle.std.proofs.Common.{subst, ◌⊎◌, inl, inr}
 use Rattle.std.proofs.lemmas.Int.{ints, unsigned_abs-mul}
-use Rattle.std.proofs.lemmas.Bool.{cases_lt}
-use Rattle.std.proofs.lemmas.List.Elements.{All-weaker}
+use Rattle.std.proofs.{Math.IntN.*ℤ-zero, Math.Nat.mul-le-mul, lemmas.Bool.cases_lt, lemmas.List.Elements.All-weaker}
 use Rattle.std.specs.Int.RustNames.{unsigned_abs}
-use Rattle.rv_rows.specs.declared.linear.Row.{Row}
-use Rattle.rv_rows.specs.declared.farkas.Weight.{Weight}
-use Rattle.rv_rows.specs.Rows.{coefficient, row_at}
-use Rattle.rv_rows.specs.Forms.{number}
-use Rattle.rv_rows.specs.Multipliers.{weighted}
-use Rattle.rv_rows.proofs.RowLemmas.{bound_within}
-use Rattle.rv_rows.proofs.IntLemmas.{abs-add}
-use Rattle.rv_boxes.specs.declared.ends.End.{End}
-use Rattle.rv_boxes.specs.declared.peaks.Peak.{Peak}
-use Rattle.rv_boxes.specs.Ends.{IsEndAt, AreEnds, end_at}
-use Rattle.rv_proofs.specs.Boxes.{IsUnitAt}
-use Rattle.rv_boxes.specs.Weighing.{IsInserted}
+use Rattle.rv_rows.specs.{declared.linear.Row.Row, declared.farkas.Weight.Weight, Rows.coefficient, Rows.row_at, Forms.number, Multipliers.weighted}
+use Rattle.rv_rows.proofs.{RowLemmas.bound_within, IntLemmas.abs-add}
 use Rattle.rv_boxes.specs.Boxed.{ArePremises, IsTowards, IsColumnWeight, IsSummed}
+use Rattle.rv_boxes.specs.{declared.ends.End.End, declared.peaks.Peak.Peak, Ends.IsEndAt, Ends.AreEnds, Ends.end_at, Weighing.IsInserted}
+use Rattle.rv_proofs.specs.Boxes.{IsUnitAt}
 use Rattle.rv_boxes.proofs.WeightLemmas.{weighted-inserted, All-inserted, length-inserted, Rises-inserted}
 use Rattle.rv_boxes.proofs.BoxLemmas.{closest, unit_once}
 use Rattle.rv_terms.proofs.Sums.{zero_right}

@@ -1,20 +1,14 @@
 -- A set that is taken into a claim.
 use Rattle.std.proofs.Common.{◌≡◌, ℕ, true, false, ◌||◌, refl, sym, ap, ◌∙◌, subst}
-use Rattle.rv_diagram.specs.Nodes.{Valuation}
-use Rattle.rv_diagram.specs.declared.frozen.Frozen.{Frozen}
-use Rattle.rv_proofs.specs.Systems.{System, HasSameState}
-use Rattle.rv_proofs.specs.Ranges.{IsControlSet}
+use Rattle.std.proofs.lemmas.Bool.{or_left as from_first, or_right}
+use Rattle.rv_diagram.specs.{Nodes.Valuation, declared.frozen.Frozen.Frozen}
+use Rattle.rv_proofs.specs.{Systems.System, Systems.HasSameState, Ranges.IsControlSet}
 use Rattle.rv_proofs.proofs.ControlReads.{control_same}
-use Rattle.rv_walk.specs.Ends.{has}
-use Rattle.rv_walk.specs.Extended.{fresh_of, IsExtended}
-use Rattle.rv_walk.specs.declared.sets.Extended.{Extended}
+use Rattle.rv_walk.specs.{Ends.has, Extended.fresh_of, Extended.IsExtended, declared.sets.Extended.Extended}
 use Rattle.rv_walk.proofs.Counting.{missing_less}
-use Rattle.rv_boxes.specs.declared.claim.Claim.{Claim}
-use Rattle.rv_boxes.specs.Rounds.{HasTaken}
+use Rattle.rv_boxes.specs.{declared.claim.Claim.Claim, Rounds.HasTaken}
 use Rattle.rv_base.proofs.Truths.{covered, none_new}
 use Rattle.rv_diagram.proofs.Several.{same_truth}
-use Rattle.std.proofs.lemmas.Bool.{or_left as from_first}
-use Rattle.std.proofs.lemmas.Bool.{or_right}
 
 pub same_states : (s : System) (set : Frozen) → IsControlSet s set → (v w : Valuation) → HasSameState s v w → has set v ≡ has set w
 same_states s set control v w same =

@@ -1,27 +1,17 @@
 -- Greatest values over the box.
-use Rattle.std.proofs.Common.{◌≡◌, ◌≢◌, ℕ, ◌^◌, ◌<◌, ◌≤◌, ℤ, pos, negsuc, ◌+ℤ◌, ◌-ℤ◌, ◌*ℤ◌, ◌≤ℤ◌, ◌<ℤ◌, List, length, get_or, All, Some, None, arith}
-use Rattle.std.proofs.Common.{refl, ap, sym, ◌∙◌, subst, ◌⊎◌, inl, inr, cond, eqb}
-use Rattle.std.proofs.Math.IntN.{*ℤ-zero}
-use Rattle.std.proofs.lemmas.Int.{ints}
+use Rattle.std.proofs.Common.{◌≡◌, ◌≢◌, ℕ, ◌^◌, ◌<◌, ◌≤◌, ℤ, pos, negsuc, ◌+ℤ◌, ◌-ℤ◌, ◌*ℤ◌, ◌≤ℤ◌, ◌<ℤ◌, List, length, get_or, All, Some, None, arith, refl, ap}
+use Rattle.std.proofs.Common.{sym, ◌∙◌, subst, ◌⊎◌, inl, inr, cond, eqb}
 use Rattle.std.proofs.lemmas.Bool.{cases_lt, cases_eq, eq-eqb, ne_eqb}
-use Rattle.std.proofs.lemmas.Option.{none-some}
-use Rattle.std.proofs.lemmas.List.{get_or_past}
+use Rattle.std.proofs.{Math.IntN.*ℤ-zero, lemmas.Int.ints, lemmas.Option.none-some, lemmas.List.get_or_past}
 use Rattle.std.specs.Int.RustNames.{unsigned_abs}
-use Rattle.rv_rows.specs.declared.linear.Row.{Row}
-use Rattle.rv_rows.specs.declared.farkas.Weight.{Weight}
-use Rattle.rv_rows.specs.Rows.{dot, coefficient, row_at}
-use Rattle.rv_rows.specs.Forms.{number}
-use Rattle.rv_rows.specs.Multipliers.{weighted}
+use Rattle.rv_rows.specs.{declared.linear.Row.Row, declared.farkas.Weight.Weight, Rows.dot, Rows.coefficient, Rows.row_at, Forms.number, Multipliers.weighted}
 use Rattle.rv_rows.proofs.IntLemmas.{mul_mono, mul_add, mul_comm_int}
 use Rattle.rv_proofs.specs.Boxes.{HasOneColumn}
-use Rattle.rv_boxes.specs.declared.ends.End.{End}
-use Rattle.rv_boxes.specs.declared.peaks.Peak.{Peak}
-use Rattle.rv_boxes.specs.Ends.{AreEnds, end_at}
 use Rattle.rv_boxes.specs.Boxed.{IsBoxed, HasBoxed, ArePremises, IsCrossed, IsUncrossed, IsTowards, IsLoose, IsColumnWeight, IsSummed, IsGreatest, IsUnbounded}
-use Rattle.rv_boxes.proofs.Weighted.{weighted-dot, weighted-holds, weighted-met}
-use Rattle.rv_boxes.proofs.BoxLemmas.{InEnd, at_high, at_low, high_in, low_in, listed, number-listed, boxed_from, unit_has_one, unit_value}
-use Rattle.rv_boxes.proofs.BoxLemmas.{dot-listed-add, dot-listed-one}
-use Rattle.rv_boxes.proofs.Summing.{IsTurned, turned_from}
+use Rattle.rv_boxes.specs.{declared.ends.End.End, declared.peaks.Peak.Peak, Ends.AreEnds, Ends.end_at}
+use Rattle.rv_boxes.proofs.BoxLemmas.{InEnd, at_high, at_low, high_in, low_in, listed, number-listed, boxed_from, unit_has_one, unit_value, dot-listed-add}
+use Rattle.rv_boxes.proofs.BoxLemmas.{dot-listed-one}
+use Rattle.rv_boxes.proofs.{Weighted.weighted-dot, Weighted.weighted-holds, Weighted.weighted-met, Summing.IsTurned, Summing.turned_from}
 use Rattle.rv_terms.proofs.Sums.{zero_right}
 
 -- the number of a column at the end towards which a multiple of it grows

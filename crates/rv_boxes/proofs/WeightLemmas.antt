@@ -1,16 +1,10 @@
 -- Weights with one more.
-use Rattle.std.proofs.Common.{◌≡◌, ◌≢◌, ℕ, zero, suc, ◌+◌, ◌<◌, ◌≤◌, ℤ, ◌+ℤ◌, ◌*ℤ◌, List, [], ◌∷◌, ◌++◌, take, drop, length, get_or, All, Some}
-use Rattle.std.proofs.Common.{slice_get, arith, ap, sym, ◌∙◌, subst}
-use Rattle.std.proofs.Math.IntN.{+ℤ_assoc}
-use Rattle.std.proofs.lemmas.Int.{ints}
-use Rattle.std.proofs.lemmas.List.{take-append-drop}
-use Rattle.std.proofs.lemmas.List.Edits.{length-insert}
+use Rattle.std.proofs.Common.{◌≡◌, ◌≢◌, ℕ, zero, suc, ◌+◌, ◌<◌, ◌≤◌, ℤ, ◌+ℤ◌, ◌*ℤ◌, List, [], ◌∷◌, ◌++◌, take, drop, length, get_or, All, Some, slice_get}
+use Rattle.std.proofs.Common.{arith, ap, sym, ◌∙◌, subst}
 use Rattle.std.proofs.lemmas.List.Elements.{All-cons, All-head, All-tail, All-same, All-append, All-weaker, All-take, All-drop}
 use Rattle.std.proofs.lemmas.Option.{slice_get_within, get_or_from_slice_get, same_Some}
-use Rattle.rv_rows.specs.declared.linear.Row.{Row}
-use Rattle.rv_rows.specs.declared.farkas.Weight.{Weight}
-use Rattle.rv_rows.specs.Rows.{row_at}
-use Rattle.rv_rows.specs.Multipliers.{weighted}
+use Rattle.std.proofs.{Math.IntN.+ℤ_assoc, lemmas.Int.ints, lemmas.List.take-append-drop, lemmas.List.Edits.length-insert}
+use Rattle.rv_rows.specs.{declared.linear.Row.Row, declared.farkas.Weight.Weight, Rows.row_at, Multipliers.weighted}
 use Rattle.rv_boxes.specs.Weighing.{Rises, IsInserted}
 
 pub rises_after : (ws : List Weight) (i p : ℕ) (d : Weight) → Rises ws → i < length ws → p ≤ (get_or ws i d).premise → All (λ u. p ≤ u.premise) (drop i ws)

@@ -1,12 +1,7 @@
 -- Weighted sums of rows at points.
 use Rattle.std.proofs.Common.{◌≡◌, ℕ, ◌+◌, ℤ, pos, ◌+ℤ◌, ◌*ℤ◌, ◌≤ℤ◌, List, [], ◌∷◌, All, get_or, arith, refl, ap, sym, ◌∙◌}
-use Rattle.std.proofs.Math.IntN.{*ℤ-zero, zero-*ℤ}
-use Rattle.std.proofs.lemmas.Int.{ints}
-use Rattle.std.proofs.lemmas.List.Elements.{All-head, All-tail}
-use Rattle.rv_rows.specs.declared.linear.Row.{Row}
-use Rattle.rv_rows.specs.declared.farkas.Weight.{Weight}
-use Rattle.rv_rows.specs.Rows.{dot, Holds, row_at}
-use Rattle.rv_rows.specs.Multipliers.{weighted}
+use Rattle.std.proofs.{Math.IntN.*ℤ-zero, Math.IntN.zero-*ℤ, lemmas.Int.ints, lemmas.List.Elements.All-head, lemmas.List.Elements.All-tail}
+use Rattle.rv_rows.specs.{declared.linear.Row.Row, declared.farkas.Weight.Weight, Rows.dot, Rows.Holds, Rows.row_at, Multipliers.weighted}
 use Rattle.rv_rows.proofs.IntLemmas.{mul_add, add_mul, mul_assoc_int, mul_mono, add_mono, add_swap}
 use Rattle.rv_rows.proofs.RowLemmas.{tail_of, dot-cons, get_or-tail, dot-none}
 

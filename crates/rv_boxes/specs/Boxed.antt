@@ -1,18 +1,10 @@
 -- The box of premises: what those with exactly one coefficient say. Peak values over it.
 use Rattle.std.specs.Prelude.{◌≡◌, ◌⊎◌, ℕ, ◌*◌, ◌^◌, ◌<◌, ◌≤◌, ℤ, pos, ◌+ℤ◌, ◌≤ℤ◌, ◌<ℤ◌, List, length, All, Some, None}
 use Rattle.std.specs.Int.RustNames.{unsigned_abs}
-use Rattle.rv_rows.specs.declared.linear.Row.{Row}
-use Rattle.rv_rows.specs.declared.farkas.Weight.{Weight}
-use Rattle.rv_rows.specs.Rows.{dot, Holds, coefficient, row_at, RowWithin}
-use Rattle.rv_rows.specs.Forms.{number}
-use Rattle.rv_rows.specs.Multipliers.{weighted, Refutes}
-use Rattle.rv_rows.specs.declared.farkas.Multipliers.{Multipliers}
-use Rattle.rv_proofs.specs.Ranges.{IsRecord}
-use Rattle.rv_proofs.specs.Boxes.{HasOneColumn, HasUnit}
-use Rattle.rv_boxes.specs.declared.ends.End.{End}
-use Rattle.rv_boxes.specs.declared.peaks.Peak.{Peak}
-use Rattle.rv_boxes.specs.Ends.{end_at}
-use Rattle.rv_boxes.specs.Weighing.{Rises}
+use Rattle.rv_rows.specs.{declared.linear.Row.Row, declared.farkas.Weight.Weight, Rows.dot, Rows.Holds, Rows.coefficient, Rows.row_at, Rows.RowWithin}
+use Rattle.rv_rows.specs.{Forms.number, Multipliers.weighted, Multipliers.Refutes, declared.farkas.Multipliers.Multipliers}
+use Rattle.rv_proofs.specs.{Ranges.IsRecord, Boxes.HasOneColumn, Boxes.HasUnit}
+use Rattle.rv_boxes.specs.{declared.ends.End.End, declared.peaks.Peak.Peak, Ends.end_at, Weighing.Rises}
 
 -- A point of the box: each premise with exactly one coefficient other than 0 holds.
 pub record IsBoxed (width : ℕ) (rows : List Row) (point : List ℤ) : Type 0 where

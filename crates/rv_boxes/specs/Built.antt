@@ -1,28 +1,13 @@
 -- The certificate that is built from a box claim: one location for the initial control states, and one for the rest,
 -- with the bounds as rows.
-use Rattle.std.specs.Prelude.{◌≡◌, ◌⊎◌, ℕ, ◌<◌, ◌≤◌, ◌^◌, ℤ, pos, negsuc, ◌-ℤ◌, List, [], ◌∷◌, ◌++◌, length, true, Some, IsTrue, slice_get}
-use Rattle.std.specs.Prelude.{None as Nothing}
-use Rattle.rv_diagram.specs.Nodes.{Valuation}
-use Rattle.rv_diagram.specs.declared.frozen.Frozen.{Frozen}
-use Rattle.rv_rows.specs.declared.linear.Row.{Row}
-use Rattle.rv_rows.specs.declared.linear.Form.{Form}
-use Rattle.rv_rows.specs.declared.farkas.Multipliers.{Multipliers}
-use Rattle.rv_rows.specs.Rows.{row_at}
-use Rattle.rv_rows.specs.Forms.{IsSubstituted}
-use Rattle.rv_proofs.specs.Systems.{System}
-use Rattle.rv_proofs.specs.Scopes.{IsIn}
-use Rattle.rv_proofs.specs.Ranges.{AreKept, IsCondition, IsControlSet}
-use Rattle.rv_proofs.specs.Implied.{form_at}
-use Rattle.rv_proofs.specs.Samples.{by_one}
-use Rattle.rv_proofs.specs.Boxes.{BoxClaim}
-use Rattle.rv_proofs.specs.declared.certificate.Certificate.{Certificate}
-use Rattle.rv_proofs.specs.declared.certificate.Location.{Location}
-use Rattle.rv_proofs.specs.declared.certificate.Entry.{Entry}
-use Rattle.rv_proofs.specs.declared.certificate.EntryKind.{EntryKind}
-use Rattle.rv_proofs.specs.declared.certificate.EntryKind.TheVariants.{Dead, Go, Loop}
-use Rattle.rv_boxes.specs.declared.peaks.Peak.{Peak}
-use Rattle.rv_proofs.specs.Boxes.{IsUnitAt}
-use Rattle.rv_boxes.specs.Boxed.{IsOpenBox, IsGreatest, IsRefutation}
+use Rattle.std.specs.Prelude.{◌≡◌, ◌⊎◌, ℕ, ◌<◌, ◌≤◌, ◌^◌, ℤ, pos, negsuc, ◌-ℤ◌, List, [], ◌∷◌, ◌++◌, length, true, Some, IsTrue, slice_get, None as Nothing}
+use Rattle.rv_diagram.specs.{Nodes.Valuation, declared.frozen.Frozen.Frozen}
+use Rattle.rv_rows.specs.{declared.linear.Row.Row, declared.linear.Form.Form, declared.farkas.Multipliers.Multipliers, Rows.row_at, Forms.IsSubstituted}
+use Rattle.rv_proofs.specs.{Systems.System, Scopes.IsIn, Ranges.AreKept, Ranges.IsCondition, Ranges.IsControlSet, Implied.form_at, Samples.by_one}
+use Rattle.rv_proofs.specs.{Boxes.BoxClaim, Boxes.IsUnitAt, declared.certificate.Certificate.Certificate, declared.certificate.Location.Location}
+use Rattle.rv_proofs.specs.{declared.certificate.Entry.Entry, declared.certificate.EntryKind.EntryKind, declared.certificate.EntryKind.TheVariants.Dead}
+use Rattle.rv_proofs.specs.{declared.certificate.EntryKind.TheVariants.Go, declared.certificate.EntryKind.TheVariants.Loop}
+use Rattle.rv_boxes.specs.{declared.peaks.Peak.Peak, Boxed.IsOpenBox, Boxed.IsGreatest, Boxed.IsRefutation}
 
 -- the row of a test that is absent
 abbrev pub nothing : Row

@@ -1,27 +1,13 @@
 -- The certificate of a closed claim, entry by entry.
 use Rattle.std.specs.Prelude.{◌≡◌, ℕ, ◌<◌, ◌≤◌, ◌^◌, List, [], length, false, All, Some, IsTrue, slice_get}
 use Rattle.std.specs.Int.RustNames.{unsigned_abs}
-use Rattle.rv_diagram.specs.Nodes.{Valuation}
-use Rattle.rv_diagram.specs.declared.frozen.Frozen.{Frozen}
-use Rattle.rv_rows.specs.declared.linear.Row.{Row}
-use Rattle.rv_rows.specs.declared.linear.Form.{Form}
-use Rattle.rv_rows.specs.declared.farkas.Multipliers.{Multipliers}
-use Rattle.rv_rows.specs.Forms.{CanSubstitute, IsSubstituted}
-use Rattle.rv_proofs.specs.Systems.{System, IsSystem}
-use Rattle.rv_proofs.specs.Scopes.{IsIn}
-use Rattle.rv_proofs.specs.Ranges.{AreKept}
-use Rattle.rv_proofs.specs.Samples.{by_one}
-use Rattle.rv_proofs.specs.Boxes.{BoxClaim, IsTaken, IsClosed}
-use Rattle.rv_proofs.specs.declared.certificate.Location.{Location}
-use Rattle.rv_proofs.specs.declared.certificate.Entry.{Entry}
-use Rattle.rv_proofs.specs.declared.report.Case.{Case}
-use Rattle.rv_boxes.specs.declared.frame.Frame.{Frame}
-use Rattle.rv_boxes.specs.Boxed.{IsUnbounded}
+use Rattle.rv_diagram.specs.{Nodes.Valuation, declared.frozen.Frozen.Frozen}
+use Rattle.rv_rows.specs.{declared.linear.Row.Row, declared.linear.Form.Form, declared.farkas.Multipliers.Multipliers, Forms.CanSubstitute, Forms.IsSubstituted}
+use Rattle.rv_proofs.specs.{Systems.System, Systems.IsSystem, Scopes.IsIn, Ranges.AreKept, Samples.by_one, Boxes.BoxClaim, Boxes.IsTaken, Boxes.IsClosed}
+use Rattle.rv_proofs.specs.{declared.certificate.Location.Location, declared.certificate.Entry.Entry, declared.report.Case.Case}
 use Rattle.rv_boxes.specs.Built.{AreBounds, IsReached, IsBuiltEntry, IsBuiltLocation}
-use Rattle.rv_boxes.specs.declared.claim.Claim.{Claim}
-use Rattle.rv_boxes.specs.declared.rounds.Others.{Others}
 use Rattle.rv_boxes.specs.Rounds.{IsCaseIn, IsStart, AreOthers, IsLeastClaim}
-use Rattle.rv_boxes.specs.Opening.{IsFrameOf}
+use Rattle.rv_boxes.specs.{declared.frame.Frame.Frame, Boxed.IsUnbounded, declared.claim.Claim.Claim, declared.rounds.Others.Others, Opening.IsFrameOf}
 
 -- The wanted row can be taken before the updates, has small coefficients there, and its left side is bounded over the box.
 pub record CanReach (width : ℕ) (premises : List Row) (forms : List Form) (r : Row) : Type 0 where

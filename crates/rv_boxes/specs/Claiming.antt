@@ -1,11 +1,9 @@
 -- The box claim that a set of control states and two lists of limits are.
-use Rattle.std.specs.Prelude.{Bool, ℤ, pos, ◌-ℤ◌, List, Option, Some}
-use Rattle.std.specs.Prelude.{None as Nothing}
+use Rattle.std.specs.Prelude.{Bool, ℤ, pos, ◌-ℤ◌, List, Option, Some, None as Nothing}
 use Rattle.rv_diagram.specs.Nodes.{Valuation}
 use Rattle.rv_proofs.specs.Boxes.{BoxClaim}
 use Rattle.rv_walk.specs.Ends.{has}
-use Rattle.rv_boxes.specs.declared.claim.Claim.{Claim}
-use Rattle.rv_boxes.specs.Limits.{limit_at}
+use Rattle.rv_boxes.specs.{declared.claim.Claim.Claim, Limits.limit_at}
 
 -- An upper limit of the opposite as a lower one.
 abbrev pub turned : Option ℤ → Option ℤ

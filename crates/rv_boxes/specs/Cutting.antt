@@ -1,12 +1,7 @@
 -- The cases of a set of control states, cut out of those of a larger one.
 use Rattle.std.specs.Prelude.{◌≡◌, ◌⊎◌, ℕ, ◌<◌, Bool, true, false, ◌&&◌, List, [], ◌∷◌, ◌++◌, Some, slice_get}
-use Rattle.rv_diagram.specs.Nodes.{Valuation, Diagrams, value_of, IsOrderedOver}
-use Rattle.rv_diagram.specs.Several.{UsesNeeded}
-use Rattle.rv_diagram.specs.declared.frozen.Frozen.{Frozen}
-use Rattle.rv_proofs.specs.Systems.{System}
-use Rattle.rv_proofs.specs.Scopes.{IsIn}
-use Rattle.rv_proofs.specs.Cases.{IsCaseOf}
-use Rattle.rv_proofs.specs.declared.report.Case.{Case}
+use Rattle.rv_diagram.specs.{Nodes.Valuation, Nodes.Diagrams, Nodes.value_of, Nodes.IsOrderedOver, Several.UsesNeeded, declared.frozen.Frozen.Frozen}
+use Rattle.rv_proofs.specs.{Systems.System, Scopes.IsIn, Cases.IsCaseOf, declared.report.Case.Case}
 use Rattle.rv_walk.specs.Ends.{has}
 
 -- The reference by itself, which is true somewhere.

@@ -1,7 +1,6 @@
 -- The ends of a box: for each column the rows that bound it alone most closely.
 use Rattle.std.specs.Prelude.{◌≡◌, ◌≢◌, ◌⊎◌, ℕ, ◌<◌, ℤ, pos, negsuc, ◌≤ℤ◌, List, length, Option, Some, None, IfSome, IfNone, slice_index_or}
-use Rattle.rv_rows.specs.declared.linear.Row.{Row}
-use Rattle.rv_rows.specs.Rows.{coefficient, row_at}
+use Rattle.rv_rows.specs.{declared.linear.Row.Row, Rows.coefficient, Rows.row_at}
 use Rattle.rv_proofs.specs.Boxes.{IsUnitAt}
 use Rattle.rv_boxes.specs.declared.ends.End.{End}
 

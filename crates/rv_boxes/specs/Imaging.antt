@@ -1,10 +1,7 @@
 -- The images of cases, each once it is made.
-use Rattle.std.specs.Prelude.{◌≡◌, ℕ, List, length, Option, Some, slice_get, slice_index_or}
-use Rattle.std.specs.Prelude.{None as Nothing}
+use Rattle.std.specs.Prelude.{◌≡◌, ℕ, List, length, Option, Some, slice_get, slice_index_or, None as Nothing}
 use Rattle.rv_diagram.specs.declared.frozen.Frozen.{Frozen}
-use Rattle.rv_proofs.specs.Systems.{System}
-use Rattle.rv_proofs.specs.Cases.{IsImage}
-use Rattle.rv_proofs.specs.declared.report.Case.{Case}
+use Rattle.rv_proofs.specs.{Systems.System, Cases.IsImage, declared.report.Case.Case}
 
 -- A place for the image of each case of a set of control states, and each that is there is the case's.
 pub record AreImages (s : System) (from : Frozen) (cases : List Case) (images : List (Option Frozen)) : Type 0 where

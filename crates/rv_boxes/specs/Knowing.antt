@@ -1,17 +1,10 @@
 -- Control states whose cases are known.
 use Rattle.std.specs.Prelude.{◌≡◌, true, false, length}
-use Rattle.rv_diagram.specs.Nodes.{Valuation}
-use Rattle.rv_diagram.specs.declared.frozen.Frozen.{Frozen}
-use Rattle.rv_proofs.specs.Systems.{System}
-use Rattle.rv_proofs.specs.Ranges.{IsControlSet}
-use Rattle.rv_proofs.specs.Cases.{AreCases}
+use Rattle.rv_diagram.specs.{Nodes.Valuation, declared.frozen.Frozen.Frozen}
+use Rattle.rv_proofs.specs.{Systems.System, Ranges.IsControlSet, Cases.AreCases}
 use Rattle.rv_walk.specs.Ends.{has}
-use Rattle.rv_boxes.specs.declared.known.Known.{Known}
-use Rattle.rv_boxes.specs.declared.frame.Frame.{Frame}
-use Rattle.rv_boxes.specs.declared.claim.Claim.{Claim}
-use Rattle.rv_boxes.specs.declared.rounds.Around.{Around}
-use Rattle.rv_boxes.specs.Rounds.{IsRest}
-use Rattle.rv_boxes.specs.Marking.{AreMarked}
+use Rattle.rv_boxes.specs.{declared.known.Known.Known, declared.frame.Frame.Frame, declared.claim.Claim.Claim, declared.rounds.Around.Around, Rounds.IsRest}
+use Rattle.rv_boxes.specs.{Marking.AreMarked}
 
 -- the first set is within the second
 abbrev pub IsWithin : Frozen → Frozen → Type 0

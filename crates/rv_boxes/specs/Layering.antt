@@ -1,17 +1,10 @@
 -- Where a claim takes a valuation, in a store.
 use Rattle.std.specs.Prelude.{◌≡◌, ◌⊎◌, ◌↔◌, ℕ, Bool, true, List}
-use Rattle.rv_diagram.specs.Nodes.{Valuation, Diagrams, IsRef, value_of}
-use Rattle.rv_diagram.specs.declared.frozen.Frozen.{Frozen}
+use Rattle.rv_diagram.specs.{Nodes.Valuation, Nodes.Diagrams, Nodes.IsRef, Nodes.value_of, declared.frozen.Frozen.Frozen}
 use Rattle.rv_rows.specs.declared.linear.Row.{Row}
-use Rattle.rv_proofs.specs.Systems.{System, IsSystem}
-use Rattle.rv_proofs.specs.Boxes.{BoxClaim, IsTaken}
-use Rattle.rv_symbolic.specs.declared.relation.Parts.{Parts}
-use Rattle.rv_boxes.specs.declared.frame.Frame.{Frame}
-use Rattle.rv_symbolic.specs.declared.relation.Relation.{Relation}
-use Rattle.rv_symbolic.specs.Represented.{IsRelationOf}
-use Rattle.rv_boxes.specs.Narrowed.{narrowed}
-use Rattle.rv_boxes.specs.Opening.{IsFrameOf}
-use Rattle.rv_boxes.specs.Rounds.{IsSetting}
+use Rattle.rv_proofs.specs.{Systems.System, Systems.IsSystem, Boxes.BoxClaim, Boxes.IsTaken}
+use Rattle.rv_symbolic.specs.{declared.relation.Parts.Parts, declared.relation.Relation.Relation, Represented.IsRelationOf}
+use Rattle.rv_boxes.specs.{declared.frame.Frame.Frame, Narrowed.narrowed, Opening.IsFrameOf, Rounds.IsSetting}
 
 -- Control states of a claim with the rows of its bounds, in a store with the variables of the system.
 pub record IsOpening (s : System) (d : Diagrams) (f : Frame) (c : BoxClaim) (from : Frozen) (given : List Row) : Type 0 where

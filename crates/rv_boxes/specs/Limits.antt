@@ -2,14 +2,10 @@
 -- form is worth over the box of premises.
 use Rattle.std.specs.Prelude.{◌≡◌, ◌⊎◌, ℕ, suc, ◌+◌, ◌<◌, ◌^◌, ℤ, pos, ◌-ℤ◌, ◌≤ℤ◌, ◌<ℤ◌, List, [], ◌∷◌, length, Bool, true, false, Option, Some, slice_index_or}
 use Rattle.std.specs.Prelude.{None as Nothing}
-use Rattle.std.specs.List.{Contains}
-use Rattle.std.specs.Int.RustNames.{unsigned_abs}
-use Rattle.rv_rows.specs.declared.linear.Row.{Row}
-use Rattle.rv_rows.specs.declared.linear.Form.{Form}
-use Rattle.rv_rows.specs.Forms.{value}
+use Rattle.std.specs.{List.Contains, Int.RustNames.unsigned_abs}
+use Rattle.rv_rows.specs.{declared.linear.Row.Row, declared.linear.Form.Form, Forms.value}
 use Rattle.rv_proofs.specs.Implied.{form_at}
-use Rattle.rv_boxes.specs.Boxed.{IsBoxed}
-use Rattle.rv_boxes.specs.Orders.{IsLeastAbove}
+use Rattle.rv_boxes.specs.{Boxed.IsBoxed, Orders.IsLeastAbove}
 
 -- the limit with a number, none past the end
 abbrev pub limit_at : List (Option ℤ) → ℕ → Option ℤ

@@ -1,15 +1,8 @@
 -- Marks of the cases that have a valuation whose control state is in a set.
-use Rattle.std.specs.Prelude.{◌≡◌, ◌⊎◌, ℕ, ◌<◌, true, false, List, length, Option, Some, MatchOption, slice_get, slice_set, slice_index_or}
-use Rattle.std.specs.Prelude.{None as Nothing}
-use Rattle.rv_diagram.specs.Nodes.{Valuation}
-use Rattle.rv_diagram.specs.declared.frozen.Frozen.{Frozen}
-use Rattle.rv_proofs.specs.Scopes.{IsIn}
-use Rattle.rv_proofs.specs.declared.report.Case.{Case}
-use Rattle.rv_boxes.specs.declared.frame.Frame.{Frame}
-use Rattle.rv_boxes.specs.declared.opening.Told.{Told}
-use Rattle.rv_boxes.specs.Cutting.{both_of}
-use Rattle.rv_boxes.specs.Opening.{IsToldOf}
-use Rattle.rv_boxes.specs.Rounds.{IsMet}
+use Rattle.std.specs.Prelude.{◌≡◌, ◌⊎◌, ℕ, ◌<◌, true, false, List, length, Option, Some, MatchOption, slice_get, slice_set, slice_index_or, None as Nothing}
+use Rattle.rv_diagram.specs.{Nodes.Valuation, declared.frozen.Frozen.Frozen}
+use Rattle.rv_proofs.specs.{Scopes.IsIn, declared.report.Case.Case}
+use Rattle.rv_boxes.specs.{declared.frame.Frame.Frame, declared.opening.Told.Told, Cutting.both_of, Opening.IsToldOf, Rounds.IsMet}
 
 -- A case is marked where it has a valuation whose control state is in the set.
 abbrev pub IsMarkOf : Frame → Frozen → Case → Option Told → Type 0

@@ -1,19 +1,10 @@
 -- What a case does to the limits: its premises, whether its box is open, and what its updates loosen.
 use Rattle.std.specs.Prelude.{◌≡◌, ℕ, ◌<◌, ◌≤◌, ◌^◌, ℤ, negsuc, ◌*ℤ◌, false, List, ◌++◌, length, All, Option, Some, MatchBool, slice_get}
 use Rattle.std.specs.Int.RustNames.{unsigned_abs}
-use Rattle.rv_rows.specs.declared.linear.Row.{Row}
-use Rattle.rv_rows.specs.declared.linear.Form.{Form}
-use Rattle.rv_rows.specs.Rows.{row_at}
-use Rattle.rv_rows.specs.Forms.{number, value, FormWithin}
-use Rattle.rv_proofs.specs.Systems.{System}
-use Rattle.rv_proofs.specs.Implied.{form_at}
-use Rattle.rv_proofs.specs.declared.report.Case.{Case}
-use Rattle.rv_boxes.specs.declared.frame.Frame.{Frame}
-use Rattle.rv_boxes.specs.declared.opening.Opened.{Opened}
-use Rattle.rv_boxes.specs.declared.opening.Told.{Told}
-use Rattle.rv_boxes.specs.Boxed.{IsOpenBox}
+use Rattle.rv_rows.specs.{declared.linear.Row.Row, declared.linear.Form.Form, Rows.row_at, Forms.number, Forms.value, Forms.FormWithin}
+use Rattle.rv_proofs.specs.{Systems.System, Implied.form_at, declared.report.Case.Case}
 use Rattle.rv_boxes.specs.Limits.{AreLoosened, HasChanged}
-use Rattle.rv_boxes.specs.Built.{nothing}
+use Rattle.rv_boxes.specs.{declared.frame.Frame.Frame, declared.opening.Opened.Opened, declared.opening.Told.Told, Boxed.IsOpenBox, Built.nothing}
 
 -- The numbers are those of the other list, each with the other sign.
 pub record AreOpposite (numbers opposites : List ℤ) : Type 0 where

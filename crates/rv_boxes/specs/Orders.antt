@@ -1,9 +1,6 @@
 -- Claims that are within each closed one, and the least threshold above a value.
-use Rattle.std.specs.Prelude.{ℤ, ◌≤ℤ◌, ◌<ℤ◌, List, Option, IfSome, IfNone}
-use Rattle.std.specs.List.{Contains}
-use Rattle.rv_proofs.specs.Systems.{System}
-use Rattle.rv_proofs.specs.Boxes.{BoxClaim, IsBoxClaim, IsClosed}
-use Rattle.rv_proofs.specs.Reached.{IsTighter}
+use Rattle.std.specs.{Prelude.ℤ, Prelude.◌≤ℤ◌, Prelude.◌<ℤ◌, Prelude.List, Prelude.Option, Prelude.IfSome, Prelude.IfNone, List.Contains}
+use Rattle.rv_proofs.specs.{Systems.System, Boxes.BoxClaim, Boxes.IsBoxClaim, Boxes.IsClosed, Reached.IsTighter}
 
 -- The claim claims no less than each closed one.
 abbrev pub IsBelowClosed : System → List ℤ → BoxClaim → Type 0

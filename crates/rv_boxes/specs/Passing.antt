@@ -1,18 +1,11 @@
 -- What a box pass is given, and how it ends.
 use Rattle.std.specs.Prelude.{◌≡◌, ℕ, ℤ, List}
 use Rattle.rv_diagram.specs.Nodes.{Diagrams}
-use Rattle.rv_proofs.specs.Systems.{System}
-use Rattle.rv_proofs.specs.Accepted.{IsAccepted}
-use Rattle.rv_proofs.specs.Boxes.{BoxClaim, HasGoodBox}
-use Rattle.rv_proofs.specs.Reached.{IsLeastClosed, AreLayers}
-use Rattle.rv_symbolic.specs.declared.relation.Relation.{Relation}
-use Rattle.rv_symbolic.specs.Represented.{IsRelationOf}
-use Rattle.rv_cases.specs.declared.asking.Questions.{Questions}
-use Rattle.rv_cases.specs.Questions.{AreQuestions}
-use Rattle.rv_proofs.specs.declared.certificate.Certificate.{Certificate}
-use Rattle.rv_walk.specs.Plain.{ArePlain}
-use Rattle.rv_walk.specs.declared.end.BoxEnd.{BoxEnd}
-use Rattle.rv_walk.specs.declared.end.BoxEnd.TheVariants.{Good, Bad}
+use Rattle.rv_proofs.specs.{Systems.System, Accepted.IsAccepted, Boxes.BoxClaim, Boxes.HasGoodBox, Reached.IsLeastClosed, Reached.AreLayers}
+use Rattle.rv_proofs.specs.{declared.certificate.Certificate.Certificate}
+use Rattle.rv_symbolic.specs.{declared.relation.Relation.Relation, Represented.IsRelationOf}
+use Rattle.rv_cases.specs.{declared.asking.Questions.Questions, Questions.AreQuestions}
+use Rattle.rv_walk.specs.{Plain.ArePlain, declared.end.BoxEnd.BoxEnd, declared.end.BoxEnd.TheVariants.Good, declared.end.BoxEnd.TheVariants.Bad}
 
 -- The relation and the questions are those of the system in the store, and the system has so many columns.
 pub record IsPassOf (s : System) (d : Diagrams) (r : Relation) (q : Questions) (columns : ℕ) : Type 0 where

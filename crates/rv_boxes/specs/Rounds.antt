@@ -1,33 +1,17 @@
 -- Rounds over the cases of a claim's control states, each of which loosens the claim.
 use Rattle.std.specs.Prelude.{◌≡◌, ◌⊎◌, ℕ, ◌+◌, ◌<◌, ◌≤◌, ℤ, ◌≤ℤ◌, List, [], length, Option, Bool, true, false, not, ◌&&◌, ◌||◌, Some, IsTrue, slice_get}
 use Rattle.std.specs.List.{Contains}
-use Rattle.rv_diagram.specs.Nodes.{Valuation, Diagrams}
-use Rattle.rv_diagram.specs.declared.frozen.Frozen.{Frozen}
-use Rattle.rv_rows.specs.declared.linear.Row.{Row}
-use Rattle.rv_rows.specs.Forms.{value}
-use Rattle.rv_proofs.specs.Systems.{System}
-use Rattle.rv_proofs.specs.Scopes.{IsIn}
-use Rattle.rv_proofs.specs.Ranges.{IsControlSet, AreKept}
+use Rattle.rv_diagram.specs.{Nodes.Valuation, Nodes.Diagrams, declared.frozen.Frozen.Frozen}
+use Rattle.rv_rows.specs.{declared.linear.Row.Row, Forms.value}
 use Rattle.rv_proofs.specs.Boxes.{BoxClaim, IsInBox, IsTaken, IsClosed}
-use Rattle.rv_proofs.specs.Reached.{IsLeastClosed}
-use Rattle.rv_proofs.specs.Cases.{IsCaseOf, AreCases, IsInitialSet}
-use Rattle.rv_proofs.specs.declared.certificate.Location.{Location}
-use Rattle.rv_proofs.specs.declared.report.Case.{Case}
-use Rattle.rv_symbolic.specs.declared.relation.Relation.{Relation}
-use Rattle.rv_symbolic.specs.Represented.{IsRelationOf}
-use Rattle.rv_cases.specs.declared.asking.Questions.{Questions}
-use Rattle.rv_cases.specs.Questions.{AreQuestions}
-use Rattle.rv_walk.specs.Ends.{has}
-use Rattle.rv_walk.specs.Walks.{missing}
-use Rattle.rv_boxes.specs.declared.frame.Frame.{Frame}
-use Rattle.rv_boxes.specs.declared.claim.Claim.{Claim}
-use Rattle.rv_boxes.specs.declared.rounds.Others.{Others}
-use Rattle.rv_boxes.specs.Bounding.{AreBothRows}
-use Rattle.rv_boxes.specs.Built.{IsClaimedAt, AreBounds}
+use Rattle.rv_proofs.specs.{Systems.System, Scopes.IsIn, Ranges.IsControlSet, Ranges.AreKept, Reached.IsLeastClosed, Cases.IsCaseOf, Cases.AreCases}
+use Rattle.rv_proofs.specs.{Cases.IsInitialSet, declared.certificate.Location.Location, declared.report.Case.Case}
+use Rattle.rv_symbolic.specs.{declared.relation.Relation.Relation, Represented.IsRelationOf}
+use Rattle.rv_cases.specs.{declared.asking.Questions.Questions, Questions.AreQuestions}
+use Rattle.rv_walk.specs.{Ends.has, Walks.missing}
 use Rattle.rv_boxes.specs.Limits.{AreAmong, HaveNotFallen, limit_at, room}
-use Rattle.rv_boxes.specs.Orders.{IsBelowClosed}
-use Rattle.rv_boxes.specs.Opening.{IsFrameOf}
-use Rattle.rv_boxes.specs.Claiming.{claim_of}
+use Rattle.rv_boxes.specs.{declared.frame.Frame.Frame, declared.claim.Claim.Claim, declared.rounds.Others.Others, Bounding.AreBothRows, Built.IsClaimedAt}
+use Rattle.rv_boxes.specs.{Built.AreBounds, Orders.IsBelowClosed, Opening.IsFrameOf, Claiming.claim_of}
 
 -- What is given throughout a pass: a system, its relation and its questions in a store, its columns and tests, and thresholds.
 pub record IsGiven (s : System) (d : Diagrams) (r : Relation) (q : Questions) (f : Frame) : Type 0 where

@@ -1,16 +1,13 @@
 -- Where no node reaches itself, unrolling gives all instances.
 use Rattle.std.proofs.Common.{◌≡◌, ℕ, zero, suc, ◌-◌, ◌<◌, ◌≤◌, ◌⊎◌, inl, inr, Bool, true, false, List, [], ◌∷◌, ◌++◌, length, get_or, set, replicate, refl}
 use Rattle.std.proofs.Common.{sym, ◌∙◌, ap, subst, arith}
-use Rattle.std.specs.List.{Contains, flat_map}
 use Rattle.std.proofs.lemmas.List.{length-set, length-replicate, get_or-set_other, get_or-replicate}
 use Rattle.std.proofs.lemmas.List.Elements.{Contains-append_right, Contains-get_or}
-use Rattle.rv_tree.specs.Tree.{NodeTree, ProgramTree}
-use Rattle.rv_tree.specs.Places.{Identifier, is_among, index_of}
-use Rattle.rv_types.specs.Names.{name_faults}
-use Rattle.rv_types.specs.Instances.{CallTree, calls, Instance, no_node, node_of, callee, unrolled, all_instances, main_instance, IsInstance, is_main}
-use Rattle.rv_types.specs.Instances.{is_callee}
-use Rattle.rv_calls.specs.Reach.{Reaches, itself, by_call, HasNoRecursion}
-use Rattle.rv_calls.specs.Graphs.{falses}
+use Rattle.std.specs.List.{Contains, flat_map}
+use Rattle.rv_tree.specs.{Tree.NodeTree, Tree.ProgramTree, Places.Identifier, Places.is_among, Places.index_of}
+use Rattle.rv_types.specs.{Names.name_faults, Instances.CallTree, Instances.calls, Instances.Instance, Instances.no_node, Instances.node_of, Instances.callee}
+use Rattle.rv_types.specs.{Instances.unrolled, Instances.all_instances, Instances.main_instance, Instances.IsInstance, Instances.is_main, Instances.is_callee}
+use Rattle.rv_calls.specs.{Reach.Reaches, Reach.itself, Reach.by_call, Reach.HasNoRecursion, Graphs.falses}
 use Rattle.rv_instances.specs.AllInstances.{names_of}
 use Rattle.rv_calls.proofs.Walks.{snoc_at, snoc_front, snoc_length, set_falses}
 use Rattle.rv_instances.proofs.Known.{called, calls_declared, node_of_number}

@@ -1,14 +1,10 @@
 -- The names of the nodes of a program, collected one after the other.
 use Rattle.std.proofs.Common.{◌≡◌, ◌+◌, Bool, true, false, cond, ◌||◌, List, [], ◌∷◌, ◌++◌, map, refl, sym, ◌∙◌, ap, arith}
-use Rattle.rv_tree.specs.declared.tree.Name.{Name}
-use Rattle.rv_tree.specs.Tree.{NodeTree, node_tree}
-use Rattle.rv_tree.specs.Places.{Identifier, is_same, is_among}
-use Rattle.rv_types.specs.declared.fault.NameFault.TheVariants.{DefinedTwice}
-use Rattle.rv_types.specs.Names.{texts, is_declared, repeated}
-use Rattle.rv_tree.specs.declared.tree.Node as declared
-use Rattle.rv_calls.specs.Numbering.{with_names}
-use Rattle.rv_calls.specs.Callings.{node_texts}
 use Rattle.std.proofs.lemmas.List.{append-nil, append_assoc}
+use Rattle.rv_tree.specs.{declared.tree.Name.Name, Tree.NodeTree, Tree.node_tree, Places.Identifier, Places.is_same, Places.is_among}
+use Rattle.rv_types.specs.{declared.fault.NameFault.TheVariants.DefinedTwice, Names.texts, Names.is_declared, Names.repeated}
+use Rattle.rv_tree.specs.declared.tree.Node as declared
+use Rattle.rv_calls.specs.{Numbering.with_names, Callings.node_texts}
 use Rattle.rv_instances.proofs.Known.{not_before}
 use Rattle.rv_types.proofs.RightNames.{both_empty}
 

@@ -2,9 +2,7 @@
 use Rattle.std.proofs.Common.{◌≡◌, ℕ, ◌+◌, ◌-◌, ◌<◌, inl, inr, true, false, List, [], ◌∷◌, ◌++◌, length, get_or, set, take, replicate, sym, ◌∙◌, ap, subst}
 use Rattle.std.proofs.Common.{arith, length-take-le}
 use Rattle.std.proofs.lemmas.List.{length-replicate, length-set}
-use Rattle.rv_calls.specs.Graphs.{Graph, falses}
-use Rattle.rv_calls.specs.declared.graph.Walk.{Walk}
-use Rattle.rv_calls.specs.Components.{AreVertices, IsDepth}
+use Rattle.rv_calls.specs.{Graphs.Graph, Graphs.falses, declared.graph.Walk.Walk, Components.AreVertices, Components.IsDepth}
 use Rattle.rv_calls.proofs.Walks.{snoc_at, snoc_front, snoc_last, snoc_length, get_or-take_below, set_falses}
 
 vertices_snoc : (g : Graph) (vs : List ℕ) (v : ℕ) → AreVertices g vs → v < length g → AreVertices g (vs ++ v ∷ [])

@@ -1,18 +1,15 @@
 -- A walk over instances that waits for those of which it has not looked at the calls.
 use Rattle.std.proofs.Common.{◌≡◌, ℕ, zero, suc, ◌+◌, ◌<◌, inl, inr, List, [], ◌∷◌, ◌++◌, map, reverse, length, get_or, drop, refl, sym, ◌∙◌, ap, subst, arith}
-use Rattle.std.specs.List.{Contains, flat_map}
 use Rattle.std.proofs.lemmas.List.{append_assoc, append-nil, reverse-append}
 use Rattle.std.proofs.lemmas.List.Elements.{Contains-append_left, Contains-append_cases, Contains-push}
+use Rattle.std.specs.List.{Contains, flat_map}
 use Rattle.rv_instances.specs.declared.answer.Instance.{Instance}
-use Rattle.rv_calls.specs.declared.calls.Calling.{Calling}
-use Rattle.rv_calls.specs.Graphs.{IsGraph, IsOrdered}
-use Rattle.rv_calls.specs.Callings.{callees, call_graph}
 use Rattle.rv_calls.specs.Listing.{called_instance, listed, all_listed, ahead, IsExpansion}
+use Rattle.rv_calls.specs.{declared.calls.Calling.Calling, Graphs.IsGraph, Graphs.IsOrdered, Callings.callees, Callings.call_graph}
 use Rattle.rv_instances.proofs.Lists.{contains_at, length_map}
 use Rattle.rv_calls.proofs.Lowering.{edge_of}
-use Rattle.rv_types.proofs.Members.{cons_cases, nothing_in}
+use Rattle.rv_types.proofs.{Members.cons_cases, Members.nothing_in, ConstantKinds.of_reverse}
 use Rattle.rv_base.proofs.Lists.{flat_map_same, from_map, next_of}
-use Rattle.rv_types.proofs.ConstantKinds.{of_reverse}
 
 module _ (t : List (List Calling)) (order : List ℕ) (ordered : IsOrdered (call_graph t) order) where
   -- more levels than a node's number in the order give nothing more

@@ -1,24 +1,14 @@
 -- A list of all instances is no longer than their number.
 use Rattle.std.proofs.Common.{◌≡◌, ℕ, zero, suc, ◌<◌, ◌≤◌, true, List, [], ◌∷◌, map, length, get_or, refl, sym, ◌∙◌, ap, subst, arith}
+use Rattle.std.proofs.{lemmas.List.get_or_default, lemmas.List.Elements.Contains-append_right}
 use Rattle.std.specs.List.{Contains}
-use Rattle.std.proofs.lemmas.List.{get_or_default}
-use Rattle.std.proofs.lemmas.List.Elements.{Contains-append_right}
-use Rattle.rv_tree.specs.Bounded.{IsBounded}
-use Rattle.rv_tree.specs.Tree.{ProgramTree}
-use Rattle.rv_tree.specs.Places.{Identifier, is_among}
-use Rattle.rv_types.specs.Instances.{all_instances, name_at}
-use Rattle.rv_types.specs.Names.{name_faults}
-use Rattle.rv_types.specs.Needs.{IsBefore}
-use Rattle.rv_types.specs.WellFormed.{AreWell, AreSited}
-use Rattle.rv_instances.specs.declared.answer.Instance.{Instance as Numbered}
+use Rattle.rv_tree.specs.{Bounded.IsBounded, Tree.ProgramTree, Places.Identifier, Places.is_among}
+use Rattle.rv_types.specs.{Instances.all_instances, Instances.name_at, Names.name_faults, Needs.IsBefore, WellFormed.AreWell, WellFormed.AreSited}
 use Rattle.rv_instances.specs.AllInstances.{names_of, AreInstances, numbered}
-use Rattle.rv_instances.specs.Expanded.{IsExpanded}
+use Rattle.rv_instances.specs.{declared.answer.Instance.Instance as Numbered, Expanded.IsExpanded, Counts.instance_count}
 use Rattle.rv_calls.specs.Reach.{HasNoRecursion}
-use Rattle.rv_instances.specs.Counts.{instance_count}
 use Rattle.rv_calls.proofs.AllInstances.{all_found, pigeonhole}
-use Rattle.rv_instances.proofs.ExpandedLaws.{not_itself}
-use Rattle.rv_instances.proofs.Known.{name_declared}
-use Rattle.rv_instances.proofs.Lists.{length_map}
+use Rattle.rv_instances.proofs.{ExpandedLaws.not_itself, Known.name_declared, Lists.length_map}
 use Rattle.rv_types.proofs.Members.{in_map}
 
 -- where the elements of a list stand in another

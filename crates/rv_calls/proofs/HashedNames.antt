@@ -1,9 +1,7 @@
 -- What a set of names by their hashes answers, in the words of lists of names.
 use Rattle.std.proofs.Common.{◌≡◌, ℕ, ◌+◌, Bool, true, false, not, cond, ◌||◌, List, [], ◌∷◌, ◌++◌, length, refl, ap, nat_eq, nat_lt, position, Some, IfSome}
-use Rattle.std.proofs.Common.{arith}
-use Rattle.std.proofs.Common.{None as Nothing}
-use Rattle.std.specs.List.{list_any, position_or_len}
-use Rattle.std.specs.Cmp.Lexicographic.{pointwise}
+use Rattle.std.proofs.Common.{arith, None as Nothing}
+use Rattle.std.specs.{List.list_any, List.position_or_len, Cmp.Lexicographic.pointwise}
 use Rattle.rv_tree.specs.Places.{Identifier, is_same, is_among, index_of}
 use Rattle.rv_calls.specs.Numbering.{with_name}
 use Rattle.indexmap.specs.IndexSet.{insert_key}

@@ -1,27 +1,18 @@
 -- The instances that a walk comes to are all instances, in the order of their paths.
 use Rattle.std.proofs.Common.{◌≡◌, ℕ, zero, suc, ◌+◌, ◌-◌, ◌<◌, ◌≤◌, inl, inr, List, [], ◌∷◌, ◌++◌, length, get_or, refl, sym, ◌∙◌, ap, subst, arith}
+use Rattle.std.proofs.{lemmas.List.append_assoc, lemmas.List.append-nil, lemmas.List.get_or_past, lemmas.Bool.cases_eq, lemmas.List.Sums.sum_by-cons}
+use Rattle.std.proofs.{lemmas.List.Elements.Contains-append_right, lemmas.List.Elements.Contains-append_cases, lemmas.List.Elements.Contains-get_or}
+use Rattle.std.proofs.{lemmas.List.Sorted.Contains-permutation, lemmas.List.Sorted.IsPermutation-sym, lemmas.List.Sorted.sum_by-IsPermutation}
 use Rattle.std.specs.List.{Contains, flat_map, sum_by}
-use Rattle.std.proofs.lemmas.List.{append_assoc, append-nil, get_or_past}
-use Rattle.std.proofs.lemmas.Bool.{cases_eq}
-use Rattle.std.proofs.lemmas.List.Sums.{sum_by-cons}
-use Rattle.std.proofs.lemmas.List.Elements.{Contains-append_right, Contains-append_cases, Contains-get_or}
-use Rattle.std.proofs.lemmas.List.Sorted.{Contains-permutation, IsPermutation-sym, sum_by-IsPermutation}
-use Rattle.rv_tree.specs.Tree.{None, NodeTree, ProgramTree}
-use Rattle.rv_tree.specs.Places.{Identifier, index_of}
-use Rattle.rv_types.specs.Names.{name_faults}
-use Rattle.rv_instances.specs.declared.answer.Instance.{Instance as Numbered}
-use Rattle.rv_calls.specs.declared.calls.Calling.{Calling}
+use Rattle.rv_tree.specs.{Tree.None, Tree.NodeTree, Tree.ProgramTree, Places.Identifier, Places.index_of}
 use Rattle.rv_types.specs.Instances.{CallTree, calls, Instance, no_node, callee, unrolled, main_instance, IsInstance, is_main, is_callee, name_at}
-use Rattle.rv_types.specs.Needs.{IsBefore}
-use Rattle.rv_calls.specs.Reach.{HasNoRecursion}
-use Rattle.rv_calls.specs.Callings.{calling, callings, callings_of}
-use Rattle.rv_instances.specs.AllInstances.{names_of, AreInstances, numbered}
-use Rattle.rv_types.specs.WellFormed.{AreSited, HasSites}
+use Rattle.rv_types.specs.{Names.name_faults, Needs.IsBefore, WellFormed.AreSited, WellFormed.HasSites}
+use Rattle.rv_instances.specs.{declared.answer.Instance.Instance as Numbered, AllInstances.names_of, AllInstances.AreInstances, AllInstances.numbered}
 use Rattle.rv_calls.specs.Listing.{listed, all_listed, AreSorted, AreAllSorted}
+use Rattle.rv_calls.specs.{declared.calls.Calling.Calling, Reach.HasNoRecursion, Callings.calling, Callings.callings, Callings.callings_of}
 use Rattle.rv_instances.proofs.Lists.{nat_split, length_map, beside}
 use Rattle.rv_instances.proofs.Known.{map_at, called, calls_declared, number_of_node, node_of_number, name_declared}
-use Rattle.rv_calls.proofs.Recursions.{table_at, table_size, tabled, untabled}
-use Rattle.rv_calls.proofs.AllInstances.{all_found}
+use Rattle.rv_calls.proofs.{Recursions.table_at, Recursions.table_size, Recursions.tabled, Recursions.untabled, AllInstances.all_found}
 use Rattle.rv_types.proofs.Members.{cons_cases, in_flat_map, nothing_in, of_flat_map}
 
 -- Paths in order.

@@ -1,15 +1,12 @@
 -- Calls that lead back to their node, and the least offset of them.
 use Rattle.std.proofs.Common.{◌≡◌, ℕ, zero, suc, ◌+◌, ◌<◌, ◌≤◌, inl, inr, List, [], ◌∷◌, ◌++◌, length, get_or, refl, sym, ◌∙◌, ap, subst, arith, Option, Some}
 use Rattle.std.proofs.Common.{None as Nothing}
-use Rattle.std.specs.List.{Contains}
-use Rattle.std.proofs.lemmas.List.{get_or_default}
 use Rattle.std.proofs.lemmas.List.Elements.{Contains-append_left, Contains-append_right, Contains-append_cases}
-use Rattle.std.proofs.lemmas.Bool.{cases_eq}
-use Rattle.rv_calls.specs.declared.calls.Calling.{Calling}
-use Rattle.rv_calls.specs.Graphs.{Graph, edges, IsGraph, IsOrdered, Follows, IsLoop}
-use Rattle.rv_calls.specs.Callings.{LeadsTo, there, over, callees, call_graph}
-use Rattle.rv_calls.specs.Components.{Marks, mark_of, AreComponents}
-use Rattle.rv_calls.specs.Loops.{AtMost, IsLowered, IsLoweredTo, HasNoLoop, IsFirstLoop}
+use Rattle.std.proofs.{lemmas.List.get_or_default, lemmas.Bool.cases_eq}
+use Rattle.std.specs.List.{Contains}
+use Rattle.rv_calls.specs.{declared.calls.Calling.Calling, Graphs.Graph, Graphs.edges, Graphs.IsGraph, Graphs.IsOrdered, Graphs.Follows, Graphs.IsLoop}
+use Rattle.rv_calls.specs.{Callings.LeadsTo, Callings.there, Callings.over, Callings.callees, Callings.call_graph, Components.Marks, Components.mark_of}
+use Rattle.rv_calls.specs.{Components.AreComponents, Loops.AtMost, Loops.IsLowered, Loops.IsLoweredTo, Loops.HasNoLoop, Loops.IsFirstLoop}
 use Rattle.rv_instances.proofs.Lists.{contains_at, length_map}
 
 pub lowered_none : (parts : Marks) (k : ℕ) (old : Option ℕ) → IsLowered parts k [] old old

@@ -1,14 +1,12 @@
 -- No two instances that a program is unrolled to have one path.
 use Rattle.std.proofs.Common.{◌≡◌, ℕ, zero, suc, ◌<◌, inl, inr, Bool, true, false, List, [], ◌∷◌, ◌++◌, length, get_or, refl, sym, ◌∙◌, ap, subst, arith}
 use Rattle.std.proofs.Common.{length-append, unwrap_or}
-use Rattle.std.specs.List.{Contains, flat_map}
 use Rattle.std.proofs.lemmas.List.{append_assoc, append-nil}
 use Rattle.std.proofs.lemmas.List.Elements.{Contains-append_right, Contains-append_cases, Contains-get_or}
-use Rattle.rv_tree.specs.Tree.{NodeTree, ProgramTree}
-use Rattle.rv_tree.specs.Places.{Identifier, index_of, is_among}
-use Rattle.rv_types.specs.Names.{name_faults}
+use Rattle.std.specs.List.{Contains, flat_map}
+use Rattle.rv_tree.specs.{Tree.NodeTree, Tree.ProgramTree, Places.Identifier, Places.index_of, Places.is_among}
 use Rattle.rv_types.specs.Instances.{CallTree, calls, Instance, no_node, node_of, callee, unrolled, all_instances, main_instance}
-use Rattle.rv_types.specs.WellFormed.{AreSited}
+use Rattle.rv_types.specs.{Names.name_faults, WellFormed.AreSited}
 use Rattle.rv_instances.specs.AllInstances.{names_of}
 use Rattle.rv_instances.proofs.Known.{called, node_missing}
 use Rattle.rv_types.proofs.Members.{cons_cases, nothing_in, of_flat_map}

@@ -3,9 +3,8 @@ use Rattle.std.proofs.Common.{◌≡◌, ℕ, zero, suc, ◌<◌, ◌⊎◌, inl
 use Rattle.std.proofs.Common.{None as Nothing}
 use Rattle.std.proofs.lemmas.List.{length-replicate, get_or_past}
 use Rattle.std.specs.List.{Contains}
-use Rattle.rv_calls.specs.Graphs.{Graph, edges}
-use Rattle.rv_calls.specs.Callings.{LeadsTo, there, over}
 use Rattle.rv_calls.specs.Components.{Marks, mark_of, HasMark, AreComponents, IsReversed, IsReached, IsParted}
+use Rattle.rv_calls.specs.{Graphs.Graph, Graphs.edges, Callings.LeadsTo, Callings.there, Callings.over}
 use Rattle.rv_instances.proofs.Lists.{at_contains, nat_split}
 use Rattle.rv_calls.proofs.Searches.{lead_on}
 

@@ -1,21 +1,15 @@
 -- Recursion of nodes by names, and by numbers in the table of calls.
 use Rattle.std.proofs.Common.{◌≡◌, ℕ, ◌<◌, Bool, true, false, List, [], length, get_or, refl, sym, ◌∙◌, ap, subst, arith, unwrap_or}
+use Rattle.std.proofs.{lemmas.List.get_or_default, lemmas.List.Elements.Contains-get_or}
 use Rattle.std.specs.List.{Contains}
-use Rattle.std.proofs.lemmas.List.{get_or_default}
-use Rattle.std.proofs.lemmas.List.Elements.{Contains-get_or}
-use Rattle.rv_tree.specs.Tree.{NodeTree, ProgramTree}
-use Rattle.rv_tree.specs.Places.{Identifier, is_among, index_of}
-use Rattle.rv_types.specs.Names.{name_faults}
-use Rattle.rv_calls.specs.declared.calls.Calling.{Calling}
-use Rattle.rv_types.specs.Instances.{CallTree, calls, no_node}
+use Rattle.rv_tree.specs.{Tree.NodeTree, Tree.ProgramTree, Places.Identifier, Places.is_among, Places.index_of}
+use Rattle.rv_types.specs.{Names.name_faults, Instances.CallTree, Instances.calls, Instances.no_node}
 use Rattle.rv_calls.specs.Reach.{Reaches, itself, by_call, IsRecursive, HasNoRecursion, IsFirstRecursion}
-use Rattle.rv_calls.specs.Graphs.{edges, IsGraph}
 use Rattle.rv_calls.specs.Callings.{calling, callings, callings_of, callees, call_graph, LeadsTo, there, over}
-use Rattle.rv_instances.specs.AllInstances.{names_of}
-use Rattle.rv_calls.specs.declared.fault.CauseFault.{CauseFault}
 use Rattle.rv_calls.specs.declared.fault.CauseFault.TheVariants.{Recursive, Cycle, TooLarge, TooWide, Memory}
 use Rattle.rv_calls.specs.Loops.{HasNoLoop, IsFirstLoop, IsRecursion}
-use Rattle.rv_calls.specs.Nodes.{IsRecursionOf}
+use Rattle.rv_calls.specs.{declared.calls.Calling.Calling, Graphs.edges, Graphs.IsGraph, declared.fault.CauseFault.CauseFault, Nodes.IsRecursionOf}
+use Rattle.rv_instances.specs.AllInstances.{names_of}
 use Rattle.rv_instances.proofs.Known.{map_at, number_of_node, node_of_number, called, calls_declared, node_missing}
 use Rattle.rv_instances.proofs.Lists.{length_map}
 use Rattle.rv_calls.proofs.Lowering.{edge_of, call_of}

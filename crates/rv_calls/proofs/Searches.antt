@@ -1,13 +1,11 @@
 -- How marks spread over the vertices of a graph that are allowed.
 use Rattle.std.proofs.Common.{◌≡◌, ℕ, zero, suc, ◌+◌, ◌<◌, ◌⊎◌, inl, inr, List, [], ◌∷◌, ◌++◌, length, get_or, set, cond, nat_eq, refl, sym, ◌∙◌, ap, subst}
 use Rattle.std.proofs.Common.{arith, rules, true, false, Option, Some, None as Nothing}
-use Rattle.std.proofs.lemmas.List.{length-set, get_or-set_same}
-use Rattle.std.proofs.lemmas.Bool.Decides.{nat_tests}
-use Rattle.std.specs.List.{Contains}
 use Rattle.std.proofs.lemmas.List.Elements.{Contains-append_left, Contains-append_right, Contains-append_cases}
-use Rattle.rv_calls.specs.Graphs.{Graph, edges, IsGraph}
-use Rattle.rv_calls.specs.Callings.{LeadsTo, there, over}
+use Rattle.std.proofs.{lemmas.List.length-set, lemmas.List.get_or-set_same, lemmas.Bool.Decides.nat_tests}
+use Rattle.std.specs.List.{Contains}
 use Rattle.rv_calls.specs.Components.{Marks, mark_of, IsReached, IsSearch, IsSpread, unmarked}
+use Rattle.rv_calls.specs.{Graphs.Graph, Graphs.edges, Graphs.IsGraph, Callings.LeadsTo, Callings.there, Callings.over}
 use Rattle.rv_instances.proofs.Lists.{contains_at}
 use Rattle.rv_calls.proofs.Walks.{snoc_length}
 

@@ -1,10 +1,8 @@
 -- Sorted calls give the same graph, up to the order of edges.
 use Rattle.std.proofs.Common.{◌≡◌, ℕ, ◌<◌, List, [], length, get_or, sym, ◌∙◌, arith}
 use Rattle.std.proofs.lemmas.List.Sorted.{Contains-permutation, IsPermutation-sym}
-use Rattle.rv_calls.specs.declared.calls.Calling.{Calling}
 use Rattle.rv_calls.specs.Graphs.{edges, IsGraph, IsOrdered}
-use Rattle.rv_calls.specs.Callings.{callees, call_graph}
-use Rattle.rv_calls.specs.Listing.{AreAllSorted}
+use Rattle.rv_calls.specs.{declared.calls.Calling.Calling, Callings.callees, Callings.call_graph, Listing.AreAllSorted}
 use Rattle.rv_instances.proofs.Lists.{length_map}
 use Rattle.rv_calls.proofs.Lowering.{edge_of, call_of}
 

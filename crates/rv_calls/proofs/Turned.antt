@@ -1,11 +1,9 @@
 -- The edges of a graph the other way round.
 use Rattle.std.proofs.Common.{◌≡◌, ℕ, zero, suc, ◌+◌, ◌<◌, ◌⊎◌, inl, inr, List, [], ◌∷◌, ◌++◌, length, get_or, set, replicate, refl, sym, ◌∙◌, ap, subst, arith}
-use Rattle.std.proofs.lemmas.List.{length-set, length-replicate, get_or-set_same}
-use Rattle.std.proofs.lemmas.Bool.{cases_eq}
+use Rattle.std.proofs.{lemmas.List.length-set, lemmas.List.length-replicate, lemmas.List.get_or-set_same, lemmas.Bool.cases_eq}
+use Rattle.std.proofs.{lemmas.List.Elements.Contains-append_left, lemmas.List.Elements.Contains-append_right, lemmas.List.Elements.Contains-append_cases}
 use Rattle.std.specs.List.{Contains}
-use Rattle.std.proofs.lemmas.List.Elements.{Contains-append_left, Contains-append_right, Contains-append_cases}
-use Rattle.rv_calls.specs.Graphs.{Graph, edges, IsGraph}
-use Rattle.rv_calls.specs.Components.{IsReversed, IsReversedTo, IsTurned}
+use Rattle.rv_calls.specs.{Graphs.Graph, Graphs.edges, Graphs.IsGraph, Components.IsReversed, Components.IsReversedTo, Components.IsTurned}
 use Rattle.rv_instances.proofs.Lists.{at_contains}
 use Rattle.rv_calls.proofs.Searches.{one, only_one, nothing_there}
 

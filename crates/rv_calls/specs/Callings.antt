@@ -1,11 +1,9 @@
 -- The calls of a program by the numbers of its nodes.
 use Rattle.std.specs.Prelude.{ℕ, ◌<◌, List, map, length, slice_index_or}
 use Rattle.rv_tree.specs.declared.tree.Node as declared
-use Rattle.rv_tree.specs.Tree.{ProgramTree}
-use Rattle.rv_tree.specs.Places.{Identifier, index_of}
-use Rattle.rv_calls.specs.declared.calls.Calling.{Calling}
+use Rattle.rv_tree.specs.{Tree.ProgramTree, Places.Identifier, Places.index_of}
+use Rattle.rv_calls.specs.{declared.calls.Calling.Calling, Graphs.Graph, Graphs.edges}
 use Rattle.rv_types.specs.Instances.{CallTree, calls}
-use Rattle.rv_calls.specs.Graphs.{Graph, edges}
 use Rattle.rv_instances.specs.AllInstances.{names_of}
 
 -- a call, where the nodes have these names

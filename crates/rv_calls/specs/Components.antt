@@ -1,11 +1,8 @@
 -- Components of a graph, by the vertices that lead to each other, and the searches that find them. (Sharir 1981 for the order
 -- of the roots; Fleischer, Hendrickson and Pinar 2000 for the two searches from each.)
-use Rattle.std.specs.Prelude.{◌≡◌, ◌⊎◌, ℕ, ◌+◌, ◌<◌, cond, nat_eq, List, [], ◌∷◌, length, slice_index_or, Option, Some}
-use Rattle.std.specs.Prelude.{None as Nothing}
+use Rattle.std.specs.Prelude.{◌≡◌, ◌⊎◌, ℕ, ◌+◌, ◌<◌, cond, nat_eq, List, [], ◌∷◌, length, slice_index_or, Option, Some, None as Nothing}
 use Rattle.std.specs.List.{Contains}
-use Rattle.rv_calls.specs.declared.graph.Walk.{Walk}
-use Rattle.rv_calls.specs.Graphs.{Graph, edges}
-use Rattle.rv_calls.specs.Callings.{LeadsTo}
+use Rattle.rv_calls.specs.{declared.graph.Walk.Walk, Graphs.Graph, Graphs.edges, Callings.LeadsTo}
 
 -- for each vertex the number of another, or none
 abbrev pub Marks : Type 0

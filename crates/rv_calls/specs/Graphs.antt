@@ -1,11 +1,9 @@
 -- Graphs, given by the vertices that each vertex points to; orders in which each vertex stands after those, and loops.
 -- (Tarjan 1972 for the search in depth that finds one or the other.)
-use Rattle.std.specs.Prelude.{◌≡◌, ◌⊎◌, ℕ, ◌+◌, ◌<◌, ◌≤◌, Bool, true, false, List, [], ◌∷◌, length, Option, Some, slice_index_or, slice_set}
-use Rattle.std.specs.Prelude.{None as Nothing}
+use Rattle.std.specs.Prelude.{◌≡◌, ◌⊎◌, ℕ, ◌+◌, ◌<◌, ◌≤◌, Bool, true, false, List, [], ◌∷◌, length, Option, Some, slice_index_or, slice_set, None as Nothing}
 use Rattle.std.specs.List.{Contains}
-use Rattle.rv_calls.specs.declared.graph.Sorted.{Sorted}
 use Rattle.rv_calls.specs.declared.graph.Sorted.TheVariants.{Ordered, Looped}
-use Rattle.rv_calls.specs.declared.graph.Walk.{Walk}
+use Rattle.rv_calls.specs.{declared.graph.Sorted.Sorted, declared.graph.Walk.Walk}
 
 abbrev pub Graph : Type 0
 Graph = List (List ℕ)

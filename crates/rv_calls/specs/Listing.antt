@@ -1,7 +1,6 @@
 -- The instances of a program by the numbers of its nodes, in the order in which a walk comes to them.
 use Rattle.std.specs.Prelude.{◌≡◌, ℕ, zero, suc, ◌<◌, List, [], ◌∷◌, ◌++◌, flat_map, length, slice_index_or}
-use Rattle.std.specs.List.{Contains}
-use Rattle.std.specs.List.Sorted.{IsPermutation, IsNonDecreasingBy}
+use Rattle.std.specs.{List.Contains, List.Sorted.IsPermutation, List.Sorted.IsNonDecreasingBy}
 use Rattle.rv_instances.specs.declared.answer.Instance.{Instance}
 use Rattle.rv_calls.specs.declared.calls.Calling.{Calling}
 

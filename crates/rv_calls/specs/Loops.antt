@@ -1,13 +1,9 @@
 -- Calls in a table by numbers that lead back to their own node, and the first of them.
-use Rattle.std.specs.Prelude.{◌≡◌, ◌⊎◌, ℕ, ◌<◌, ◌≤◌, List, [], length, Option, Some, slice_index_or}
-use Rattle.std.specs.Prelude.{None as Nothing}
+use Rattle.std.specs.Prelude.{◌≡◌, ◌⊎◌, ℕ, ◌<◌, ◌≤◌, List, [], length, Option, Some, slice_index_or, None as Nothing}
 use Rattle.std.specs.List.{Contains}
-use Rattle.rv_calls.specs.declared.calls.Calling.{Calling}
-use Rattle.rv_calls.specs.declared.fault.CauseFault.{CauseFault}
 use Rattle.rv_calls.specs.declared.fault.CauseFault.TheVariants.{Recursive, Cycle, TooLarge, TooWide, Memory}
-use Rattle.rv_calls.specs.Graphs.{Graph}
-use Rattle.rv_calls.specs.Callings.{LeadsTo}
 use Rattle.rv_calls.specs.Components.{Marks, mark_of}
+use Rattle.rv_calls.specs.{declared.calls.Calling.Calling, declared.fault.CauseFault.CauseFault, Graphs.Graph, Callings.LeadsTo}
 
 -- an offset is at least the least one, where that is known
 abbrev pub AtMost : Option ℕ → ℕ → Type 0

@@ -1,13 +1,10 @@
 -- The nodes of a program without recursion, in order.
 use Rattle.std.specs.Prelude.{◌≡◌}
 use Rattle.rv_tree.specs.Tree.{ProgramTree}
-use Rattle.rv_calls.specs.declared.recursion.Nodes.{Nodes}
-use Rattle.rv_calls.specs.declared.fault.CauseFault.{CauseFault}
 use Rattle.rv_calls.specs.declared.fault.CauseFault.TheVariants.{Recursive, Cycle, TooLarge, TooWide, Memory}
-use Rattle.rv_calls.specs.Reach.{HasNoRecursion, IsFirstRecursion}
-use Rattle.rv_calls.specs.Graphs.{IsOrdered}
+use Rattle.rv_calls.specs.{declared.recursion.Nodes.Nodes, declared.fault.CauseFault.CauseFault, Reach.HasNoRecursion, Reach.IsFirstRecursion, Graphs.IsOrdered}
+use Rattle.rv_calls.specs.{Callings.callings_of, Callings.call_graph}
 use Rattle.rv_instances.specs.AllInstances.{names_of}
-use Rattle.rv_calls.specs.Callings.{callings_of, call_graph}
 
 -- No node reaches itself. The names and calls are those of the nodes, and each stands after those that it calls.
 pub record AreOrderedNodes (p : ProgramTree) (n : Nodes) : Type 0 where

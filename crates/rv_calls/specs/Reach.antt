@@ -1,8 +1,6 @@
 -- Which nodes reach which by calls, and the first call that leads back to its own node.
-use Rattle.std.specs.Prelude.{◌≡◌, ℕ, ◌≤◌}
-use Rattle.std.specs.List.{Contains}
-use Rattle.rv_tree.specs.Tree.{NodeTree, ProgramTree}
-use Rattle.rv_tree.specs.Places.{Identifier}
+use Rattle.std.specs.{Prelude.◌≡◌, Prelude.ℕ, Prelude.◌≤◌, List.Contains}
+use Rattle.rv_tree.specs.{Tree.NodeTree, Tree.ProgramTree, Places.Identifier}
 use Rattle.rv_types.specs.Instances.{CallTree, calls, node_of}
 
 module _ (program : ProgramTree) where

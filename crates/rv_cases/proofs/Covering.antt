@@ -1,25 +1,16 @@
 -- Cases that are made of conditions which part the allowed valuations of a set are the cases of that set.
-use Rattle.std.proofs.Common.{ℕ, ◌*◌, ◌<◌, ◌≤◌, ◌≡◌, Bool, true, false, ◌&&◌, List, [], length, refl, sym, ap, ◌∙◌, subst, ⊎_elim, arith}
-use Rattle.std.proofs.Common.{slice_get, Some, get_or}
-use Rattle.std.proofs.lemmas.Bool.{cases_lt, and_from, and_parts}
-use Rattle.std.proofs.lemmas.Option.{slice_get_within, slice_get-get_or}
-use Rattle.rv_diagram.specs.declared.frozen.Frozen.{Frozen}
+use Rattle.std.proofs.Common.{ℕ, ◌*◌, ◌<◌, ◌≤◌, ◌≡◌, Bool, true, false, ◌&&◌, List, [], length, refl, sym, ap, ◌∙◌, subst, ⊎_elim, arith, slice_get, Some}
+use Rattle.std.proofs.Common.{get_or}
+use Rattle.std.proofs.{lemmas.Bool.cases_lt, lemmas.Bool.and_from, lemmas.Bool.and_parts, lemmas.Option.slice_get_within, lemmas.Option.slice_get-get_or}
 use Rattle.rv_diagram.specs.Nodes.{Valuation, Diagrams, IsMeant, value_of, node_at, put, IsOrderedOver}
-use Rattle.rv_diagram.specs.Several.{ref_at, UsesNeeded}
-use Rattle.rv_diagram.proofs.Canon.{put-other}
+use Rattle.rv_diagram.specs.{declared.frozen.Frozen.Frozen, Several.ref_at, Several.UsesNeeded}
+use Rattle.rv_diagram.proofs.{Canon.put-other, Several.same_truth}
 use Rattle.rv_proofs.specs.Systems.{System, IsSystem, HasSameState, IsSameValuation}
-use Rattle.rv_proofs.specs.Scopes.{IsIn}
-use Rattle.rv_proofs.specs.Ranges.{IsControlSet, IsCondition}
-use Rattle.rv_proofs.specs.Cases.{IsCaseOf, AreCases, AreCaseTests}
-use Rattle.rv_proofs.specs.declared.report.Case.{Case}
+use Rattle.rv_proofs.specs.{Scopes.IsIn, Ranges.IsControlSet, Ranges.IsCondition, Cases.IsCaseOf, Cases.AreCases, Cases.AreCaseTests, declared.report.Case.Case}
 use Rattle.rv_proofs.proofs.ControlReads.{control_same}
-use Rattle.rv_cases.specs.declared.asking.Questions.{Questions}
 use Rattle.rv_cases.specs.Conditions.{is_in, list_at, IsParted, AreJoined}
-use Rattle.rv_cases.specs.Questions.{AreQuestions}
-use Rattle.rv_cases.specs.Telling.{AreTold}
-use Rattle.rv_cases.specs.Made.{is_allowed_in, IsMadeFor, AreMadeOf}
+use Rattle.rv_cases.specs.{declared.asking.Questions.Questions, Questions.AreQuestions, Telling.AreTold, Made.is_allowed_in, Made.IsMadeFor, Made.AreMadeOf}
 use Rattle.rv_cases.proofs.Keeping.{questions_later}
-use Rattle.rv_diagram.proofs.Several.{same_truth}
 
 -- a diagram that needs each of its variables, and means a fact of the valuation, reads no next copy
 condition_set : (s : System) (f : Frozen) (meaning : Valuation → Bool) → IsOrderedOver s.variables f → UsesNeeded f.nodes meaning

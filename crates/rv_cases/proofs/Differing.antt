@@ -1,27 +1,17 @@
 -- Cases that are alike are one, where no question has one row or form in two answers.
-use Rattle.std.proofs.Common.{ℕ, zero, suc, ◌+◌, ◌-◌, ◌<◌, ◌≡◌, ◌⊎◌, Bool, true, false, List, [], ◌∷◌, ◌++◌, length, sym, ap, ◌∙◌, subst}
-use Rattle.std.proofs.Common.{⊎_elim, inl, inr, arith, slice_get, Some, get_or, Option, pos}
-use Rattle.std.proofs.Common.{None as Nothing}
-use Rattle.std.specs.List.{Contains}
-use Rattle.std.proofs.lemmas.Bool.{cases_lt, cases_eq}
-use Rattle.std.proofs.lemmas.List.{get_or_append_left}
+use Rattle.std.proofs.Common.{ℕ, zero, suc, ◌+◌, ◌-◌, ◌<◌, ◌≡◌, ◌⊎◌, Bool, true, false, List, [], ◌∷◌, ◌++◌, length, sym, ap, ◌∙◌, subst, ⊎_elim, inl, inr}
+use Rattle.std.proofs.Common.{arith, slice_get, Some, get_or, Option, pos, None as Nothing}
 use Rattle.std.proofs.lemmas.Option.{slice_get_within, slice_get-get_or, same_Some}
-use Rattle.std.proofs.Math.Seq.{get_or-append_seam}
-use Rattle.rv_rows.specs.declared.linear.Row.{Row}
-use Rattle.rv_rows.specs.declared.linear.Form.{Form}
-use Rattle.rv_diagram.specs.declared.Triple.{Triple}
-use Rattle.rv_diagram.specs.Nodes.{Valuation, Diagrams, value_of}
-use Rattle.rv_diagram.specs.Several.{ref_at}
-use Rattle.rv_proofs.specs.Systems.{System, updates_among}
-use Rattle.rv_proofs.specs.declared.report.Case.{Case}
-use Rattle.rv_cases.specs.declared.asking.Questions.{Questions}
-use Rattle.rv_cases.specs.Conditions.{is_in, list_at, AreAnswers}
+use Rattle.std.proofs.{lemmas.Bool.cases_lt, lemmas.Bool.cases_eq, lemmas.List.get_or_append_left, Math.Seq.get_or-append_seam}
+use Rattle.std.specs.List.{Contains}
+use Rattle.rv_rows.specs.{declared.linear.Row.Row, declared.linear.Form.Form}
+use Rattle.rv_diagram.specs.{declared.Triple.Triple, Nodes.Valuation, Nodes.Diagrams, Nodes.value_of, Several.ref_at}
+use Rattle.rv_proofs.specs.{Systems.System, Systems.updates_among, declared.report.Case.Case}
 use Rattle.rv_cases.specs.Questions.{AreTestAnswers, AreUpdateAnswers, AreSides, AreQuestions, AreDistinct, rows_at, forms_at, memory_answers, observer_answers}
-use Rattle.rv_cases.specs.Telling.{AreTold}
-use Rattle.rv_cases.specs.Made.{IsMadeFor, AreMadeOf, AreDifferent}
+use Rattle.rv_cases.specs.{declared.asking.Questions.Questions, Conditions.is_in, Conditions.list_at, Conditions.AreAnswers, Telling.AreTold, Made.IsMadeFor}
+use Rattle.rv_cases.specs.{Made.AreMadeOf, Made.AreDifferent}
 use Rattle.rv_cases.proofs.Keeping.{questions_later}
-use Rattle.rv_proofs.proofs.CaseRows.{nothing}
-use Rattle.rv_proofs.proofs.Claims.{updates_long}
+use Rattle.rv_proofs.proofs.{CaseRows.nothing, Claims.updates_long}
 use Rattle.rv_diagram.proofs.Several.{same_truth}
 
 pub no_form : Form

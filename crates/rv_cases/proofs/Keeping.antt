@@ -1,18 +1,13 @@
 -- Questions and what is told of conditions, while the store grows.
 use Rattle.std.proofs.Common.{ℕ, ◌+◌, ◌<◌, ◌≡◌, Bool, List, length, sym, ◌∙◌, subst, arith, slice_get, Some}
 use Rattle.std.proofs.lemmas.Option.{slice_get_within}
-use Rattle.rv_diagram.specs.declared.Triple.{Triple}
-use Rattle.rv_diagram.specs.Nodes.{Valuation, Diagrams, value_of}
-use Rattle.rv_diagram.specs.Several.{ref_at}
-use Rattle.rv_diagram.specs.Nodes.{IsMeant}
-use Rattle.rv_proofs.specs.Systems.{System}
-use Rattle.rv_proofs.specs.declared.report.Case.{Case}
+use Rattle.rv_diagram.specs.{declared.Triple.Triple, Nodes.Valuation, Nodes.Diagrams, Nodes.value_of, Nodes.IsMeant, Several.ref_at}
+use Rattle.rv_proofs.specs.{Systems.System, declared.report.Case.Case}
 use Rattle.rv_terms.specs.Growing.{Extends}
 use Rattle.rv_terms.proofs.Growths.{extends_trans}
-use Rattle.rv_cases.specs.declared.asking.Questions.{Questions}
 use Rattle.rv_cases.specs.Conditions.{is_in, list_at, AreWithin, IsParted, AreJoined}
 use Rattle.rv_cases.specs.Questions.{HaveAnswers, AreQuestions, IsSettledFor, rows_at, forms_at, memory_answers, observer_answers}
-use Rattle.rv_cases.specs.Made.{IsMadeFor, AreMadeOf}
+use Rattle.rv_cases.specs.{declared.asking.Questions.Questions, Made.IsMadeFor, Made.AreMadeOf}
 use Rattle.rv_cases.proofs.Gathering.{in_later, answers_later, parted_as}
 
 pub have_later : (old new : Diagrams) (q : Questions) → Extends old new → HaveAnswers old.nodes q → HaveAnswers new.nodes q

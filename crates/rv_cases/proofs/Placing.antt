@@ -1,8 +1,7 @@
 -- The one answer that a condition has is that of a sample of it.
 use Rattle.std.proofs.Common.{ℕ, ◌<◌, ◌≡◌, true, List, Bool, length, subst, ⊎_elim, arith}
 use Rattle.std.proofs.lemmas.Bool.{cases_lt}
-use Rattle.rv_diagram.specs.declared.Triple.{Triple}
-use Rattle.rv_diagram.specs.Nodes.{Valuation, value_of, valuation_of}
+use Rattle.rv_diagram.specs.{declared.Triple.Triple, Nodes.Valuation, Nodes.value_of, Nodes.valuation_of}
 use Rattle.rv_cases.specs.Conditions.{is_in, AreApart, AreAnswers, HasOneAnswer, IsSampleOf}
 
 -- a valuation is in one set alone

@@ -1,24 +1,16 @@
 -- The questions of a small system mean it.
-use Rattle.std.proofs.Common.{ℕ, zero, suc, ◌+◌, ◌<◌, ◌≡◌, ◌⊎◌, Bool, true, false, cond, List, [], ◌∷◌, length, refl, sym, ap, ◌∙◌, ⊎_elim}
-use Rattle.std.proofs.Common.{inl, inr, arith, slice_get, get_or, Some, pos, negsuc, ℤ}
-use Rattle.std.proofs.Common.{None as Nothing}
-use Rattle.std.proofs.lemmas.Bool.{both_ways}
-use Rattle.std.proofs.lemmas.Option.{same_Some}
-use Rattle.rv_rows.specs.declared.linear.Row.{Row}
-use Rattle.rv_rows.specs.declared.linear.Form.{Form}
-use Rattle.rv_diagram.specs.declared.Triple.{Triple}
+use Rattle.std.proofs.Common.{ℕ, zero, suc, ◌+◌, ◌<◌, ◌≡◌, ◌⊎◌, Bool, true, false, cond, List, [], ◌∷◌, length, refl, sym, ap, ◌∙◌, ⊎_elim, inl, inr, arith}
+use Rattle.std.proofs.Common.{slice_get, get_or, Some, pos, negsuc, ℤ, None as Nothing}
+use Rattle.std.proofs.{lemmas.Bool.both_ways, lemmas.Option.same_Some}
+use Rattle.rv_rows.specs.{declared.linear.Row.Row, declared.linear.Form.Form}
 use Rattle.rv_diagram.specs.Nodes.{Valuation, IsRef, IsMeant, value_of, value_among, node_at}
-use Rattle.rv_diagram.specs.Several.{ref_at}
-use Rattle.rv_proofs.specs.Systems.{IsSameValuation}
-use Rattle.rv_proofs.specs.Samples.{counting, row1, form1}
-use Rattle.rv_proofs.proofs.ControlReads.{value_among-reads}
+use Rattle.rv_diagram.specs.{declared.Triple.Triple, Several.ref_at}
+use Rattle.rv_proofs.specs.{Systems.IsSameValuation, Samples.counting, Samples.row1, Samples.form1}
+use Rattle.rv_proofs.proofs.Counting.{three_read, two_read, two_tests}
+use Rattle.rv_proofs.proofs.{ControlReads.value_among-reads, Filed.true_then_false, SampleSystems.zero_read, Sampling.both_true, Sampling.when_false}
 use Rattle.rv_cases.specs.Conditions.{is_in, list_at, AreAnswers}
 use Rattle.rv_cases.specs.Questions.{HaveAnswers, AreTestAnswers, AreUpdateAnswers, AreSides, AreQuestions, AreDistinct, rows_at, forms_at}
 use Rattle.rv_cases.specs.Samples.{counting_nodes, counting_diagrams, counting_questions}
-use Rattle.rv_proofs.proofs.Counting.{three_read, two_read, two_tests}
-use Rattle.rv_proofs.proofs.Filed.{true_then_false}
-use Rattle.rv_proofs.proofs.SampleSystems.{zero_read}
-use Rattle.rv_proofs.proofs.Sampling.{both_true, when_false}
 
 -- PLACES OF SHORT LISTS
 

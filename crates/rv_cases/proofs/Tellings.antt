@@ -1,18 +1,14 @@
 -- One more test is told, one more memory becomes its form.
-use Rattle.std.proofs.Common.{ℕ, ◌+◌, ◌<◌, ◌≡◌, Bool, true, List, [], ◌∷◌, ◌++◌, length, sym, ap, ◌∙◌, subst, ⊎_elim, inl, inr, arith, suc, Some}
-use Rattle.std.proofs.Common.{length-append, ◌==◌}
-use Rattle.std.proofs.Common.{None as Nothing}
-use Rattle.std.specs.List.{Contains}
+use Rattle.std.proofs.Common.{ℕ, ◌+◌, ◌<◌, ◌≡◌, Bool, true, List, [], ◌∷◌, ◌++◌, length, sym, ap, ◌∙◌, subst, ⊎_elim, inl, inr, arith, suc, Some, length-append}
+use Rattle.std.proofs.Common.{◌==◌, None as Nothing}
 use Rattle.std.proofs.lemmas.Bool.{cases_eq, eq-eqb, ne_eqb}
 use Rattle.std.proofs.lemmas.List.Elements.{Contains-append_left, Contains-push}
-use Rattle.rv_rows.specs.declared.linear.Row.{Row}
-use Rattle.rv_rows.specs.declared.linear.Form.{Form}
-use Rattle.rv_diagram.specs.declared.Triple.{Triple}
-use Rattle.rv_diagram.specs.Nodes.{Valuation, value_of}
+use Rattle.std.specs.List.{Contains}
+use Rattle.rv_rows.specs.{declared.linear.Row.Row, declared.linear.Form.Form}
+use Rattle.rv_diagram.specs.{declared.Triple.Triple, Nodes.Valuation, Nodes.value_of}
 use Rattle.rv_proofs.specs.Systems.{System, updates_among}
-use Rattle.rv_cases.specs.Conditions.{is_in}
-use Rattle.rv_cases.specs.Questions.{AreTestAnswers, AreSides}
 use Rattle.rv_cases.specs.Telling.{AreTold, AreUpdated, IsObserved, IsNoted}
+use Rattle.rv_cases.specs.{Conditions.is_in, Questions.AreTestAnswers, Questions.AreSides}
 use Rattle.rv_base.proofs.Lists.{none_at, push_got}
 
 pub told_none : (s : System) (inside : Valuation → Bool) (tests : List ℕ) (rows : List Row) → tests ≡ [] → rows ≡ [] → AreTold s inside 0 tests rows

@@ -1,8 +1,6 @@
 -- Lists of references that part a set of valuations, and how each question splits them.
 use Rattle.std.specs.Prelude.{◌≡◌, ℕ, zero, suc, ◌<◌, ◌||◌, ◌&&◌, Bool, true, false, List, [], length, slice_index_or}
-use Rattle.rv_diagram.specs.declared.Triple.{Triple}
-use Rattle.rv_diagram.specs.Nodes.{Valuation, IsRef, value_of, valuation_of}
-use Rattle.rv_diagram.specs.Several.{ref_at}
+use Rattle.rv_diagram.specs.{declared.Triple.Triple, Nodes.Valuation, Nodes.IsRef, Nodes.value_of, Nodes.valuation_of, Several.ref_at}
 
 -- whether a valuation is in set i
 abbrev pub is_in : List Triple → List ℕ → ℕ → Valuation → Bool

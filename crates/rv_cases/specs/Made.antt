@@ -1,16 +1,11 @@
 -- Cases that are made of conditions.
 use Rattle.std.specs.Prelude.{◌≡◌, ℕ, ◌&&◌, Bool, List, length, Some, slice_get}
-use Rattle.rv_diagram.specs.declared.Triple.{Triple}
-use Rattle.rv_diagram.specs.declared.frozen.Frozen.{Frozen}
 use Rattle.rv_diagram.specs.Nodes.{Valuation, Diagrams, value_of, IsOrderedOver}
-use Rattle.rv_diagram.specs.Several.{ref_at, UsesNeeded}
-use Rattle.rv_proofs.specs.Systems.{System}
-use Rattle.rv_proofs.specs.declared.report.Case.{Case}
+use Rattle.rv_diagram.specs.{declared.Triple.Triple, declared.frozen.Frozen.Frozen, Several.ref_at, Several.UsesNeeded}
+use Rattle.rv_proofs.specs.{Systems.System, declared.report.Case.Case}
 use Rattle.rv_terms.specs.Growing.{Extends}
-use Rattle.rv_cases.specs.declared.asking.Questions.{Questions}
-use Rattle.rv_cases.specs.Conditions.{IsParted, AreJoined}
-use Rattle.rv_cases.specs.Questions.{AreQuestions}
 use Rattle.rv_cases.specs.Telling.{AreTold, AreUpdated, IsObserved}
+use Rattle.rv_cases.specs.{declared.asking.Questions.Questions, Conditions.IsParted, Conditions.AreJoined, Questions.AreQuestions}
 
 -- whether a valuation is allowed and its control state is in the set
 abbrev pub is_allowed_in : List Triple → ℕ → Frozen → Valuation → Bool

@@ -1,13 +1,9 @@
 -- What the answers to questions mean.
-use Rattle.std.specs.Prelude.{◌≡◌, ℕ, ◌+◌, ◌<◌, true, false, List, [], length, Some, slice_index_or, slice_get}
-use Rattle.std.specs.Prelude.{None as Nothing}
-use Rattle.rv_diagram.specs.declared.Triple.{Triple}
-use Rattle.rv_diagram.specs.Nodes.{Valuation, Diagrams}
-use Rattle.rv_rows.specs.declared.linear.Row.{Row}
-use Rattle.rv_rows.specs.declared.linear.Form.{Form}
+use Rattle.std.specs.Prelude.{◌≡◌, ℕ, ◌+◌, ◌<◌, true, false, List, [], length, Some, slice_index_or, slice_get, None as Nothing}
+use Rattle.rv_diagram.specs.{declared.Triple.Triple, Nodes.Valuation, Nodes.Diagrams}
+use Rattle.rv_rows.specs.{declared.linear.Row.Row, declared.linear.Form.Form}
 use Rattle.rv_proofs.specs.Systems.{System, IsSameValuation}
-use Rattle.rv_cases.specs.declared.asking.Questions.{Questions}
-use Rattle.rv_cases.specs.Conditions.{is_in, list_at, AreAnswers, HasOneAnswer}
+use Rattle.rv_cases.specs.{declared.asking.Questions.Questions, Conditions.is_in, Conditions.list_at, Conditions.AreAnswers, Conditions.HasOneAnswer}
 
 -- the rows of test t
 abbrev pub rows_at : List (List Row) → ℕ → List Row

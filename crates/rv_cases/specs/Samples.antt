@@ -1,7 +1,6 @@
 -- The questions of a small system, which counts in one memory and has two order tests that are present after the first instant.
 use Rattle.std.specs.Prelude.{pos, negsuc, List, [], ◌∷◌}
-use Rattle.rv_diagram.specs.declared.Triple.{Triple}
-use Rattle.rv_diagram.specs.Nodes.{Diagrams}
+use Rattle.rv_diagram.specs.{declared.Triple.Triple, Nodes.Diagrams}
 use Rattle.rv_proofs.specs.Samples.{node, row1, form1}
 use Rattle.rv_cases.specs.declared.asking.Questions.{Questions}
 

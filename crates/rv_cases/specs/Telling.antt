@@ -1,10 +1,8 @@
 -- What is so throughout a set of valuations.
-use Rattle.std.specs.Prelude.{◌≡◌, ℕ, ◌+◌, ◌<◌, ◌⊎◌, Bool, true, List, [], ◌∷◌, ◌++◌, length, Some, slice_get}
-use Rattle.std.specs.Prelude.{None as Nothing}
+use Rattle.std.specs.Prelude.{◌≡◌, ℕ, ◌+◌, ◌<◌, ◌⊎◌, Bool, true, List, [], ◌∷◌, ◌++◌, length, Some, slice_get, None as Nothing}
 use Rattle.std.specs.List.{Contains}
 use Rattle.rv_diagram.specs.Nodes.{Valuation}
-use Rattle.rv_rows.specs.declared.linear.Row.{Row}
-use Rattle.rv_rows.specs.declared.linear.Form.{Form}
+use Rattle.rv_rows.specs.{declared.linear.Row.Row, declared.linear.Form.Form}
 use Rattle.rv_proofs.specs.Systems.{System, updates_among}
 
 -- Of the first n tests these, in rising order, are present throughout the set, with these rows in the same order, and every other

@@ -1,10 +1,7 @@
 -- What the answer of the rules of names, types and clocks gives.
 use Rattle.std.proofs.Common.{◌≡◌, [], ◌<◌, length, map, sym, subst}
 use Rattle.rv_tree.specs.Tree.{ProgramTree}
-use Rattle.rv_types.specs.declared.typed.Typed.{Typed}
-use Rattle.rv_types.specs.Kinds.{flow_kinds}
-use Rattle.rv_types.specs.Names.{name_faults}
-use Rattle.rv_types.specs.Settled.{IsAnswer}
+use Rattle.rv_types.specs.{declared.typed.Typed.Typed, Kinds.flow_kinds, Names.name_faults, Settled.IsAnswer}
 use Rattle.rv_instances.proofs.Known.{called}
 
 pub answer_named : (p : ProgramTree) (t : Typed) → IsAnswer p t → name_faults p ≡ []

@@ -1,15 +1,11 @@
 -- A program has one cause of refusal at most, and none where it is accepted.
 use Rattle.std.proofs.Common.{◌≡◌, ◌⊎◌, inl, inr, ℕ, List, [], ◌∷◌, refl, sym, ◌∙◌, ap, arith}
-use Rattle.rv_tree.specs.Tree.{ProgramTree}
-use Rattle.rv_tree.specs.Places.{Identifier}
-use Rattle.rv_calls.specs.declared.fault.Quantity.{Quantity}
-use Rattle.rv_calls.specs.declared.fault.CauseFault.{CauseFault}
+use Rattle.rv_tree.specs.{Tree.ProgramTree, Places.Identifier}
 use Rattle.rv_calls.specs.declared.fault.CauseFault.TheVariants.{Recursive, Cycle, TooLarge, TooWide, Memory}
 use Rattle.rv_calls.specs.Reach.{HasNoRecursion, IsFirstRecursion}
-use Rattle.rv_sizes.specs.Sizes.{Measure, measures, AreWithin, IsFirstAbove}
+use Rattle.rv_calls.specs.{declared.fault.Quantity.Quantity, declared.fault.CauseFault.CauseFault, Nodes.IsRecursionOf}
+use Rattle.rv_sizes.specs.{Sizes.Measure, Sizes.measures, Sizes.AreWithin, Sizes.IsFirstAbove, Sized.IsSizeFault}
 use Rattle.rv_causality.specs.Causes.{IsAccepted, IsCause, HasCause, Matches}
-use Rattle.rv_calls.specs.Nodes.{IsRecursionOf}
-use Rattle.rv_sizes.specs.Sized.{IsSizeFault}
 
 pub first_above_one : (ms : List Measure) (q r : Quantity) (n m : ℕ) → IsFirstAbove ms q n → IsFirstAbove ms r m → (q ≡ r) × (n ≡ m)
 first_above_one [] q r n m a b = absurd a

@@ -1,31 +1,19 @@
 -- What a program whose instances are known is refused for, and that it is accepted where it is not.
 use Rattle.std.proofs.Common.{◌≡◌, ◌⊎◌, inl, inr, ℕ, List, refl, ap}
 use Rattle.rv_base.specs.declared.value.Place.{Place}
-use Rattle.rv_tree.specs.Bounded.{IsBounded}
-use Rattle.rv_tree.specs.Tree.{ProgramTree}
-use Rattle.rv_tree.specs.Places.{Identifier, Sites}
-use Rattle.rv_types.specs.declared.typed.Typed.{Typed}
-use Rattle.rv_types.specs.Instances.{name_at}
-use Rattle.rv_types.specs.Lists.{sites_of}
-use Rattle.rv_types.specs.Needs.{IsSequence}
-use Rattle.rv_types.specs.Settled.{IsAnswer}
+use Rattle.rv_tree.specs.{Bounded.IsBounded, Tree.ProgramTree, Places.Identifier, Places.Sites}
 use Rattle.rv_types.specs.WellFormed.{AreSited, AreWell}
-use Rattle.rv_instances.specs.declared.answer.Instance.{Instance as Numbered}
-use Rattle.rv_calls.specs.declared.fault.CauseFault.{CauseFault}
+use Rattle.rv_types.specs.{declared.typed.Typed.Typed, Instances.name_at, Lists.sites_of, Needs.IsSequence, Settled.IsAnswer}
+use Rattle.rv_instances.specs.{declared.answer.Instance.Instance as Numbered, AllInstances.AreFed, AllInstances.AreInstances, Expanded.IsExpanded}
 use Rattle.rv_calls.specs.declared.fault.CauseFault.TheVariants.{Recursive, Cycle, TooLarge, TooWide, Memory}
-use Rattle.rv_instances.specs.AllInstances.{AreFed, AreInstances}
+use Rattle.rv_calls.specs.{declared.fault.CauseFault.CauseFault, Reach.HasNoRecursion}
 use Rattle.rv_causality.specs.Causes.{HasNoCycle, IsAccepted, IsOrder, IsCause, HasCause, Matches}
-use Rattle.rv_instances.specs.Expanded.{IsExpanded}
-use Rattle.rv_sizes.specs.Sized.{IsSized}
-use Rattle.rv_calls.specs.Reach.{HasNoRecursion}
+use Rattle.rv_sizes.specs.{Sized.IsSized, Sizes.measures, Sizes.AreWithin}
 use Rattle.rv_sequence.specs.Sequenced.{AreSequenced, IsSequenceFault}
-use Rattle.rv_sizes.specs.Sizes.{measures, AreWithin}
-use Rattle.rv_causality.proofs.Answered.{answer_named, main_within}
+use Rattle.rv_causality.proofs.{Answered.answer_named, Answered.main_within, OneCause.no_first, OneCause.within_not_above}
 use Rattle.rv_calls.proofs.FewInstances.{expanded_program}
 use Rattle.rv_sequence.proofs.NoCycle as cycles
-use Rattle.rv_sequence.proofs.Numbered.{sided}
-use Rattle.rv_causality.proofs.OneCause.{no_first, within_not_above}
-use Rattle.rv_sequence.proofs.WideFlows.{not_both, one_first}
+use Rattle.rv_sequence.proofs.{Numbered.sided, WideFlows.not_both, WideFlows.one_first}
 
 -- the instances of a program that is settled, without recursion and within the limits
 pub known : (p : ProgramTree) (t : Typed) (instances : List Numbered) (count : ℕ) → IsBounded p → AreSited p → IsAnswer p t → AreWell p → HasNoRecursion p

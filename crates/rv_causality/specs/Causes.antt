@@ -1,19 +1,13 @@
 -- Which settled programs have one run for all starts and inputs, in which order their flows can be evaluated, and
 -- why another is refused.
 use Rattle.std.specs.Prelude.{◌≡◌, ◌⊎◌, List, Result, Ok, Err}
-use Rattle.rv_tree.specs.Tree.{ProgramTree}
-use Rattle.rv_tree.specs.Places.{Identifier, Sites}
-use Rattle.rv_types.specs.Lists.{sites_of}
-use Rattle.rv_instances.specs.declared.answer.Order.{Order}
-use Rattle.rv_calls.specs.declared.fault.CauseFault.{CauseFault}
+use Rattle.rv_tree.specs.{Tree.ProgramTree, Places.Identifier, Places.Sites}
+use Rattle.rv_types.specs.{Lists.sites_of, Needs.IsSequence, Needs.IsCycle}
+use Rattle.rv_instances.specs.{declared.answer.Order.Order, Counts.expanded, Weights.AreLight, Weights.IsFirstTooWide, AllInstances.AreInstances}
 use Rattle.rv_calls.specs.declared.fault.CauseFault.TheVariants.{Recursive, Cycle, TooLarge, TooWide, Memory}
-use Rattle.rv_types.specs.Needs.{IsSequence, IsCycle}
+use Rattle.rv_calls.specs.{declared.fault.CauseFault.CauseFault, Reach.HasNoRecursion, Reach.IsFirstRecursion}
 use Rattle.rv_sequence.specs.Cycles.{IsCycleFromLeast}
-use Rattle.rv_calls.specs.Reach.{HasNoRecursion, IsFirstRecursion}
-use Rattle.rv_instances.specs.Counts.{expanded}
 use Rattle.rv_sizes.specs.Sizes.{measures, AreWithin, IsFirstAbove}
-use Rattle.rv_instances.specs.Weights.{AreLight, IsFirstTooWide}
-use Rattle.rv_instances.specs.AllInstances.{AreInstances}
 
 -- no list of flows is a cycle
 abbrev pub HasNoCycle : ProgramTree → Identifier → Type 0

@@ -1,52 +1,29 @@
 -- The certificate of a closed row claim, put together from its parts.
-use Rattle.std.proofs.Common.{◌≡◌, ℕ, zero, suc, ◌+◌, ◌<◌, ◌^◌, ◌≤ℤ◌, Bool, true, false, cond, List, [], ◌∷◌, ◌++◌, length, get_or, All}
-use Rattle.std.proofs.Common.{Some, IsTrue, slice_get}
-use Rattle.std.proofs.Common.{arith, lit≤, refl, sym, ap, ◌∙◌, subst, append-nil, ◌⊎◌, inl, inr}
-use Rattle.std.proofs.Common.{None as Nothing}
-use Rattle.std.proofs.lemmas.Int.{ints}
-use Rattle.std.proofs.lemmas.Bool.{cases_Bool}
+use Rattle.std.proofs.Common.{◌≡◌, ℕ, zero, suc, ◌+◌, ◌<◌, ◌^◌, ◌≤ℤ◌, Bool, true, false, cond, List, [], ◌∷◌, ◌++◌, length, get_or, All, Some, IsTrue}
+use Rattle.std.proofs.Common.{slice_get, arith, lit≤, refl, sym, ap, ◌∙◌, subst, append-nil, ◌⊎◌, inl, inr, None as Nothing}
 use Rattle.std.proofs.lemmas.Option.{slice_get_within, slice_get-get_or, get_or_from_slice_get, same_Some}
-use Rattle.std.proofs.lemmas.List.Elements.{All-nil, All-cons}
-use Rattle.rv_diagram.specs.Nodes.{Valuation}
-use Rattle.rv_diagram.specs.declared.frozen.Frozen.{Frozen}
-use Rattle.rv_rows.specs.declared.linear.Row.{Row}
-use Rattle.rv_rows.specs.declared.linear.Form.{Form}
-use Rattle.rv_rows.specs.declared.farkas.Multipliers.{Multipliers}
+use Rattle.std.proofs.{lemmas.Int.ints, lemmas.Bool.cases_Bool, lemmas.List.Elements.All-nil, lemmas.List.Elements.All-cons}
+use Rattle.rv_diagram.specs.{Nodes.Valuation, declared.frozen.Frozen.Frozen}
 use Rattle.rv_rows.specs.Rows.{coefficient, row_at}
-use Rattle.rv_rows.specs.Tight.{Fits}
-use Rattle.rv_proofs.specs.Systems.{System, rows_of}
+use Rattle.rv_rows.specs.{declared.linear.Row.Row, declared.linear.Form.Form, declared.farkas.Multipliers.Multipliers, Tight.Fits}
 use Rattle.rv_proofs.specs.Scopes.{IsIn, refutation, after, Implication, each, rows_into, implications}
-use Rattle.rv_proofs.specs.Counts.{HasLoop, IsLoopKind, HasKindCounts}
 use Rattle.rv_proofs.specs.Ranges.{IsRecord, HasDivisor, IsControlSet, IsCondition, AreKept, IsInRange}
-use Rattle.rv_proofs.specs.Samples.{by_one}
-use Rattle.rv_proofs.specs.Cases.{IsCaseOf, AreCases, IsInitialSet}
-use Rattle.rv_proofs.specs.Left.{IsLeftPartition}
-use Rattle.rv_proofs.specs.RowClaims.{RowClaim, IsRowTaken, IsRowGood}
-use Rattle.rv_proofs.specs.declared.certificate.Certificate.{Certificate}
-use Rattle.rv_proofs.specs.declared.certificate.Location.{Location}
-use Rattle.rv_proofs.specs.declared.certificate.Entry.{Entry}
-use Rattle.rv_proofs.specs.declared.certificate.EntryKind.{EntryKind}
-use Rattle.rv_proofs.specs.declared.certificate.EntryKind.TheVariants.{Dead, Go, Loop}
-use Rattle.rv_proofs.specs.declared.report.Case.{Case}
-use Rattle.rv_proofs.proofs.Sampling.{prove_one, record_one}
-use Rattle.rv_walk.specs.Ends.{has}
-use Rattle.rv_walk.specs.Plain.{ArePlain}
-use Rattle.rv_claims.specs.declared.claim.Claim.{Claim}
-use Rattle.rv_claims.specs.Claiming.{claim_of}
+use Rattle.rv_proofs.specs.{Systems.System, Systems.rows_of, Counts.HasLoop, Counts.IsLoopKind, Counts.HasKindCounts, Samples.by_one, Cases.IsCaseOf}
+use Rattle.rv_proofs.specs.{Cases.AreCases, Cases.IsInitialSet, Left.IsLeftPartition, RowClaims.RowClaim, RowClaims.IsRowTaken, RowClaims.IsRowGood}
+use Rattle.rv_proofs.specs.{declared.certificate.Certificate.Certificate, declared.certificate.Location.Location, declared.certificate.Entry.Entry}
+use Rattle.rv_proofs.specs.{declared.certificate.EntryKind.EntryKind, declared.certificate.EntryKind.TheVariants.Dead}
+use Rattle.rv_proofs.specs.{declared.certificate.EntryKind.TheVariants.Go, declared.certificate.EntryKind.TheVariants.Loop, declared.report.Case.Case}
+use Rattle.rv_proofs.proofs.{Sampling.prove_one, Sampling.record_one, Claims.update_at}
+use Rattle.rv_walk.specs.{Ends.has, Plain.ArePlain}
 use Rattle.rv_claims.specs.Certify.{IsUniform, IsClaimKind, IsClaimLocation, IsClaimCertificate}
+use Rattle.rv_claims.specs.{declared.claim.Claim.Claim, Claiming.claim_of}
 use Rattle.rv_claims.proofs.Certifying.{claim-accepted}
-use Rattle.rv_claimed.specs.declared.locations.Part.{Part}
-use Rattle.rv_claimed.specs.declared.locations.Place.{Place}
 use Rattle.rv_claimed.specs.Certifying.{IsBad, IsSetting, IsRangedKind, IsEntryOf, AreEntriesOf, IsBadCase, AreListed, IsLocationOf}
 use Rattle.rv_claimed.specs.Building.{ArePartsOf, IsRangedLocation, IsFailingPlace, IsPlaceOf, left_of, IsProof}
-use Rattle.rv_claimed.proofs.Pairing.{no_row}
-use Rattle.rv_claimed.proofs.Entering.{no_form}
-use Rattle.rv_claimed.proofs.Partition.{all_each}
-use Rattle.rv_claimed.proofs.Leaving.{nothing_left, some_left, claim_left}
-use Rattle.rv_proofs.proofs.Claims.{update_at}
+use Rattle.rv_claimed.specs.{declared.locations.Part.Part, declared.locations.Place.Place}
+use Rattle.rv_claimed.proofs.{Pairing.no_row, Entering.no_form, Partition.all_each, Leaving.nothing_left, Leaving.some_left, Leaving.claim_left}
 use Rattle.rv_walk.proofs.Stages.{rest_from, rest_parts}
-use Rattle.rv_base.proofs.Lists.{found_or_not, item_at}
-use Rattle.rv_base.proofs.Truths.{clash}
+use Rattle.rv_base.proofs.{Lists.found_or_not, Lists.item_at, Truths.clash}
 
 -- throughout a case the tests and the updates are the same
 module _ (s : System) (case : Case) (is : IsCaseOf s case) (v w : Valuation) (v_in : IsIn case.condition v) (w_in : IsIn case.condition w) where

@@ -1,42 +1,24 @@
 -- The entry of a case in the certificate of a closed row claim.
-use Rattle.std.proofs.Common.{◌≡◌, ◌↔◌, ℕ, zero, suc, ◌+◌, ◌<◌, ◌≤◌, ◌^◌, pos, negsuc, Bool, true, false, IsTrue, List, [], ◌++◌, length, get_or, All}
-use Rattle.std.proofs.Common.{Option, Some, slice_get}
-use Rattle.std.proofs.Common.{arith, refl, sym, ap, ◌∙◌, subst}
-use Rattle.std.proofs.Common.{None as Nothing}
+use Rattle.std.proofs.Common.{◌≡◌, ◌↔◌, ℕ, zero, suc, ◌+◌, ◌<◌, ◌≤◌, ◌^◌, pos, negsuc, Bool, true, false, IsTrue, List, [], ◌++◌, length, get_or, All, Option}
+use Rattle.std.proofs.Common.{Some, slice_get, arith, refl, sym, ap, ◌∙◌, subst, None as Nothing}
+use Rattle.std.proofs.{lemmas.Option.slice_get_within, lemmas.Option.slice_get-get_or, lemmas.Option.get_or_from_slice_get, lemmas.List.length-append}
+use Rattle.std.proofs.{lemmas.List.Elements.All-append, lemmas.List.Elements.All-from_get_or, lemmas.List.Elements.All-weaker}
 use Rattle.std.specs.List.{Contains}
-use Rattle.std.proofs.lemmas.Option.{slice_get_within, slice_get-get_or, get_or_from_slice_get}
-use Rattle.std.proofs.lemmas.List.{length-append}
-use Rattle.std.proofs.lemmas.List.Elements.{All-append, All-from_get_or, All-weaker}
-use Rattle.rv_diagram.specs.Nodes.{Valuation}
-use Rattle.rv_diagram.specs.declared.frozen.Frozen.{Frozen}
-use Rattle.rv_rows.specs.declared.linear.Row.{Row}
-use Rattle.rv_rows.specs.declared.linear.Form.{Form}
-use Rattle.rv_rows.specs.declared.farkas.Multipliers.{Multipliers}
-use Rattle.rv_rows.specs.Rows.{row_at, RowWithin}
-use Rattle.rv_rows.specs.Forms.{IsSubstituted}
-use Rattle.rv_rows.specs.Multipliers.{ShowsAtOnce, AreShutAtOnce}
-use Rattle.rv_rows.specs.Tight.{Fits}
+use Rattle.rv_diagram.specs.{Nodes.Valuation, declared.frozen.Frozen.Frozen}
+use Rattle.rv_rows.specs.{declared.linear.Row.Row, declared.linear.Form.Form, declared.farkas.Multipliers.Multipliers, Rows.row_at, Rows.RowWithin}
+use Rattle.rv_rows.specs.{Forms.IsSubstituted, Multipliers.ShowsAtOnce, Multipliers.AreShutAtOnce, Tight.Fits}
 use Rattle.rv_proofs.specs.Systems.{System, IsUpdate, rows_among, held_row, updates_of}
-use Rattle.rv_proofs.specs.Scopes.{IsIn}
-use Rattle.rv_proofs.specs.Ranges.{IsRecord}
-use Rattle.rv_proofs.specs.Cases.{AreCases}
-use Rattle.rv_proofs.specs.Accepted.{IsStepKind}
-use Rattle.rv_proofs.specs.RowClaims.{IsRowTaken, premises_at}
-use Rattle.rv_proofs.specs.declared.certificate.EntryKind.{EntryKind}
 use Rattle.rv_proofs.specs.declared.certificate.EntryKind.TheVariants.{Dead, Go, Loop}
-use Rattle.rv_proofs.specs.declared.report.Case.{Case}
-use Rattle.rv_proofs.proofs.CaseRows.{case_rows}
+use Rattle.rv_proofs.specs.{Scopes.IsIn, Ranges.IsRecord, Cases.AreCases, Accepted.IsStepKind, RowClaims.IsRowTaken, RowClaims.premises_at}
+use Rattle.rv_proofs.specs.{declared.certificate.EntryKind.EntryKind, declared.report.Case.Case}
 use Rattle.rv_proofs.proofs.Rooms.{has_room, stays_small, premise_of_test, premise_of_kept}
-use Rattle.rv_claims.specs.declared.claim.Claim.{Claim}
-use Rattle.rv_claims.specs.Claiming.{claim_of}
-use Rattle.rv_claims.specs.Certify.{IsClaimKind}
+use Rattle.rv_proofs.proofs.{CaseRows.case_rows, Claims.update_at, Claims.updates_long}
+use Rattle.rv_claims.specs.{declared.claim.Claim.Claim, Claiming.claim_of, Certify.IsClaimKind}
 use Rattle.rv_claimed.specs.Placing.{IsPairOf}
 use Rattle.rv_claimed.specs.Certifying.{CanShow, premises_in, IsReached, IsShut, IsMadeKind, IsJudgeable, IsSetting, IsCaseIn, AreCasesIn, IsRangedKind}
-use Rattle.rv_claimed.specs.Certifying.{IsEntryOf}
-use Rattle.rv_claimed.specs.Certifying.{IsGoodCase, IsBadCase, IsMadeEntry}
+use Rattle.rv_claimed.specs.Certifying.{IsEntryOf, IsGoodCase, IsBadCase, IsMadeEntry}
 use Rattle.rv_claimed.proofs.Pairing.{no_row, pair_to, shows_same, shows_swapped}
 use Rattle.rv_claimed.proofs.Placed.{pair_divisor, pair_record, reached_shown, shut_refuted}
-use Rattle.rv_proofs.proofs.Claims.{update_at, updates_long}
 use Rattle.rv_base.proofs.Truths.{clash}
 
 pub unless : (b : Bool) → ¬ (b ≡ false) → b ≡ true

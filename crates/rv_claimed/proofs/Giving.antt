@@ -1,17 +1,11 @@
 -- What is given in a store that is the same, and the parts of a claim.
 use Rattle.std.proofs.Common.{◌≡◌, ℕ, ◌+◌, ◌<◌, ◌^◌, ℤ, List, length, ◌∙◌, arith, subst, sym}
 use Rattle.rv_diagram.specs.Nodes.{Diagrams, IsMeant}
-use Rattle.rv_proofs.specs.Systems.{System}
-use Rattle.rv_proofs.specs.RowClaims.{IsRowClosed}
-use Rattle.rv_symbolic.specs.declared.relation.Relation.{Relation}
-use Rattle.rv_symbolic.specs.declared.relation.Parts.{Parts}
-use Rattle.rv_symbolic.specs.Represented.{parts_of}
+use Rattle.rv_proofs.specs.{Systems.System, RowClaims.IsRowClosed}
+use Rattle.rv_symbolic.specs.{declared.relation.Relation.Relation, declared.relation.Parts.Parts, Represented.parts_of}
 use Rattle.rv_cases.specs.declared.asking.Questions.{Questions}
-use Rattle.rv_claims.specs.declared.claim.Claim.{Claim}
-use Rattle.rv_claims.specs.Claiming.{claim_of, IsKeptClaim}
-use Rattle.rv_claimed.specs.declared.locations.Part.{Part}
-use Rattle.rv_claimed.specs.Certifying.{IsGiven}
-use Rattle.rv_claimed.specs.Building.{IsStart, AreOthers, ArePartsOf}
+use Rattle.rv_claims.specs.{declared.claim.Claim.Claim, Claiming.claim_of, Claiming.IsKeptClaim}
+use Rattle.rv_claimed.specs.{declared.locations.Part.Part, Certifying.IsGiven, Building.IsStart, Building.AreOthers, Building.ArePartsOf}
 
 pub given_allowed : (s : System) (old new : Diagrams) (r : Relation) (q : Questions) → IsGiven s old r q → new ≡ old → (p : Parts)
     → p ≡ parts_of r

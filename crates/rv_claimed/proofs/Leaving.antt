@@ -1,18 +1,12 @@
 -- The certificate of a closed claim that is not good is a left partition.
-use Rattle.std.proofs.Common.{◌≡◌, ℕ, zero, suc, ◌<◌, ℤ, Bool, true, false, List, [], ◌∷◌, length, Some, All, IsTrue, slice_get}
-use Rattle.std.proofs.Common.{arith, refl, ap, sym, ◌∙◌, ◌⊎◌, inl, inr}
-use Rattle.std.proofs.lemmas.Bool.{cases_Bool}
-use Rattle.std.proofs.lemmas.List.Elements.{All-cons, All-nil}
+use Rattle.std.proofs.Common.{◌≡◌, ℕ, zero, suc, ◌<◌, ℤ, Bool, true, false, List, [], ◌∷◌, length, Some, All, IsTrue, slice_get, arith, refl, ap, sym, ◌∙◌, ◌⊎◌}
+use Rattle.std.proofs.Common.{inl, inr}
+use Rattle.std.proofs.{lemmas.Bool.cases_Bool, lemmas.List.Elements.All-cons, lemmas.List.Elements.All-nil}
 use Rattle.std.specs.List.{Contains}
 use Rattle.rv_diagram.specs.Nodes.{Valuation}
-use Rattle.rv_proofs.specs.Systems.{System, IsSystem}
-use Rattle.rv_proofs.specs.Scopes.{IsIn}
-use Rattle.rv_proofs.specs.Accepted.{IsEntry, IsStepKind, IsObserved}
-use Rattle.rv_proofs.specs.Left.{IsFailingStep, IsUnrefuted, IsLeftPartition}
-use Rattle.rv_proofs.specs.RowClaims.{RowClaim, IsRowClaim, IsRowTaken, IsRowClosed}
-use Rattle.rv_proofs.specs.declared.certificate.Certificate.{Certificate}
-use Rattle.rv_proofs.specs.declared.certificate.Location.{Location}
-use Rattle.rv_proofs.specs.declared.certificate.Entry.{Entry}
+use Rattle.rv_proofs.specs.{Systems.System, Systems.IsSystem, Scopes.IsIn, Accepted.IsEntry, Accepted.IsStepKind, Accepted.IsObserved, Left.IsFailingStep}
+use Rattle.rv_proofs.specs.{Left.IsUnrefuted, Left.IsLeftPartition, RowClaims.RowClaim, RowClaims.IsRowClaim, RowClaims.IsRowTaken, RowClaims.IsRowClosed}
+use Rattle.rv_proofs.specs.{declared.certificate.Certificate.Certificate, declared.certificate.Location.Location, declared.certificate.Entry.Entry}
 use Rattle.rv_claims.specs.Certify.{IsClaimCertificate}
 use Rattle.rv_claimed.specs.Building.{IsFailingPlace, left_of}
 use Rattle.rv_claimed.proofs.Partition.{led, each_location, step_taken, entry_implied, claim_parted}

@@ -1,30 +1,21 @@
 -- The certificate of a closed claim is a partition with refuted dead entries, whether the claim is good or not.
-use Rattle.std.proofs.Common.{◌≡◌, ℕ, zero, suc, ◌<◌, ◌≤◌, ℤ, pos, List, [], ◌∷◌, length, Some, All, IsTrue, slice_get}
-use Rattle.std.proofs.Common.{arith, refl, ap, sym, ◌∙◌, ◌⊎◌, inl, inr, subst}
-use Rattle.std.proofs.lemmas.Bool.{cases_lt}
+use Rattle.std.proofs.Common.{◌≡◌, ℕ, zero, suc, ◌<◌, ◌≤◌, ℤ, pos, List, [], ◌∷◌, length, Some, All, IsTrue, slice_get, arith, refl, ap, sym, ◌∙◌, ◌⊎◌, inl}
+use Rattle.std.proofs.Common.{inr, subst}
 use Rattle.std.proofs.lemmas.Option.{slice_get_within, get_or_from_slice_get, same_Some}
-use Rattle.std.proofs.lemmas.List.{get_or_past}
-use Rattle.std.proofs.lemmas.List.Elements.{All-cons, All-nil}
+use Rattle.std.proofs.{lemmas.Bool.cases_lt, lemmas.List.get_or_past, lemmas.List.Elements.All-cons, lemmas.List.Elements.All-nil}
 use Rattle.rv_diagram.specs.Nodes.{Valuation}
-use Rattle.rv_rows.specs.declared.linear.Row.{Row}
-use Rattle.rv_rows.specs.declared.farkas.Multipliers.{Multipliers}
-use Rattle.rv_rows.specs.Multipliers.{AreShutAtOnce}
-use Rattle.rv_proofs.specs.Systems.{System, IsSystem, updates_of}
-use Rattle.rv_proofs.specs.Counts.{HasLoop, IsLoopKind}
+use Rattle.rv_rows.specs.{declared.linear.Row.Row, declared.farkas.Multipliers.Multipliers, Multipliers.AreShutAtOnce}
 use Rattle.rv_proofs.specs.Scopes.{IsIn, IsInScope, IsSettledUpdate, refutation, after, Implication, Wanted, each, implications, rows_into, NeedsUpdate}
-use Rattle.rv_proofs.specs.Implied.{AreTestRows, AreForms, IsImplied, form_at}
 use Rattle.rv_proofs.specs.Accepted.{IsPartition, IsIncluded, IsCovered, IsEntry, IsStepKind, AreImplied, Leads}
 use Rattle.rv_proofs.specs.RowClaims.{RowClaim, IsRowClaim, IsRowTaken, IsRowClosed, premises_at}
-use Rattle.rv_proofs.proofs.Settling.{settled_from_implied}
-use Rattle.rv_proofs.specs.declared.certificate.Certificate.{Certificate}
-use Rattle.rv_proofs.specs.declared.certificate.Location.{Location}
-use Rattle.rv_proofs.specs.declared.certificate.Entry.{Entry}
-use Rattle.rv_proofs.specs.declared.certificate.EntryKind.{EntryKind}
-use Rattle.rv_proofs.specs.declared.certificate.EntryKind.TheVariants.{Dead, Go, Loop}
+use Rattle.rv_proofs.specs.{Systems.System, Systems.IsSystem, Systems.updates_of, Counts.HasLoop, Counts.IsLoopKind, Implied.AreTestRows, Implied.AreForms}
+use Rattle.rv_proofs.specs.{Implied.IsImplied, Implied.form_at, declared.certificate.Certificate.Certificate, declared.certificate.Location.Location}
+use Rattle.rv_proofs.specs.{declared.certificate.Entry.Entry, declared.certificate.EntryKind.EntryKind, declared.certificate.EntryKind.TheVariants.Dead}
+use Rattle.rv_proofs.specs.{declared.certificate.EntryKind.TheVariants.Go, declared.certificate.EntryKind.TheVariants.Loop}
+use Rattle.rv_proofs.proofs.{Settling.settled_from_implied, Claims.update_at, Claims.updates_long}
 use Rattle.rv_claims.specs.Certify.{IsUniform, NamesPresent, IsRefutedAt, IsShownAt, IsClaimKind, IsClaimLocation, IsClaimCertificate}
 use Rattle.rv_claimed.proofs.Entering.{no_form}
 use Rattle.rv_claims.proofs.Certifying.{rows-same}
-use Rattle.rv_proofs.proofs.Claims.{update_at, updates_long}
 
 pub all_each : (P : Implication → Type 0) (want : Row → Wanted) (given rows : List Row) (by : List Multipliers)
     → ((n : ℕ) (r : Row) (m : Multipliers) → slice_get rows n ≡ Some r → slice_get by n ≡ Some m

@@ -1,27 +1,16 @@
 -- Pairs of a case's premises as premises of a certificate, where each test has a number.
 use Rattle.std.proofs.Common.{◌≡◌, ℕ, zero, suc, ◌+◌, ◌-◌, ◌<◌, ◌≤◌, ◌^◌, pos, negsuc, ◌≤ℤ◌, List, [], ◌∷◌, ◌++◌, length, get_or, Bool, true, false, nat_lt}
-use Rattle.std.proofs.Common.{All, Some, slice_get}
-use Rattle.std.proofs.Common.{arith, refl, sym, ap, ◌∙◌, subst, ◌⊎◌, inl, inr}
-use Rattle.std.proofs.lemmas.Bool.{cases_lt}
-use Rattle.std.proofs.lemmas.Bool.Decides.{nat_tests}
+use Rattle.std.proofs.Common.{All, Some, slice_get, arith, refl, sym, ap, ◌∙◌, subst, ◌⊎◌, inl, inr}
 use Rattle.std.proofs.lemmas.Option.{slice_get_within, slice_get-get_or, get_or_from_slice_get}
 use Rattle.std.proofs.lemmas.List.{get_or_append_left, get_or-append-add, get_or_past, length-append, length_push, get_or_push}
 use Rattle.std.proofs.lemmas.List.Elements.{All-nil, All-cons, All-append, All-contains, All-weaker}
+use Rattle.std.proofs.{lemmas.Bool.cases_lt, lemmas.Bool.Decides.nat_tests}
 use Rattle.rv_diagram.specs.Nodes.{Valuation}
-use Rattle.rv_rows.specs.declared.linear.Row.{Row}
-use Rattle.rv_rows.specs.declared.linear.Form.{Form}
-use Rattle.rv_rows.specs.declared.farkas.Weight.{Weight}
-use Rattle.rv_rows.specs.declared.farkas.Multipliers.{Multipliers}
-use Rattle.rv_rows.specs.Rows.{row_at}
-use Rattle.rv_rows.specs.Forms.{IsSubstituted}
-use Rattle.rv_rows.specs.Multipliers.{Proves}
+use Rattle.rv_rows.specs.{declared.linear.Row.Row, declared.linear.Form.Form, declared.farkas.Weight.Weight, declared.farkas.Multipliers.Multipliers}
+use Rattle.rv_rows.specs.{Rows.row_at, Forms.IsSubstituted, Multipliers.Proves}
 use Rattle.rv_seek.specs.Pairs.{PairShows, HasRanges, WeightInRange, unit_at}
 use Rattle.rv_seek.proofs.PairLemmas.{pair_proves, pair_ranges, refutes_from}
-use Rattle.rv_proofs.specs.Systems.{System, updates_of}
-use Rattle.rv_proofs.specs.Scopes.{IsIn}
-use Rattle.rv_proofs.specs.Ranges.{IsRecord}
-use Rattle.rv_proofs.specs.Cases.{IsCaseOf}
-use Rattle.rv_proofs.specs.declared.report.Case.{Case}
+use Rattle.rv_proofs.specs.{Systems.System, Systems.updates_of, Scopes.IsIn, Ranges.IsRecord, Cases.IsCaseOf, declared.report.Case.Case}
 use Rattle.rv_claims.specs.Certify.{NamesPresent, IsRefutedAt, IsShownAt}
 use Rattle.rv_claimed.specs.Placing.{IsPlaced, IsPairOf, row_or_none, told_among, told_of}
 use Rattle.rv_claimed.specs.Certifying.{premises_in, IsReached, IsShut}

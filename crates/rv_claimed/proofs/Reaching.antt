@@ -1,20 +1,14 @@
 -- Lists of multipliers and of entries that grow along a loop.
 use Rattle.std.proofs.Common.{◌≡◌, ℕ, ◌+◌, Bool, true, false, ◌||◌, List, [], ◌∷◌, ◌++◌, length, Some, slice_get, arith, refl, sym, ap, ◌∙◌, subst, ◌⊎◌, inl}
 use Rattle.std.proofs.Common.{inr}
-use Rattle.std.proofs.lemmas.Option.{same_Some, slice_get_within}
-use Rattle.std.proofs.lemmas.List.{length_push}
-use Rattle.rv_rows.specs.declared.linear.Row.{Row}
-use Rattle.rv_rows.specs.declared.farkas.Multipliers.{Multipliers}
-use Rattle.rv_proofs.specs.Systems.{System}
-use Rattle.rv_proofs.specs.RowClaims.{RowClaim}
-use Rattle.rv_proofs.specs.declared.certificate.Entry.{Entry}
-use Rattle.rv_proofs.specs.declared.report.Case.{Case}
+use Rattle.std.proofs.{lemmas.Option.same_Some, lemmas.Option.slice_get_within, lemmas.List.length_push, lemmas.Bool.or_parts}
+use Rattle.rv_rows.specs.{declared.linear.Row.Row, declared.farkas.Multipliers.Multipliers}
+use Rattle.rv_proofs.specs.{Systems.System, RowClaims.RowClaim, declared.certificate.Entry.Entry, declared.report.Case.Case}
 use Rattle.rv_claimed.specs.declared.entries.Made.{Made}
 use Rattle.rv_claimed.specs.Certifying.{IsReached, AreReached, IsEntryOf, AreEntriesOf, IsGoodCase, IsBadCase, IsMadeEntry, AreListed}
 use Rattle.rv_symbolic.proofs.Parting.{kept-append}
 use Rattle.rv_base.proofs.Lists.{get_push, push_cases}
 use Rattle.rv_diagram.proofs.Several.{true_or}
-use Rattle.std.proofs.lemmas.Bool.{or_parts}
 
 pub reached_more : (many : ℕ) (given : List Row) (c : Case) (wanted : List Row) (n : ℕ) (reach : List Multipliers) (m : Multipliers) (r : Row)
     → AreReached many given c wanted n reach → slice_get wanted n ≡ Some r → IsReached many given c r m

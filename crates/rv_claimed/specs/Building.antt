@@ -1,28 +1,16 @@
 -- The certificate of a closed row claim, put together: a location for the initial control states without rows, and one for the others
 -- with the rows of the claim.
 use Rattle.std.specs.Prelude.{◌≡◌, ℕ, ◌+◌, ◌<◌, ◌^◌, ℤ, Bool, true, false, not, ◌&&◌, if◌then◌else◌, List, [], ◌∷◌, ◌++◌, length, All, Some, IsTrue, slice_get}
-use Rattle.rv_diagram.specs.Nodes.{Valuation}
-use Rattle.rv_diagram.specs.declared.frozen.Frozen.{Frozen}
+use Rattle.rv_diagram.specs.{Nodes.Valuation, declared.frozen.Frozen.Frozen}
 use Rattle.rv_rows.specs.declared.linear.Row.{Row}
-use Rattle.rv_proofs.specs.Systems.{System}
-use Rattle.rv_proofs.specs.Scopes.{IsIn}
 use Rattle.rv_proofs.specs.Ranges.{IsRecord, IsControlSet, IsCondition, AreKept}
-use Rattle.rv_proofs.specs.Cases.{AreCases, IsInitialSet}
 use Rattle.rv_proofs.specs.RowClaims.{RowClaim, IsRowTaken, IsRowGood}
-use Rattle.rv_proofs.specs.Accepted.{IsAccepted}
-use Rattle.rv_proofs.specs.Left.{IsFailingStep, IsLeftPartition}
-use Rattle.rv_proofs.specs.declared.certificate.Certificate.{Certificate}
-use Rattle.rv_proofs.specs.declared.certificate.Location.{Location}
-use Rattle.rv_proofs.specs.declared.certificate.Entry.{Entry}
-use Rattle.rv_walk.specs.Ends.{has}
-use Rattle.rv_walk.specs.Plain.{ArePlain}
-use Rattle.rv_claims.specs.declared.claim.Claim.{Claim}
-use Rattle.rv_claims.specs.Claiming.{IsKeptClaim}
-use Rattle.rv_claims.specs.Certify.{IsClaimLocation, IsClaimCertificate}
-use Rattle.rv_claimed.specs.declared.answer.Claimed.{Claimed}
-use Rattle.rv_claimed.specs.declared.locations.Part.{Part}
-use Rattle.rv_claimed.specs.declared.locations.Place.{Place}
+use Rattle.rv_proofs.specs.{Systems.System, Scopes.IsIn, Cases.AreCases, Cases.IsInitialSet, Accepted.IsAccepted, Left.IsFailingStep, Left.IsLeftPartition}
+use Rattle.rv_proofs.specs.{declared.certificate.Certificate.Certificate, declared.certificate.Location.Location, declared.certificate.Entry.Entry}
+use Rattle.rv_walk.specs.{Ends.has, Plain.ArePlain}
+use Rattle.rv_claims.specs.{declared.claim.Claim.Claim, Claiming.IsKeptClaim, Certify.IsClaimLocation, Certify.IsClaimCertificate}
 use Rattle.rv_claimed.specs.Certifying.{IsBad, IsJudgeable, IsRangedKind}
+use Rattle.rv_claimed.specs.{declared.answer.Claimed.Claimed, declared.locations.Part.Part, declared.locations.Place.Place}
 
 -- The initial control states and their cases.
 pub record IsStart (s : System) (x : Part) : Type 0 where

@@ -1,34 +1,17 @@
 -- The certificate of a closed row claim, entry by entry.
 use Rattle.std.specs.Prelude.{◌≡◌, ℕ, ◌+◌, ◌<◌, ◌^◌, pos, negsuc, Bool, true, false, List, [], ◌++◌, length, All, Some, IsTrue, slice_get}
-use Rattle.rv_diagram.specs.Nodes.{Valuation, Diagrams}
-use Rattle.rv_diagram.specs.declared.frozen.Frozen.{Frozen}
-use Rattle.rv_rows.specs.declared.linear.Row.{Row}
-use Rattle.rv_rows.specs.declared.linear.Form.{Form}
-use Rattle.rv_rows.specs.declared.farkas.Multipliers.{Multipliers}
-use Rattle.rv_rows.specs.Rows.{RowWithin}
-use Rattle.rv_rows.specs.Forms.{CanSubstitute, IsSubstituted}
-use Rattle.rv_rows.specs.Multipliers.{ShowsAtOnce, AreShutAtOnce}
-use Rattle.rv_proofs.specs.Systems.{System, IsSystem, rows_of}
-use Rattle.rv_proofs.specs.Scopes.{IsIn}
-use Rattle.rv_proofs.specs.Ranges.{IsRecord, IsControlSet, AreKept}
-use Rattle.rv_proofs.specs.Samples.{by_one}
-use Rattle.rv_proofs.specs.Cases.{IsCaseOf}
-use Rattle.rv_proofs.specs.Accepted.{IsStepKind}
+use Rattle.rv_diagram.specs.{Nodes.Valuation, Nodes.Diagrams, declared.frozen.Frozen.Frozen}
+use Rattle.rv_rows.specs.{declared.linear.Row.Row, declared.linear.Form.Form, declared.farkas.Multipliers.Multipliers, Rows.RowWithin, Forms.CanSubstitute}
+use Rattle.rv_rows.specs.{Forms.IsSubstituted, Multipliers.ShowsAtOnce, Multipliers.AreShutAtOnce}
 use Rattle.rv_proofs.specs.RowClaims.{RowClaim, IsRowTaken, IsRowClosed, premises_at}
-use Rattle.rv_proofs.specs.declared.certificate.Location.{Location}
-use Rattle.rv_proofs.specs.declared.certificate.Entry.{Entry}
-use Rattle.rv_proofs.specs.declared.certificate.EntryKind.{EntryKind}
-use Rattle.rv_proofs.specs.declared.certificate.EntryKind.TheVariants.{Dead, Go, Loop}
-use Rattle.rv_proofs.specs.declared.report.Case.{Case}
-use Rattle.rv_symbolic.specs.declared.relation.Relation.{Relation}
-use Rattle.rv_symbolic.specs.Represented.{IsRelationOf}
-use Rattle.rv_cases.specs.declared.asking.Questions.{Questions}
-use Rattle.rv_cases.specs.Questions.{AreQuestions}
-use Rattle.rv_claims.specs.declared.claim.Claim.{Claim}
-use Rattle.rv_claims.specs.Claiming.{claim_of}
-use Rattle.rv_claims.specs.Certify.{IsClaimKind}
-use Rattle.rv_claimed.specs.declared.entries.Made.{Made}
-use Rattle.rv_claimed.specs.Placing.{IsPairOf}
+use Rattle.rv_proofs.specs.{Systems.System, Systems.IsSystem, Systems.rows_of, Scopes.IsIn, Ranges.IsRecord, Ranges.IsControlSet, Ranges.AreKept}
+use Rattle.rv_proofs.specs.{Samples.by_one, Cases.IsCaseOf, Accepted.IsStepKind, declared.certificate.Location.Location, declared.certificate.Entry.Entry}
+use Rattle.rv_proofs.specs.{declared.certificate.EntryKind.EntryKind, declared.certificate.EntryKind.TheVariants.Dead}
+use Rattle.rv_proofs.specs.{declared.certificate.EntryKind.TheVariants.Go, declared.certificate.EntryKind.TheVariants.Loop, declared.report.Case.Case}
+use Rattle.rv_symbolic.specs.{declared.relation.Relation.Relation, Represented.IsRelationOf}
+use Rattle.rv_cases.specs.{declared.asking.Questions.Questions, Questions.AreQuestions}
+use Rattle.rv_claims.specs.{declared.claim.Claim.Claim, Claiming.claim_of, Certify.IsClaimKind}
+use Rattle.rv_claimed.specs.{declared.entries.Made.Made, Placing.IsPairOf}
 
 -- What is given: a system, its relation and its questions in a store.
 pub record IsGiven (s : System) (d : Diagrams) (r : Relation) (q : Questions) : Type 0 where

@@ -1,10 +1,7 @@
 -- The row claim that a set of control states and a list of rows are.
 use Rattle.std.specs.Prelude.{◌≡◌, ◌⊎◌, ◌<◌, ℤ, List, true, IsTrue}
 use Rattle.rv_diagram.specs.Nodes.{Valuation}
-use Rattle.rv_proofs.specs.Systems.{System}
-use Rattle.rv_proofs.specs.Scopes.{IsIn}
-use Rattle.rv_proofs.specs.Ranges.{IsControlSet, AreKept}
-use Rattle.rv_proofs.specs.RowClaims.{RowClaim, IsRowClaim}
+use Rattle.rv_proofs.specs.{Systems.System, Scopes.IsIn, Ranges.IsControlSet, Ranges.AreKept, RowClaims.RowClaim, RowClaims.IsRowClaim}
 use Rattle.rv_walk.specs.Ends.{has}
 use Rattle.rv_claims.specs.declared.claim.Claim.{Claim}
 

@@ -1,9 +1,7 @@
 -- The order of row claims, and the step upward that stays below each closed one.
 use Rattle.std.specs.Prelude.{◌⊎◌, ℤ, List, IsTrue}
 use Rattle.rv_diagram.specs.Nodes.{Valuation}
-use Rattle.rv_rows.specs.declared.linear.Row.{Row}
-use Rattle.rv_rows.specs.Forms.{IsSubstituted}
-use Rattle.rv_rows.specs.Multipliers.{ShowsAtOnce}
+use Rattle.rv_rows.specs.{declared.linear.Row.Row, Forms.IsSubstituted, Multipliers.ShowsAtOnce}
 use Rattle.rv_proofs.specs.Systems.{System, HasSameState, updates_of}
 use Rattle.rv_proofs.specs.RowClaims.{RowClaim, IsCandidate, IsRowClaim, IsRowTaken, IsRowClosed, HasTighter, IsRowTighter, premises_at}
 

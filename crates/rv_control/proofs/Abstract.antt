@@ -1,48 +1,35 @@
 -- A run of a flat system in whole numbers is an abstract run of its system of valuations.
 use Rattle.std.proofs.Common.{◌≡◌, ◌⊎◌, ◌↔◌, inl, inr, ℕ, zero, suc, ◌+◌, ◌<◌, ◌≤◌, ℤ, pos, Bool, true, false, not, ◌&&◌, cond, List, [], ◌∷◌, length}
-use Rattle.std.proofs.Common.{length-append, map, refl, sym, ◌∙◌, ap, subst, arith, Option, Some}
-use Rattle.std.proofs.Common.{None as Nothing}
+use Rattle.std.proofs.Common.{length-append, map, refl, sym, ◌∙◌, ap, subst, arith, Option, Some, None as Nothing}
+use Rattle.std.proofs.lemmas.Bool.{and_parts, ltb-true, lt-ltb, cases_lt, not-true, and_from}
+use Rattle.std.proofs.{lemmas.List.length-map, lemmas.List.get_or-map, lemmas.List.get_or_append_left, lemmas.List.Elements.Contains-get_or}
 use Rattle.std.specs.Prelude.{slice_index_or, IsTrue}
-use Rattle.std.proofs.lemmas.Bool.{and_parts, ltb-true, lt-ltb, cases_lt, not-true}
-use Rattle.std.proofs.lemmas.List.{length-map, get_or-map, get_or_append_left}
-use Rattle.std.proofs.lemmas.List.Elements.{Contains-get_or}
-use Rattle.rv_base.specs.declared.value.Value.{Value}
-use Rattle.rv_base.specs.declared.value.Value.TheVariants.{Flag, Label}
+use Rattle.rv_base.specs.{declared.value.Value.Value, declared.value.Value.TheVariants.Flag, declared.value.Value.TheVariants.Label}
 use Rattle.rv_tree.specs.Places.{Sites, index_of}
-use Rattle.rv_types.specs.declared.typed.Kind.{Kind}
-use Rattle.rv_types.specs.declared.typed.Kind.TheVariants as kind
 use Rattle.rv_types.specs.Lists.{Variable, MainTick, Tick, Kept, Next, Input, Test}
-use Rattle.rv_types.specs.Variables.{is_integer, bits_for}
+use Rattle.rv_types.specs.{declared.typed.Kind.Kind, Variables.is_integer, Variables.bits_for}
+use Rattle.rv_types.specs.declared.typed.Kind.TheVariants as kind
 use Rattle.rv_meaning.specs.Codes.{code}
-use Rattle.rv_rows.specs.declared.linear.Row.{Row}
-use Rattle.rv_rows.specs.declared.linear.Form.{Form}
-use Rattle.rv_rows.specs.Rows.{Holds}
+use Rattle.rv_rows.specs.{declared.linear.Row.Row, declared.linear.Form.Form, Rows.Holds, Arithmetic.constant_form}
 use Rattle.rv_rows.specs.Forms as forms
-use Rattle.rv_rows.specs.Arithmetic.{constant_form}
 use Rattle.rv_agreement.specs.Trees.{Item, nth_item, Kept as KeptMemory, System, memory_kinds, memory_places, kind_at}
-use Rattle.rv_agreement.specs.Evaluation.{nth, is_on, is_met, integers}
 use Rattle.rv_agreement.specs.Valuations.{Valuation, Reading, Truth, Name, Linear, form_of, whole_count, width, wholes, reads_at, found_at, IsSymbolic}
 use Rattle.rv_agreement.specs.Valuations.{all_comparisons, Agrees, updated, next_tick, observed, IsCodedAs, IsCoded, IsAllowed}
 use Rattle.rv_agreement.specs.Agreement.{State, point, IsWholeInstant, IsNext, IsTyped, IsAgreed, IsWell, Gives, value_there, forms_from, updates, bit_count}
 use Rattle.rv_agreement.specs.Agreement.{IsSpelledAs, Leads}
-use Rattle.rv_agreement.specs.FlatRuns.{IsFlatRun, AreMetIn}
-use Rattle.rv_agreement.proofs.Found.{length-wholes}
-use Rattle.rv_agreement.proofs.Indexed.{indexed}
-use Rattle.rv_agreement.proofs.Spelled.{is_spelled, same_bits}
+use Rattle.rv_agreement.specs.{Evaluation.nth, Evaluation.is_on, Evaluation.is_met, Evaluation.integers, FlatRuns.IsFlatRun, FlatRuns.AreMetIn}
+use Rattle.rv_agreement.proofs.{Found.length-wholes, Indexed.indexed, Spelled.is_spelled, Spelled.same_bits}
 use Rattle.rv_diagram.specs.Nodes.{Valuation as Numbered}
 use Rattle.rv_proofs.specs.Systems as systems
 use Rattle.rv_proofs.specs.Runs.{IsAbstractRun}
-use Rattle.rv_control.specs.Named.{by_names, by_numbers, truth_of, tick_variable}
-use Rattle.rv_control.specs.Symbolic.{symbolic}
 use Rattle.rv_control.specs.Control.{names_label, memories_named, inputs_named, none_ticked, is_initial, tick_index, bit_of, all_met, is_allowed, row_of}
 use Rattle.rv_control.specs.Control.{next_truth, control_over}
+use Rattle.rv_control.specs.{Named.by_names, Named.by_numbers, Named.truth_of, Named.tick_variable, Symbolic.symbolic}
 use Rattle.rv_control.proofs.Names.{tick_itself, kept_itself, input_itself, test_itself, found_truth, tick_found}
-use Rattle.rv_control.proofs.Readings.{is_symbolic}
 use Rattle.rv_control.proofs.Alike.{NoControlForms, IsLike, symbolic_same, agrees_same, spells_as, coded_as}
-use Rattle.rv_control.proofs.Listed.{IsStateBit, a_tick, a_bit, IsListed}
 use Rattle.rv_control.proofs.Places.{row_told, in_bits, in_given, in_order, states_are, state_at}
+use Rattle.rv_control.proofs.{Readings.is_symbolic, Listed.IsStateBit, Listed.a_tick, Listed.a_bit, Listed.IsListed}
 use Rattle.rv_types.proofs.ChainLaws.{no_flag}
-use Rattle.std.proofs.lemmas.Bool.{and_from}
 
 -- What is taken from the agreement of instants.
 pub record Laws : Type 0 where

@@ -1,25 +1,18 @@
 -- Valuations that say the same of all that a flat system names have the same symbolic instant, rows and next state.
-use Rattle.std.proofs.Common.{◌≡◌, inl, inr, ℕ, zero, suc, ◌+◌, ◌^◌, ◌<◌, ℤ, Bool, true, false, not, ◌&&◌, cond, List, [], ◌∷◌, ◌++◌, length, refl, sym}
-use Rattle.std.proofs.Common.{◌∙◌, ap, subst, arith, Option, Some}
-use Rattle.std.proofs.Common.{None as Nothing}
-use Rattle.std.specs.Prelude.{slice_index_or, nat_le}
-use Rattle.std.specs.List.{Contains}
+use Rattle.std.proofs.Common.{◌≡◌, inl, inr, ℕ, zero, suc, ◌+◌, ◌^◌, ◌<◌, ℤ, Bool, true, false, not, ◌&&◌, cond, List, [], ◌∷◌, ◌++◌, length, refl, sym, ◌∙◌}
+use Rattle.std.proofs.Common.{ap, subst, arith, Option, Some, None as Nothing}
 use Rattle.std.proofs.lemmas.List.{length-map}
 use Rattle.std.proofs.lemmas.List.Elements.{Contains-append_left, Contains-append_right, Contains-append_cases, Contains-get_or}
+use Rattle.std.specs.{Prelude.slice_index_or, Prelude.nat_le, List.Contains}
 use Rattle.rv_base.specs.declared.value.Value.{Value}
 use Rattle.rv_base.specs.declared.value.Value.TheVariants as value
-use Rattle.rv_tree.specs.declared.tree.Op.{Op}
+use Rattle.rv_tree.specs.{declared.tree.Op.Op, Places.Sites}
 use Rattle.rv_tree.specs.declared.tree.Op.TheVariants as op
-use Rattle.rv_tree.specs.Places.{Sites}
-use Rattle.rv_types.specs.declared.typed.Kind.{Kind}
+use Rattle.rv_types.specs.{declared.typed.Kind.Kind, Lists.Side, Lists.AtMost, Lists.AtLeast, Lists.sides_of, Variables.is_integer, Variables.bits_for}
 use Rattle.rv_types.specs.declared.typed.Kind.TheVariants as kind
-use Rattle.rv_types.specs.Lists.{Side, AtMost, AtLeast, sides_of}
-use Rattle.rv_types.specs.Variables.{is_integer, bits_for}
 use Rattle.rv_meaning.specs.Codes.{code}
-use Rattle.rv_rows.specs.declared.linear.Row.{Row}
-use Rattle.rv_rows.specs.declared.linear.Form.{Form}
-use Rattle.rv_rows.specs.Tight.{IsTightened}
 use Rattle.rv_rows.specs.Arithmetic.{form_sum, form_difference, form_times, test_row, column_form}
+use Rattle.rv_rows.specs.{declared.linear.Row.Row, declared.linear.Form.Form, Tight.IsTightened}
 use Rattle.rv_agreement.specs.Trees.{FlatTree, Node, TreeForm, FlatTrees, Constant, Flow, Memory, Ticked, Input, Not, Binary, Scale, If, AtMostOne, When}
 use Rattle.rv_agreement.specs.Trees.{Current, None, More, Item, nth_item, no_item, System, memory_items, memory_kinds, memory_places, kind_at}
 use Rattle.rv_agreement.specs.Evaluation.{is_on, held, is_there, form_value, trues, item_value}
@@ -29,8 +22,7 @@ use Rattle.rv_agreement.specs.Valuations.{comparisons_of, item_comparisons, all_
 use Rattle.rv_agreement.specs.Valuations.{tested, Agrees, IsCodedAs, IsCoded}
 use Rattle.rv_agreement.specs.Agreement.{State, IsSpelled, Spells, IsRule, IsPlaced, Fits, FormFits, AllFit, ItemFits, IsNamed, IsWell, bit_count}
 use Rattle.rv_agreement.proofs.Matching.{read_in, wider_item, Inside, inside, own_there}
-use Rattle.rv_types.proofs.Members.{in_flat_map, of_flat_map}
-use Rattle.rv_types.proofs.ChainLaws.{no_flag}
+use Rattle.rv_types.proofs.{Members.in_flat_map, Members.of_flat_map, ChainLaws.no_flag}
 
 -- No expression of another type than int has a form.
 abbrev pub NoControlForms : Type 0

@@ -1,41 +1,25 @@
 -- An abstract run of which each valuation is allowed is a run of the program, and a safe program makes its system safe.
 use Rattle.std.proofs.Common.{◌≡◌, inl, inr, ℕ, zero, suc, ◌+◌, ◌<◌, ◌≤◌, ℤ, false, ◌||◌, List, [], ◌∷◌, map, drop, length, refl, sym, ◌∙◌, ap, arith, Option}
 use Rattle.std.proofs.Common.{None as Nothing}
+use Rattle.std.proofs.{lemmas.Bool.cases_lt, lemmas.List.length-map, lemmas.List.get_or_past}
 use Rattle.std.specs.Prelude.{slice_index_or, IsTrue}
-use Rattle.std.proofs.lemmas.Bool.{cases_lt}
-use Rattle.std.proofs.lemmas.List.{length-map, get_or_past}
-use Rattle.rv_base.specs.declared.value.Value.{Value}
-use Rattle.rv_base.specs.declared.value.Value.TheVariants.{Flag}
-use Rattle.rv_tree.specs.Tree.{ProgramTree}
-use Rattle.rv_tree.specs.Places.{Identifier, Sites}
-use Rattle.rv_types.specs.Instances.{IsNode}
-use Rattle.rv_types.specs.Lists.{Variable}
-use Rattle.rv_types.specs.WellFormed.{AreWell}
+use Rattle.rv_base.specs.{declared.value.Value.Value, declared.value.Value.TheVariants.Flag}
+use Rattle.rv_tree.specs.{Tree.ProgramTree, Places.Identifier, Places.Sites}
+use Rattle.rv_types.specs.{Instances.IsNode, Lists.Variable, WellFormed.AreWell}
 use Rattle.rv_meaning.specs.Runs.{History, IsRun, IsSafe}
-use Rattle.rv_agreement.specs.Trees.{System, memory_items, nth_item}
+use Rattle.rv_agreement.specs.{Trees.System, Trees.memory_items, Trees.nth_item, Evaluation.is_met, Evaluation.is_there, Evaluation.after, Evaluation.integers}
+use Rattle.rv_agreement.specs.{Agreement.State, Agreement.found_in, Agreement.IsWholeInstant, FlatRuns.IsFlatRun, FlatRuns.AreMetIn, Valuations.whole_count}
 use Rattle.rv_agreement.specs.Trees as trees
-use Rattle.rv_agreement.specs.Evaluation.{is_met, is_there, after, integers}
-use Rattle.rv_agreement.specs.Agreement.{State, found_in, IsWholeInstant}
-use Rattle.rv_agreement.specs.FlatRuns.{IsFlatRun, AreMetIn}
-use Rattle.rv_agreement.specs.Valuations.{whole_count}
 use Rattle.rv_diagram.specs.Nodes.{Valuation as Numbered}
 use Rattle.rv_proofs.specs.Runs.{IsAbstractRun, IsSafeSystem}
-use Rattle.rv_flat.specs.declared.flat.Flat.{Flat}
-use Rattle.rv_flat.specs.declared.parts.FlatMemory.{FlatMemory}
-use Rattle.rv_flat.specs.declared.state.State.{State as StateModel}
 use Rattle.rv_flat.specs.FlatInstants.{Row, memory_places, system_of, IsFlatInstant}
-use Rattle.rv_flat.specs.FlatOf.{IsFlatOf, flat_inputs}
-use Rattle.rv_flat.specs.SystemRuns.{HasRun}
-use Rattle.rv_flat.specs.Steps.{memory_kinds}
-use Rattle.rv_flat.specs.Systems.{flow_item, kept_of}
+use Rattle.rv_flat.specs.{declared.flat.Flat.Flat, declared.parts.FlatMemory.FlatMemory, declared.state.State.State as StateModel, FlatOf.IsFlatOf}
+use Rattle.rv_flat.specs.{FlatOf.flat_inputs, SystemRuns.HasRun, Steps.memory_kinds, Systems.flow_item, Systems.kept_of}
 use Rattle.rv_flat.proofs.SystemRuns.{kept_kinds}
-use Rattle.rv_control.specs.Named.{variables_of, named as by_name}
-use Rattle.rv_control.specs.Control.{control_of}
-use Rattle.rv_control.specs.Meets.{IsAbstractOf}
 use Rattle.rv_control.specs.Spelled.{decoded, spelled_starts, spelled_inputs}
+use Rattle.rv_control.specs.{Named.variables_of, Named.named as by_name, Control.control_of, Meets.IsAbstractOf}
 use Rattle.rv_control.proofs.Concrete.{More, states, inputs, rows, is_flat_run, observer_same, are_met, starts_are, inputs_are}
-use Rattle.rv_control.proofs.Program.{RunsAreFlat}
-use Rattle.rv_control.proofs.Order.{is_listed}
+use Rattle.rv_control.proofs.{Program.RunsAreFlat, Order.is_listed}
 
 -- Each run of the flat system that has an instant is one of the program, and each state has an instant.
 abbrev pub FlatIsRun : Type 0

@@ -1,18 +1,10 @@
 -- The numbers of the forms that expressions have are bounded by weights.
 use Rattle.std.proofs.Common.{◌≡◌, ◌⊎◌, inl, inr, ℕ, zero, suc, ◌+◌, ◌*◌, ◌<◌, ◌≤◌, ℤ, pos, negsuc, ◌+ℤ◌, ◌-ℤ◌, ◌*ℤ◌, ◌≤ℤ◌, ◌<ℤ◌, Bool, true, false, List, []}
 use Rattle.std.proofs.Common.{◌∷◌, length, refl, sym, ◌∙◌, ap, subst, arith}
-use Rattle.std.specs.Prelude.{nat_abs}
-use Rattle.std.specs.Int.RustNames.{unsigned_abs}
-use Rattle.std.proofs.Math.Nat.{mul-le-mul_left}
-use Rattle.std.proofs.lemmas.Bool.{cases_lt}
-use Rattle.std.proofs.lemmas.Int.{ints, unsigned_abs-mul}
-use Rattle.std.proofs.lemmas.List.{length-map}
-use Rattle.rv_rows.specs.declared.linear.Row.{Row}
-use Rattle.rv_rows.specs.declared.linear.Form.{Form}
-use Rattle.rv_rows.specs.Forms.{number}
-use Rattle.rv_rows.specs.Rows.{coefficient}
-use Rattle.rv_rows.specs.Tight.{IsTightened}
+use Rattle.std.proofs.{Math.Nat.mul-le-mul_left, lemmas.Bool.cases_lt, lemmas.Int.ints, lemmas.Int.unsigned_abs-mul, lemmas.List.length-map}
+use Rattle.std.specs.{Prelude.nat_abs, Int.RustNames.unsigned_abs}
 use Rattle.rv_rows.specs.Arithmetic.{zeros, unit, plus, times, constant_form, column_form, form_sum, form_times, form_difference, test_row}
+use Rattle.rv_rows.specs.{declared.linear.Row.Row, declared.linear.Form.Form, Forms.number, Rows.coefficient, Tight.IsTightened}
 use Rattle.rv_rows.proofs.IntLemmas.{mul_add}
 
 -- one number for each column, none of a magnitude above n

@@ -1,31 +1,24 @@
 -- Each comparison of a program is one of integers that stands in a node.
 use Rattle.std.proofs.Common.{◌≡◌, inl, inr, ℕ, ◌<◌, Bool, true, false, cond, nat_eq, List, [], ◌∷◌, ◌++◌, length, refl, sym, subst, flat_map, unwrap_or}
-use Rattle.std.proofs.Common.{Option, Some}
-use Rattle.std.proofs.Common.{None as Nothing}
-use Rattle.std.specs.List.{Contains}
+use Rattle.std.proofs.Common.{Option, Some, None as Nothing}
 use Rattle.std.proofs.lemmas.Bool.{and_parts}
 use Rattle.std.proofs.lemmas.List.Elements.{Contains-append_left, Contains-append_right, Contains-append_cases}
-use Rattle.rv_tree.specs.declared.tree.Op.{Op}
+use Rattle.std.specs.List.{Contains}
 use Rattle.rv_tree.specs.Tree.{Tree, Node, Form, True, False, Number, Named, Not, Minus, Pre, Current, When, Binary, If, AtMostOne, Call, Trees, None, More}
 use Rattle.rv_tree.specs.Tree.{EquationTree, AssertionTree, NodeTree, ProgramTree}
-use Rattle.rv_tree.specs.Places.{Identifier, Sites}
 use Rattle.rv_tree.specs.Delays.{Delay, delays, form_delays, delays_of_all, delays_in_equations, delays_in_assertions, node_delays}
-use Rattle.rv_types.specs.declared.typed.Clock.{Clock}
-use Rattle.rv_types.specs.declared.typed.Kind.TheVariants as kind
-use Rattle.rv_types.specs.Lists.{sides_of, Compares}
-use Rattle.rv_types.specs.Types.{is_constant, kind_of}
-use Rattle.rv_types.specs.Scopes.{node_scope}
-use Rattle.rv_types.specs.Values.{operand_kind}
+use Rattle.rv_tree.specs.{declared.tree.Op.Op, Places.Identifier, Places.Sites}
 use Rattle.rv_types.specs.Variables.{is_integer, parts, form_parts, parts_of_all, node_parts}
 use Rattle.rv_types.specs.Instances.{CallTree, calls_in, form_calls, calls_in_all, calls_in_equations, calls_in_assertions, calls, Right, Body, Output, IsRight}
 use Rattle.rv_types.specs.Instances.{alone, in_order, IsArgument, head, tail, clock_of, Instance, IsInstance}
 use Rattle.rv_types.specs.Needs.{Giver, Given, Of, Gives, given, by_equation, by_call}
+use Rattle.rv_types.specs.{declared.typed.Clock.Clock, Lists.sides_of, Lists.Compares, Types.is_constant, Types.kind_of, Scopes.node_scope, Values.operand_kind}
+use Rattle.rv_types.specs.declared.typed.Kind.TheVariants as kind
 use Rattle.rv_agreement.specs.Valuations.{is_placed}
-use Rattle.rv_agreement.specs.Programs.{spot, is_test, operator_place, Compared, own_compared, compared, form_compared, compared_all, IsComparison}
-use Rattle.rv_agreement.specs.Programs.{in_flow, in_memory, in_assertion}
+use Rattle.rv_agreement.specs.Programs.{spot, is_test, operator_place, Compared, own_compared, compared, form_compared, compared_all, IsComparison, in_flow}
+use Rattle.rv_agreement.specs.Programs.{in_memory, in_assertion}
 use Rattle.rv_agreement.proofs.Suited.{either_of, one_of}
-use Rattle.rv_types.proofs.Members.{at_head, cons_cases, in_flat_map, in_tail, nothing_in}
-use Rattle.rv_types.proofs.ChainLaws.{no_flag}
+use Rattle.rv_types.proofs.{Members.at_head, Members.cons_cases, Members.in_flat_map, Members.in_tail, Members.nothing_in, ChainLaws.no_flag}
 
 -- The parts of an argument, of an operand of a delay and of an argument of a call are parts.
 argument_parts : (es : Trees) (j : ℕ) (e x : Tree) → IsArgument es j e → Contains (parts e) x → Contains (parts_of_all es) x

@@ -1,47 +1,32 @@
 -- An abstract run of which each valuation is allowed is a run of the flat system in whole numbers.
 use Rattle.std.proofs.Common.{◌≡◌, ◌⊎◌, ◌↔◌, inl, inr, ℕ, zero, suc, ◌+◌, ◌*◌, ◌<◌, ◌≤◌, ℤ, pos, Bool, true, false, ◌||◌, List, [], ◌++◌, length, map, drop}
-use Rattle.std.proofs.Common.{refl, sym, ◌∙◌, ap, subst, arith, Option, Some}
-use Rattle.std.proofs.Common.{None as Nothing}
-use Rattle.std.specs.Prelude.{slice_index_or, IsTrue}
-use Rattle.std.proofs.lemmas.Bool.{and_parts, cases_lt}
+use Rattle.std.proofs.Common.{refl, sym, ◌∙◌, ap, subst, arith, Option, Some, None as Nothing}
 use Rattle.std.proofs.lemmas.List.{length-map, length-drop, take-append-drop, take_all, get_or-map, get_or_past}
-use Rattle.std.proofs.lemmas.List.Elements.{Contains-get_or}
+use Rattle.std.proofs.{lemmas.Bool.and_parts, lemmas.Bool.cases_lt, lemmas.List.Elements.Contains-get_or, lemmas.List.Elements.Contains-append_cases}
+use Rattle.std.specs.Prelude.{slice_index_or, IsTrue}
 use Rattle.rv_base.specs.declared.value.Value.{Value}
 use Rattle.rv_base.specs.declared.value.Value.TheVariants.{Flag, Label, Whole}
 use Rattle.rv_tree.specs.Places.{Sites}
-use Rattle.rv_types.specs.declared.typed.Kind.{Kind}
+use Rattle.rv_types.specs.{declared.typed.Kind.Kind, Lists.Variable, Lists.MainTick, Lists.Tick, Lists.Kept, Lists.Next, Variables.bits_for}
 use Rattle.rv_types.specs.declared.typed.Kind.TheVariants as kind
-use Rattle.rv_types.specs.Lists.{Variable, MainTick, Tick, Kept, Next}
-use Rattle.rv_types.specs.Variables.{bits_for}
-use Rattle.rv_rows.specs.declared.linear.Row.{Row}
-use Rattle.rv_rows.specs.declared.linear.Form.{Form}
+use Rattle.rv_rows.specs.{declared.linear.Row.Row, declared.linear.Form.Form, Tight.IsTightened, Arithmetic.constant_form}
 use Rattle.rv_rows.specs.Forms as forms
-use Rattle.rv_rows.specs.Tight.{IsTightened}
-use Rattle.rv_rows.specs.Arithmetic.{constant_form}
-use Rattle.rv_agreement.specs.Trees.{nth_item, System, memory_items, memory_kinds, memory_places, kind_at}
-use Rattle.rv_agreement.specs.Evaluation.{nth, is_there, after, integers}
-use Rattle.rv_agreement.specs.Kinding.{ReadsAs}
 use Rattle.rv_agreement.specs.Valuations.{Valuation, Reading, Truth, Name, Linear, at_point, form_of, whole_count, rank, width, IsSymbolic, Agrees, updated}
 use Rattle.rv_agreement.specs.Valuations.{next_tick, observed, IsCoded, IsAllowed}
 use Rattle.rv_agreement.specs.Agreement.{State, point, found_in, IsWholeInstant, IsNext, IsTyped, IsAgreed, IsWell, Gives, bit_count, Spells}
-use Rattle.rv_agreement.specs.FlatRuns.{IsFlatRun, AreMetIn}
+use Rattle.rv_agreement.specs.{Trees.nth_item, Trees.System, Trees.memory_items, Trees.memory_kinds, Trees.memory_places, Trees.kind_at, Evaluation.nth}
+use Rattle.rv_agreement.specs.{Evaluation.is_there, Evaluation.after, Evaluation.integers, Kinding.ReadsAs, FlatRuns.IsFlatRun, FlatRuns.AreMetIn}
 use Rattle.rv_agreement.proofs.Spelled.{is_spelled}
 use Rattle.rv_diagram.specs.Nodes.{Valuation as Numbered}
 use Rattle.rv_proofs.specs.Systems as systems
 use Rattle.rv_proofs.specs.Runs.{IsAbstractRun}
-use Rattle.rv_control.specs.Named.{same_variable, by_names, truth_at, tick_variable}
-use Rattle.rv_control.specs.Symbolic.{symbolic}
 use Rattle.rv_control.specs.Control.{is_initial, none_ticked, memories_named, tick_index, bit_of, next_truth, control_over}
+use Rattle.rv_control.specs.{Named.same_variable, Named.by_names, Named.truth_at, Named.tick_variable, Symbolic.symbolic, Spelled.value_at, Spelled.decoded}
 use Rattle.rv_control.proofs.Names.{tick_itself, kept_itself, tick_found, state_truth, agreed_truth, found_by}
-use Rattle.rv_control.proofs.Readings.{is_symbolic}
-use Rattle.rv_control.proofs.Alike.{code_same}
 use Rattle.rv_control.proofs.Listed.{IsListed, IsInputBit, a_bit_of, IsTestBit, a_test}
-use Rattle.rv_control.proofs.Places.{states_are, state_at}
-use Rattle.rv_control.proofs.Points.{meets as point_meets}
 use Rattle.rv_control.proofs.Abstract.{Laws, ticks_told, allowed_told, observed_true, next_of_tick, place_number}
-use Rattle.rv_control.specs.Spelled.{value_at, decoded}
 use Rattle.rv_control.proofs.Decoded.{first_of, length-first, first_kth, length-decoded, decoded_at, wholes_decoded, are_typed, are_spelled, form_at}
-use Rattle.std.proofs.lemmas.List.Elements.{Contains-append_cases}
+use Rattle.rv_control.proofs.{Readings.is_symbolic, Alike.code_same, Places.states_are, Places.state_at, Points.meets as point_meets}
 
 -- What is taken from agreement beside, and from rows.
 pub record More : Type 0 where

@@ -1,18 +1,15 @@
 -- The state and the inputs that a valuation and a point spell.
 use Rattle.std.proofs.Common.{◌≡◌, inl, inr, ℕ, zero, suc, ◌+◌, ◌<◌, ◌≤◌, ℤ, Bool, true, false, cond, List, [], ◌∷◌, ◌++◌, length, length-append, take, refl}
 use Rattle.std.proofs.Common.{sym, ◌∙◌, ap, subst, arith}
+use Rattle.std.proofs.{Math.Nat.eq-or-lt_of_le, lemmas.List.get_or_push, lemmas.List.get_or_append_left}
 use Rattle.std.specs.Prelude.{slice_index_or}
-use Rattle.std.proofs.Math.Nat.{eq-or-lt_of_le}
-use Rattle.std.proofs.lemmas.List.{get_or_push, get_or_append_left}
 use Rattle.rv_base.specs.declared.value.Value.TheVariants.{Flag}
-use Rattle.rv_types.specs.declared.typed.Kind.{Kind}
+use Rattle.rv_types.specs.{declared.typed.Kind.Kind, Variables.is_integer}
 use Rattle.rv_types.specs.declared.typed.Kind.TheVariants as kind
-use Rattle.rv_types.specs.Variables.{is_integer}
 use Rattle.rv_rows.specs.declared.linear.Form.{Form}
 use Rattle.rv_rows.specs.Forms as forms
-use Rattle.rv_agreement.specs.Trees.{kind_at}
-use Rattle.rv_agreement.specs.Valuations.{whole_count, rank, wholes, IsCodedAs}
-use Rattle.rv_agreement.specs.Agreement.{HasKind, AreTyped, IsSpelled, forms_from}
+use Rattle.rv_agreement.specs.{Trees.kind_at, Valuations.whole_count, Valuations.rank, Valuations.wholes, Valuations.IsCodedAs, Agreement.HasKind}
+use Rattle.rv_agreement.specs.{Agreement.AreTyped, Agreement.IsSpelled, Agreement.forms_from}
 use Rattle.rv_control.specs.Spelled.{value_at, rest_of, decoded}
 
 -- so many of what a function gives

@@ -1,7 +1,6 @@
 -- Valuations by names and by numbers are inverse at the variables that are listed.
 use Rattle.std.proofs.Common.{◌≡◌, ℕ, zero, suc, ◌<◌, Bool, true, false, cond, List, [], ◌∷◌, length, refl, ◌∙◌, arith}
-use Rattle.std.specs.Prelude.{slice_index_or}
-use Rattle.std.specs.List.{Contains}
+use Rattle.std.specs.{Prelude.slice_index_or, List.Contains}
 use Rattle.rv_types.specs.Lists.{Variable, MainTick, Tick, Kept, Next, Input, Test}
 use Rattle.rv_diagram.specs.Nodes.{Valuation as Numbered}
 use Rattle.rv_agreement.specs.Valuations.{Valuation}

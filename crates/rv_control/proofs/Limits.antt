@@ -1,40 +1,24 @@
 -- The system of valuations of a flat system, with integers too.
 use Rattle.std.proofs.Common.{◌≡◌, inl, inr, ℕ, ◌+◌, ◌^◌, ◌<◌, ◌≤◌, pos, true, List, ◌++◌, length, map, refl, sym, subst, arith, Option, Some}
-use Rattle.std.specs.Int.RustNames.{unsigned_abs}
-use Rattle.std.specs.List.{Contains}
-use Rattle.std.proofs.lemmas.List.{length-map}
-use Rattle.std.proofs.lemmas.List.Elements.{All-from_get_or, Contains-append_cases}
+use Rattle.std.proofs.{lemmas.List.length-map, lemmas.List.Elements.All-from_get_or, lemmas.List.Elements.Contains-append_cases}
+use Rattle.std.specs.{Int.RustNames.unsigned_abs, List.Contains}
 use Rattle.rv_base.specs.Limits.{heaviest}
-use Rattle.rv_tree.specs.Tree.{ProgramTree}
-use Rattle.rv_tree.specs.Places.{Identifier, Sites}
+use Rattle.rv_tree.specs.{Tree.ProgramTree, Places.Identifier, Places.Sites}
 use Rattle.rv_types.specs.Lists.{Side, Variable}
-use Rattle.rv_rows.specs.declared.linear.Row.{Row}
-use Rattle.rv_rows.specs.Arithmetic.{constant_form, test_row}
-use Rattle.rv_rows.specs.Tight.{IsTightened}
-use Rattle.rv_agreement.specs.Trees.{Item, nth_item, System, memory_items, memory_kinds}
+use Rattle.rv_rows.specs.{declared.linear.Row.Row, Arithmetic.constant_form, Arithmetic.test_row, Tight.IsTightened}
 use Rattle.rv_agreement.specs.Valuations.{Valuation, Reading, IsSymbolic, form_of, width, item_comparisons, all_items, all_comparisons, tested, tested_form}
 use Rattle.rv_agreement.specs.Valuations.{read, updated}
-use Rattle.rv_agreement.specs.Agreement.{IsWell}
+use Rattle.rv_agreement.specs.{Trees.Item, Trees.nth_item, Trees.System, Trees.memory_items, Trees.memory_kinds, Agreement.IsWell}
 use Rattle.rv_agreement.proofs.Matching.{read_in}
 use Rattle.rv_diagram.specs.Nodes.{Valuation as Numbered}
 use Rattle.rv_proofs.specs.Systems as systems
-use Rattle.rv_flat.specs.declared.flat.Flat.{Flat}
-use Rattle.rv_flat.specs.Facts.{is_light, flow_weights}
-use Rattle.rv_flat.specs.FlatInstants.{system_of}
-use Rattle.rv_flat.specs.FlatOf.{IsFlatOf}
-use Rattle.rv_flat.specs.Systems.{kept_of, memory_item}
-use Rattle.rv_flat.proofs.FlowWeights.{item_light}
-use Rattle.rv_control.specs.Named.{variables_of, by_names}
-use Rattle.rv_control.specs.Symbolic.{symbolic}
-use Rattle.rv_control.specs.Control.{control_of}
-use Rattle.rv_control.proofs.Readings.{is_symbolic}
-use Rattle.rv_control.proofs.Alike.{NoControlForms, IsLike, inside_of}
-use Rattle.rv_control.proofs.Places.{HasRow, row_told}
-use Rattle.rv_control.proofs.Points.{test_of}
-use Rattle.rv_control.proofs.Bounded.{IsBounded, looser, test_bounded, tightened_bounded}
+use Rattle.rv_flat.specs.{declared.flat.Flat.Flat, Facts.is_light, Facts.flow_weights, FlatInstants.system_of, FlatOf.IsFlatOf, Systems.kept_of}
+use Rattle.rv_flat.specs.{Systems.memory_item}
+use Rattle.rv_flat.proofs.{FlowWeights.item_light, Inlining.items_kept}
+use Rattle.rv_control.specs.{Named.variables_of, Named.by_names, Symbolic.symbolic, Control.control_of}
 use Rattle.rv_control.proofs.Weighed.{side_bounded, light_weight, compared_light, forms_have, expression_bounded, updated_bounded}
-use Rattle.rv_control.proofs.System.{is_system}
-use Rattle.rv_flat.proofs.Inlining.{items_kept}
+use Rattle.rv_control.proofs.{Readings.is_symbolic, Alike.NoControlForms, Alike.IsLike, Alike.inside_of, Places.HasRow, Places.row_told, Points.test_of}
+use Rattle.rv_control.proofs.{Bounded.IsBounded, Bounded.looser, Bounded.test_bounded, Bounded.tightened_bounded, System.is_system}
 use Rattle.rv_types.proofs.Members.{of_flat_map}
 
 module _ (controls : NoControlForms) (tight : (r t : Row) → IsTightened r t → IsTightened t t) (program : ProgramTree) (main : Identifier) (f : Flat)

@@ -1,12 +1,10 @@
 -- What the order of the diagram variables of a flat system is.
 use Rattle.std.proofs.Common.{◌≡◌, ℕ, ◌<◌, List, [], ◌++◌, length, Option}
-use Rattle.std.specs.Prelude.{slice_index_or}
-use Rattle.std.specs.List.{Contains}
+use Rattle.std.specs.{Prelude.slice_index_or, List.Contains}
 use Rattle.rv_tree.specs.Places.{Sites}
 use Rattle.rv_types.specs.Lists.{Side, sides_of, Variable, MainTick, Kept, Next, Input, Test, with_copies}
 use Rattle.rv_agreement.specs.Trees.{System, memory_kinds, memory_places, kind_at}
-use Rattle.rv_agreement.specs.Agreement.{bit_count}
-use Rattle.rv_agreement.specs.Valuations.{Comparison, all_comparisons}
+use Rattle.rv_agreement.specs.{Agreement.bit_count, Valuations.Comparison, Valuations.all_comparisons}
 use Rattle.rv_control.specs.Named.{tick_variable}
 
 -- a tick of the system, or a bit of a control memory

@@ -1,21 +1,15 @@
 -- What a valuation by names says of a variable is what it says by numbers.
-use Rattle.std.proofs.Common.{◌≡◌, inl, inr, ℕ, suc, ◌*◌, ◌<◌, Bool, true, false, cond, nat_eq, List, [], ◌∷◌, ◌++◌, length, refl, sym, ◌∙◌, ap, subst}
-use Rattle.std.proofs.Common.{arith, Option, Some}
-use Rattle.std.proofs.Common.{None as Nothing}
-use Rattle.std.specs.Prelude.{slice_index_or}
-use Rattle.std.specs.List.{Contains}
-use Rattle.std.proofs.lemmas.Bool.{and_parts, eqb-true, eq-eqb}
+use Rattle.std.proofs.Common.{◌≡◌, inl, inr, ℕ, suc, ◌*◌, ◌<◌, Bool, true, false, cond, nat_eq, List, [], ◌∷◌, ◌++◌, length, refl, sym, ◌∙◌, ap, subst, arith}
+use Rattle.std.proofs.Common.{Option, Some, None as Nothing}
+use Rattle.std.proofs.lemmas.Bool.{and_parts, eqb-true, eq-eqb, and_from}
+use Rattle.std.specs.{Prelude.slice_index_or, List.Contains}
 use Rattle.rv_tree.specs.Places.{Sites}
 use Rattle.rv_types.specs.Lists.{Side, AtMost, AtLeast, Variable, MainTick, Tick, Kept, Next, Input, Test, with_copies}
 use Rattle.rv_diagram.specs.Nodes.{Valuation as Numbered}
-use Rattle.rv_agreement.specs.Checks.{same_sites, same_flow}
-use Rattle.rv_agreement.specs.Valuations.{Valuation}
+use Rattle.rv_agreement.specs.{Checks.same_sites, Checks.same_flow, Valuations.Valuation}
 use Rattle.rv_agreement.proofs.Chosen.{sites_itself, flow_itself, sites_told, flow_told}
-use Rattle.rv_control.specs.Named.{same_side, same_variable, truth_at, tick_variable, truth_of, by_numbers}
-use Rattle.rv_control.specs.Control.{tick_index}
-use Rattle.rv_types.proofs.Members.{cons_cases, in_tail, nothing_in}
-use Rattle.rv_types.proofs.ChainLaws.{no_flag}
-use Rattle.std.proofs.lemmas.Bool.{and_from}
+use Rattle.rv_control.specs.{Named.same_side, Named.same_variable, Named.truth_at, Named.tick_variable, Named.truth_of, Named.by_numbers, Control.tick_index}
+use Rattle.rv_types.proofs.{Members.cons_cases, Members.in_tail, Members.nothing_in, ChainLaws.no_flag}
 
 pub side_told : (a b : Side) → same_side a b ≡ true → a ≡ b
 side_told AtMost AtMost e = refl

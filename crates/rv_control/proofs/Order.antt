@@ -1,28 +1,18 @@
 -- The diagram variables of the flat system of a program stand in their order, and all that the system names is among them.
 use Rattle.std.proofs.Common.{◌≡◌, ◌⊎◌, inl, inr, ℕ, zero, suc, ◌+◌, ◌<◌, List, [], ◌∷◌, ◌++◌, length, map, refl, sym, ◌∙◌, ap, subst, arith, Option, Some}
 use Rattle.std.proofs.Common.{None as Nothing}
-use Rattle.std.specs.Prelude.{slice_index_or}
-use Rattle.std.specs.List.{Contains}
 use Rattle.std.proofs.Math.Nat.{eq-or-lt_of_le}
 use Rattle.std.proofs.lemmas.List.Elements.{Contains-append_left, Contains-append_right, Contains-append_cases, Contains-push, Contains-push_cases}
-use Rattle.rv_tree.specs.declared.tree.TypeDecl.{TypeDecl}
-use Rattle.rv_tree.specs.Tree.{ProgramTree}
-use Rattle.rv_tree.specs.Places.{Identifier, Sites}
-use Rattle.rv_types.specs.declared.typed.Kind.{Kind}
-use Rattle.rv_types.specs.declared.typed.Kind.TheVariants as kind
-use Rattle.rv_types.specs.Kinds.{decl_kinds}
-use Rattle.rv_types.specs.Instances.{node_of}
+use Rattle.std.specs.{Prelude.slice_index_or, List.Contains}
+use Rattle.rv_tree.specs.{declared.tree.TypeDecl.TypeDecl, Tree.ProgramTree, Places.Identifier, Places.Sites}
 use Rattle.rv_types.specs.Lists.{Side, sides_of, Variable, MainTick, Tick, Kept, Input, Test, MemoryAt, ComparisonAt, AreVariables, bits, memory_variables}
 use Rattle.rv_types.specs.Lists.{input_variables, test_variables}
-use Rattle.rv_types.specs.Values.{label_count, labels_at}
-use Rattle.rv_types.specs.Variables.{bits_for, kind_bits}
+use Rattle.rv_types.specs.{declared.typed.Kind.Kind, Kinds.decl_kinds, Instances.node_of, Values.label_count, Values.labels_at, Variables.bits_for}
+use Rattle.rv_types.specs.{Variables.kind_bits}
+use Rattle.rv_types.specs.declared.typed.Kind.TheVariants as kind
 use Rattle.rv_agreement.specs.Trees.{Kept as KeptMemory, System, memory_kinds, memory_places, kind_at}
-use Rattle.rv_agreement.specs.Agreement.{bit_count}
-use Rattle.rv_agreement.specs.Valuations.{Comparison, all_comparisons}
-use Rattle.rv_flat.specs.declared.flat.Flat.{Flat}
-use Rattle.rv_flat.specs.FlatInstants.{system_of}
-use Rattle.rv_flat.specs.FlatOf.{IsFlatOf}
-use Rattle.rv_flat.specs.Lists.{tick_places}
+use Rattle.rv_agreement.specs.{Agreement.bit_count, Valuations.Comparison, Valuations.all_comparisons}
+use Rattle.rv_flat.specs.{declared.flat.Flat.Flat, FlatInstants.system_of, FlatOf.IsFlatOf, Lists.tick_places}
 use Rattle.rv_control.specs.Named.{variables_of, tick_variable}
 use Rattle.rv_control.proofs.Listed.{IsStateBit, a_tick, a_bit, IsInputBit, a_bit_of, IsTestBit, a_test, IsListed}
 use Rattle.rv_control.proofs.Compared.{comparison_stands}

@@ -1,32 +1,20 @@
 -- The positions of variables, and what the system of valuations has there.
-use Rattle.std.proofs.Common.{◌≡◌, inl, inr, ℕ, zero, suc, ◌+◌, ◌-◌, ◌*◌, ◌<◌, Bool, true, false, ◌&&◌, cond, List, [], ◌∷◌, ◌++◌, length, length-append}
-use Rattle.std.proofs.Common.{refl, sym, ◌∙◌, ap, subst, arith, Option, Some}
-use Rattle.std.proofs.Common.{None as Nothing}
-use Rattle.std.specs.Prelude.{slice_index_or}
-use Rattle.std.specs.List.{Contains}
-use Rattle.std.proofs.lemmas.Bool.{and_parts, or_cases}
-use Rattle.std.proofs.lemmas.List.{get_or-append-add}
-use Rattle.std.proofs.lemmas.List.Elements.{Contains-append_left, Contains-append_right}
+use Rattle.std.proofs.Common.{◌≡◌, inl, inr, ℕ, zero, suc, ◌+◌, ◌-◌, ◌*◌, ◌<◌, Bool, true, false, ◌&&◌, cond, List, [], ◌∷◌, ◌++◌, length, length-append, refl}
+use Rattle.std.proofs.Common.{sym, ◌∙◌, ap, subst, arith, Option, Some, None as Nothing}
+use Rattle.std.proofs.lemmas.Bool.{and_parts, or_cases, and_from, or_left, or_right}
+use Rattle.std.proofs.{lemmas.List.get_or-append-add, lemmas.List.Elements.Contains-append_left, lemmas.List.Elements.Contains-append_right}
+use Rattle.std.specs.{Prelude.slice_index_or, List.Contains}
 use Rattle.rv_tree.specs.Places.{Sites}
 use Rattle.rv_types.specs.Lists.{Side, sides_of, Variable, MainTick, Tick, Kept, Next, Input, Test, with_copies}
-use Rattle.rv_rows.specs.declared.linear.Row.{Row}
-use Rattle.rv_agreement.specs.Trees.{System}
+use Rattle.rv_rows.specs.{declared.linear.Row.Row, Arithmetic.test_row, Tight.IsTightened}
 use Rattle.rv_agreement.specs.Valuations.{Valuation, Reading, is_of_integers, Tested, IsPresent, Comparison, tested, tested_form, IsRowOf, width}
-use Rattle.rv_rows.specs.Arithmetic.{test_row}
-use Rattle.rv_rows.specs.Tight.{IsTightened}
-use Rattle.rv_agreement.specs.Checks.{same_sites}
-use Rattle.rv_control.specs.Tightening.{tightened}
-use Rattle.rv_control.specs.Named.{same_side, tick_variable}
+use Rattle.rv_agreement.specs.{Trees.System, Checks.same_sites}
 use Rattle.rv_control.specs.Control.{state_bits, order_tests, has_side, is_present, row_among}
+use Rattle.rv_control.specs.{Tightening.tightened, Named.same_side, Named.tick_variable}
 use Rattle.rv_control.proofs.Listed.{IsStateBit, a_tick, a_bit, a_bit_of, IsTestBit, a_test, IsListed}
-use Rattle.rv_control.proofs.Names.{side_told, side_itself}
-use Rattle.rv_control.proofs.Tightened.{tightened_is}
+use Rattle.rv_control.proofs.{Names.side_told, Names.side_itself, Tightened.tightened_is}
 use Rattle.rv_agreement.proofs.Chosen.{sites_itself, sites_told}
-use Rattle.rv_types.proofs.Members.{cons_cases, in_flat_map, in_tail, nothing_in}
-use Rattle.rv_types.proofs.ChainLaws.{no_flag}
-use Rattle.std.proofs.lemmas.Bool.{and_from}
-use Rattle.std.proofs.lemmas.Bool.{or_left}
-use Rattle.std.proofs.lemmas.Bool.{or_right}
+use Rattle.rv_types.proofs.{Members.cons_cases, Members.in_flat_map, Members.in_tail, Members.nothing_in, ChainLaws.no_flag}
 
 -- Presence.
 has_told : (sides : List Side) (side : Side) → has_side sides side ≡ true → Contains sides side

@@ -1,23 +1,16 @@
 -- A point agrees with a valuation of the system of valuations where it meets each row of the flat system there.
 use Rattle.std.proofs.Common.{◌≡◌, ◌↔◌, ◌+◌, ◌-◌, ℤ, List, length, sym, ◌∙◌, ap, subst, arith, Option, Some}
-use Rattle.std.specs.Prelude.{slice_index_or}
 use Rattle.std.proofs.lemmas.List.{get_or_default}
+use Rattle.std.specs.Prelude.{slice_index_or}
 use Rattle.rv_tree.specs.Places.{Sites}
 use Rattle.rv_types.specs.Lists.{Side, Variable, MainTick, Tick, Kept, Next, Input, Test}
-use Rattle.rv_rows.specs.declared.linear.Row.{Row}
-use Rattle.rv_rows.specs.Rows.{Holds}
-use Rattle.rv_rows.specs.Tight.{IsTightened}
-use Rattle.rv_rows.specs.Arithmetic.{test_row}
-use Rattle.rv_agreement.specs.Trees.{System}
+use Rattle.rv_rows.specs.{declared.linear.Row.Row, Rows.Holds, Tight.IsTightened, Arithmetic.test_row}
 use Rattle.rv_agreement.specs.Valuations.{Valuation, Reading, width, Comparison, all_comparisons, tested, tested_form, Agrees}
-use Rattle.rv_agreement.specs.Agreement.{IsWell}
+use Rattle.rv_agreement.specs.{Trees.System, Agreement.IsWell}
 use Rattle.rv_diagram.specs.Nodes.{Valuation as Numbered}
 use Rattle.rv_proofs.specs.Systems as systems
-use Rattle.rv_control.specs.Named.{by_names}
-use Rattle.rv_control.specs.Symbolic.{symbolic}
-use Rattle.rv_control.specs.Control.{row_among, row_of, control_over}
-use Rattle.rv_control.proofs.Listed.{IsListed}
-use Rattle.rv_control.proofs.Places.{row_told, row_there, tests_are, test_at}
+use Rattle.rv_control.specs.{Named.by_names, Symbolic.symbolic, Control.row_among, Control.row_of, Control.control_over}
+use Rattle.rv_control.proofs.{Listed.IsListed, Places.row_told, Places.row_there, Places.tests_are, Places.test_at}
 
 -- a variable with a row is a test
 pub test_of : (s : System) (w : Valuation) (row : List (Option Reading)) (x : Variable) (r : Row) → row_of s w row x ≡ Some r

@@ -3,32 +3,19 @@ use Rattle.std.proofs.Common.{◌≡◌, ℕ, zero, suc, ◌+◌, ◌^◌, ℤ, 
 use Rattle.std.specs.Prelude.{slice_index_or}
 use Rattle.rv_base.specs.declared.value.Value.{Value}
 use Rattle.rv_base.specs.declared.value.Value.TheVariants.{Flag, Label, Whole}
-use Rattle.rv_tree.specs.Tree.{ProgramTree}
-use Rattle.rv_tree.specs.Places.{Identifier, Sites}
-use Rattle.rv_types.specs.declared.typed.Kind.{Kind}
-use Rattle.rv_types.specs.declared.typed.Kind.TheVariants as kind
-use Rattle.rv_types.specs.Instances.{IsNode}
+use Rattle.rv_tree.specs.{Tree.ProgramTree, Places.Identifier, Places.Sites}
 use Rattle.rv_types.specs.Lists.{MemoryAt, memory_at, Variable, MainTick, Tick, Kept, Next, Input, Test}
-use Rattle.rv_types.specs.Values.{HasKind, labels_at}
-use Rattle.rv_types.specs.Variables.{bits_for}
-use Rattle.rv_types.specs.WellFormed.{AreWell}
-use Rattle.rv_meaning.specs.Codes.{code}
-use Rattle.rv_meaning.specs.Runs.{History, IsRun, IsSafe}
+use Rattle.rv_types.specs.{declared.typed.Kind.Kind, Instances.IsNode, Values.HasKind, Values.labels_at, Variables.bits_for, WellFormed.AreWell}
+use Rattle.rv_types.specs.declared.typed.Kind.TheVariants as kind
+use Rattle.rv_meaning.specs.{Codes.code, Runs.History, Runs.IsRun, Runs.IsSafe}
 use Rattle.rv_agreement.specs.Trees.{System, memory_kinds, memory_places, kind_at}
-use Rattle.rv_agreement.specs.Agreement.{State}
-use Rattle.rv_agreement.specs.Valuations.{Valuation, IsCodedAs}
+use Rattle.rv_agreement.specs.{Agreement.State, Valuations.Valuation, Valuations.IsCodedAs}
 use Rattle.rv_diagram.specs.Nodes.{Valuation as Numbered}
 use Rattle.rv_proofs.specs.Runs.{IsSafeSystem}
-use Rattle.rv_flat.specs.declared.flat.Flat.{Flat}
-use Rattle.rv_flat.specs.FlatInstants.{Row, system_of}
-use Rattle.rv_flat.specs.FlatOf.{IsFlatOf, flat_inputs}
-use Rattle.rv_flat.specs.SystemRuns.{IsRunOf}
-use Rattle.rv_control.specs.Named.{variables_of, by_names, by_numbers, truth_of}
-use Rattle.rv_control.specs.Control.{is_initial, control_of}
-use Rattle.rv_control.specs.Meets.{IsAbstractOf}
+use Rattle.rv_flat.specs.{declared.flat.Flat.Flat, FlatInstants.Row, FlatInstants.system_of, FlatOf.IsFlatOf, FlatOf.flat_inputs, SystemRuns.IsRunOf}
+use Rattle.rv_control.specs.{Named.variables_of, Named.by_names, Named.by_numbers, Named.truth_of, Control.is_initial, Control.control_of, Meets.IsAbstractOf}
 use Rattle.rv_control.proofs.Abstract.{Laws, initial_there, vs, points, is_run, observer_is, allowed_is}
-use Rattle.rv_control.proofs.Names.{false_truth}
-use Rattle.rv_control.proofs.Order.{is_listed, memory_in, labels_same}
+use Rattle.rv_control.proofs.{Names.false_truth, Order.is_listed, Order.memory_in, Order.labels_same}
 
 -- Each run is one of the flat system.
 abbrev pub RunsAreFlat : Type 0

@@ -1,10 +1,8 @@
 -- The computed symbolic instant is the symbolic instant.
 use Rattle.std.proofs.Common.{◌≡◌, ℕ, zero, suc, ◌+◌, ◌<◌, ◌≤◌, not, cond, List, [], ◌∷◌, ◌++◌, length, refl, sym, ◌∙◌, subst, ap, arith, length-append, inl}
-use Rattle.std.proofs.Common.{inr}
-use Rattle.std.proofs.Common.{Option, None as Nothing, Some}
+use Rattle.std.proofs.Common.{inr, Option, None as Nothing, Some}
+use Rattle.std.proofs.{lemmas.List.get_or_append_left, lemmas.List.get_or_push, Math.Nat.eq-or-lt_of_le}
 use Rattle.std.specs.Prelude.{nat_le}
-use Rattle.std.proofs.lemmas.List.{get_or_append_left, get_or_push}
-use Rattle.std.proofs.Math.Nat.{eq-or-lt_of_le}
 use Rattle.rv_tree.specs.Places.{Sites}
 use Rattle.rv_types.specs.declared.typed.Kind.{Kind}
 use Rattle.rv_types.specs.declared.typed.Kind.TheVariants as kind

@@ -1,42 +1,23 @@
 -- The system of valuations of a flat system is one: its parts go by what they read, and its counts are within their limits.
-use Rattle.std.proofs.Common.{◌≡◌, ℕ, suc, ◌+◌, ◌-◌, ◌*◌, ◌^◌, ◌<◌, ◌≤◌, pos, true, false, not, ◌&&◌, cond, List, [], ◌∷◌, length, map, refl, sym}
-use Rattle.std.proofs.Common.{◌∙◌, ap, arith, Option, Some}
-use Rattle.std.proofs.Common.{None as Nothing}
+use Rattle.std.proofs.Common.{◌≡◌, ℕ, suc, ◌+◌, ◌-◌, ◌*◌, ◌^◌, ◌<◌, ◌≤◌, pos, true, false, not, ◌&&◌, cond, List, [], ◌∷◌, length, map, refl, sym, ◌∙◌, ap}
+use Rattle.std.proofs.Common.{arith, Option, Some, None as Nothing}
+use Rattle.std.proofs.{lemmas.Bool.and_parts, lemmas.List.length-map}
 use Rattle.std.specs.Prelude.{slice_index_or, IsTrue}
-use Rattle.std.proofs.lemmas.Bool.{and_parts}
-use Rattle.std.proofs.lemmas.List.{length-map}
-use Rattle.rv_tree.specs.Tree.{ProgramTree}
-use Rattle.rv_tree.specs.Places.{Identifier, Sites}
-use Rattle.rv_types.specs.declared.typed.Kind.{Kind}
-use Rattle.rv_types.specs.Lists.{Variable, MainTick, Kept, Next, Input, Test}
-use Rattle.rv_types.specs.Variables.{is_integer}
-use Rattle.rv_rows.specs.declared.linear.Row.{Row}
-use Rattle.rv_rows.specs.Arithmetic.{constant_form}
-use Rattle.rv_agreement.specs.Trees.{Kept as KeptMemory, System, memory_kinds}
-use Rattle.rv_agreement.specs.Evaluation.{is_on}
-use Rattle.rv_agreement.specs.Valuations.{Valuation, reads_at, observed, whole_count, width}
-use Rattle.rv_agreement.specs.Agreement.{updates}
-use Rattle.rv_agreement.specs.Valuations.{Reading}
+use Rattle.rv_tree.specs.{Tree.ProgramTree, Places.Identifier, Places.Sites}
+use Rattle.rv_types.specs.{declared.typed.Kind.Kind, Lists.Variable, Lists.MainTick, Lists.Kept, Lists.Next, Lists.Input, Lists.Test, Variables.is_integer}
+use Rattle.rv_rows.specs.{declared.linear.Row.Row, Arithmetic.constant_form}
+use Rattle.rv_agreement.specs.Valuations.{Valuation, reads_at, observed, whole_count, width, Reading}
+use Rattle.rv_agreement.specs.{Trees.Kept as KeptMemory, Trees.System, Trees.memory_kinds, Evaluation.is_on, Agreement.updates}
 use Rattle.rv_diagram.specs.Nodes.{Valuation as Numbered}
 use Rattle.rv_proofs.specs.Systems as systems
 use Rattle.rv_proofs.specs.Reached.{HasNoIntegers}
-use Rattle.rv_flat.specs.declared.flat.Flat.{Flat}
-use Rattle.rv_flat.specs.declared.parts.FlatMemory.{FlatMemory}
-use Rattle.rv_flat.specs.Facts.{integers}
-use Rattle.rv_flat.specs.FlatInstants.{system_of}
-use Rattle.rv_flat.specs.FlatOf.{IsFlatOf}
-use Rattle.rv_flat.specs.Lists.{variable_of}
-use Rattle.rv_flat.specs.Systems.{kept_of}
-use Rattle.rv_control.specs.Named.{same_variable, variables_of, by_names, truth_at, tick_variable}
-use Rattle.rv_control.specs.Symbolic.{symbolic}
+use Rattle.rv_flat.specs.{declared.flat.Flat.Flat, declared.parts.FlatMemory.FlatMemory, Facts.integers, FlatInstants.system_of, FlatOf.IsFlatOf}
+use Rattle.rv_flat.specs.{Lists.variable_of, Systems.kept_of}
 use Rattle.rv_control.specs.Control.{names_label, memories_named, none_ticked, is_initial, is_allowed, tick_index, row_of, next_truth, control_over, control_of}
 use Rattle.rv_control.specs.Control.{order_tests}
-use Rattle.rv_control.proofs.Listed.{IsListed}
-use Rattle.rv_control.proofs.Names.{same_truth, agreed_truth}
-use Rattle.rv_control.proofs.Order.{is_listed}
-use Rattle.rv_control.proofs.Places.{states_are, tests_are, names_are, state_at, next_at}
-use Rattle.rv_control.proofs.Concrete.{tick_read, kept_read}
-use Rattle.rv_control.proofs.Abstract.{ticks_told}
+use Rattle.rv_control.specs.{Named.same_variable, Named.variables_of, Named.by_names, Named.truth_at, Named.tick_variable, Symbolic.symbolic}
+use Rattle.rv_control.proofs.{Listed.IsListed, Names.same_truth, Names.agreed_truth, Order.is_listed, Places.states_are, Places.tests_are, Places.names_are}
+use Rattle.rv_control.proofs.{Places.state_at, Places.next_at, Concrete.tick_read, Concrete.kept_read, Abstract.ticks_told}
 use Rattle.rv_base.proofs.Truths.{or_true}
 
 -- An initial control state goes by its ticks and by the bits of its memories.

@@ -1,19 +1,13 @@
 -- The tightened row of a row is one.
 use Rattle.std.proofs.Common.{◌≡◌, ◌⊎◌, inl, inr, ℕ, zero, suc, ◌+◌, ◌*◌, ◌/◌, ◌%◌, ◌<◌, ◌≤◌, ℤ, pos, negsuc, ◌+ℤ◌, ◌*ℤ◌, ◌≤ℤ◌, ◌<ℤ◌, Bool, true, false, cond}
 use Rattle.std.proofs.Common.{nat_eq, List, [], ◌∷◌, map, length, get_or, refl, sym, ◌∙◌, ap, arith}
+use Rattle.std.proofs.lemmas.List.Elements.{All-nil, All-cons, All-head, All-tail, All-weaker}
+use Rattle.std.proofs.{Math.Nat.dvd_trans, Math.Nat.dvd-zero, Math.IntN.*ℤ-zero, lemmas.Int.ints, lemmas.Bool.cases_lt, lemmas.Bool.eqb-true}
+use Rattle.std.proofs.{lemmas.Nat.Gcd.IsGcd-from_zero, lemmas.Nat.Gcd.IsGcd-from_mod, lemmas.List.length-map, lemmas.List.get_or_past, lemmas.List.get_or-map}
 use Prim.Native.Nat.{◌∣◌}
 use borrow.Author.Differences.{up, down, product_is, at_most_in, sum_is_lem}
-use Rattle.std.specs.Int.{IsGcd}
-use Rattle.std.specs.Int.RustNames.{unsigned_abs}
-use Rattle.std.proofs.Math.Nat.{dvd_trans, dvd-zero}
-use Rattle.std.proofs.Math.IntN.{*ℤ-zero}
-use Rattle.std.proofs.lemmas.Int.{ints}
-use Rattle.std.proofs.lemmas.Bool.{cases_lt, eqb-true}
-use Rattle.std.proofs.lemmas.Nat.Gcd.{IsGcd-from_zero, IsGcd-from_mod}
-use Rattle.std.proofs.lemmas.List.{length-map, get_or_past, get_or-map}
-use Rattle.std.proofs.lemmas.List.Elements.{All-nil, All-cons, All-head, All-tail, All-weaker}
-use Rattle.rv_rows.specs.declared.linear.Row.{Row}
-use Rattle.rv_rows.specs.Tight.{IsCommonDivisor, IsDivided, IsTightened}
+use Rattle.std.specs.{Int.IsGcd, Int.RustNames.unsigned_abs}
+use Rattle.rv_rows.specs.{declared.linear.Row.Row, Tight.IsCommonDivisor, Tight.IsDivided, Tight.IsTightened}
 use Rattle.rv_rows.proofs.TightLemmas.{exact_quotient}
 use Rattle.rv_control.specs.Tightening.{gcd_within, common, quotient, divided, tightened}
 

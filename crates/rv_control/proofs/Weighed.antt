@@ -1,32 +1,22 @@
 -- The rows and updates of a flat system are within the limits that its weights set.
 use Rattle.std.proofs.Common.{◌≡◌, inl, inr, ℕ, zero, suc, ◌+◌, ◌<◌, ◌≤◌, max, Bool, true, false, ◌&&◌, cond, nat_eq, List, [], ◌∷◌, ◌++◌, length, sym, ◌∙◌, ap}
-use Rattle.std.proofs.Common.{subst, arith, Option, Some}
-use Rattle.std.proofs.Common.{None as Nothing}
-use Rattle.std.specs.Prelude.{slice_index_or, nat_abs, nat_le}
-use Rattle.std.specs.List.{Contains}
-use Rattle.std.proofs.Math.Nat.{eq-or-lt_of_le}
-use Rattle.std.proofs.lemmas.Bool.{and_parts, leb-true}
-use Rattle.std.proofs.lemmas.List.Elements.{Contains-append_cases}
-use Rattle.rv_base.specs.declared.value.Value.{Value}
+use Rattle.std.proofs.Common.{subst, arith, Option, Some, None as Nothing}
+use Rattle.std.proofs.{Math.Nat.eq-or-lt_of_le, lemmas.Bool.and_parts, lemmas.Bool.leb-true, lemmas.List.Elements.Contains-append_cases}
+use Rattle.std.specs.{Prelude.slice_index_or, Prelude.nat_abs, Prelude.nat_le, List.Contains}
+use Rattle.rv_base.specs.{declared.value.Value.Value, Limits.heaviest}
 use Rattle.rv_base.specs.declared.value.Value.TheVariants as value
-use Rattle.rv_tree.specs.declared.tree.Op.{Op}
+use Rattle.rv_tree.specs.{declared.tree.Op.Op, Places.Sites}
 use Rattle.rv_tree.specs.declared.tree.Op.TheVariants as op
-use Rattle.rv_base.specs.Limits.{heaviest}
-use Rattle.rv_tree.specs.Places.{Sites}
-use Rattle.rv_types.specs.declared.typed.Kind.{Kind}
+use Rattle.rv_types.specs.{declared.typed.Kind.Kind, Lists.Side, Lists.AtMost, Lists.AtLeast, Lists.sides_of, Variables.is_integer}
 use Rattle.rv_types.specs.declared.typed.Kind.TheVariants as kind
-use Rattle.rv_types.specs.Lists.{Side, AtMost, AtLeast, sides_of}
-use Rattle.rv_types.specs.Variables.{is_integer}
-use Rattle.rv_rows.specs.declared.linear.Form.{Form}
-use Rattle.rv_rows.specs.Arithmetic.{column_form}
+use Rattle.rv_rows.specs.{declared.linear.Form.Form, Arithmetic.column_form}
 use Rattle.rv_agreement.specs.Trees.{FlatTree, Node, TreeForm, FlatTrees, Constant, Flow, Memory, Ticked, Input, Not, Binary, Scale, If, AtMostOne, When}
 use Rattle.rv_agreement.specs.Trees.{Current, None, More, Item, nth_item, System, memory_items, memory_kinds, memory_places, kind_at}
-use Rattle.rv_agreement.specs.Evaluation.{nth, held, is_there, form_value, item_value}
-use Rattle.rv_agreement.specs.Checks.{flows_fit}
 use Rattle.rv_agreement.specs.Valuations.{Valuation, Reading, holds_true, form_of, operated, constant_reading, spelled, width, rank, whole_count, reads_at}
 use Rattle.rv_agreement.specs.Valuations.{found_at, IsSymbolic, Comparison, is_placed, own, comparisons, form_comparisons, comparisons_of, side_form, read}
 use Rattle.rv_agreement.specs.Valuations.{updated}
 use Rattle.rv_agreement.specs.Agreement.{IsRule, Fits, FormFits, ItemFits, IsWell, forms_from}
+use Rattle.rv_agreement.specs.{Evaluation.nth, Evaluation.held, Evaluation.is_there, Evaluation.form_value, Evaluation.item_value, Checks.flows_fit}
 use Rattle.rv_agreement.proofs.Matching.{in_own}
 use Rattle.rv_flat.specs.Facts.{constant_weight, weight_under, flat_weight, form_flat_weight, is_light, form_is_light, all_light, flow_weights}
 use Rattle.rv_flat.proofs.FlowWeights.{weight_kth}

@@ -1,28 +1,20 @@
 -- A flat system as a system of valuations: what certificates speak of. (Jeannet 2003 for the control state.)
 use Rattle.std.specs.Prelude.{ℕ, suc, ◌+◌, ◌-◌, pos, Bool, true, false, not, ◌&&◌, ◌||◌, cond, nat_eq, nat_lt, List, [], ◌∷◌, length, Option, Some}
-use Rattle.std.specs.Prelude.{slice_index_or}
-use Rattle.std.specs.Prelude.{None as Nothing}
+use Rattle.std.specs.Prelude.{slice_index_or, None as Nothing}
 use Rattle.std.specs.Int.{bit_at}
 use Rattle.rv_tree.specs.Places.{Sites, index_of}
-use Rattle.rv_types.specs.declared.typed.Kind.{Kind}
-use Rattle.rv_types.specs.declared.typed.Kind.TheVariants as kind
 use Rattle.rv_types.specs.Lists.{Side, sides_of, Variable, MainTick, Tick, Kept, Next, Input, Test}
-use Rattle.rv_types.specs.Variables.{bits_for}
+use Rattle.rv_types.specs.{declared.typed.Kind.Kind, Variables.bits_for}
+use Rattle.rv_types.specs.declared.typed.Kind.TheVariants as kind
 use Rattle.rv_meaning.specs.Codes.{code}
-use Rattle.rv_rows.specs.declared.linear.Row.{Row}
-use Rattle.rv_rows.specs.Arithmetic.{constant_form, test_row}
+use Rattle.rv_rows.specs.{declared.linear.Row.Row, Arithmetic.constant_form, Arithmetic.test_row}
 use Rattle.rv_agreement.specs.Trees.{Item, Kept as KeptMemory, System, memory_kinds, memory_places}
-use Rattle.rv_agreement.specs.Evaluation.{is_met, is_on}
-use Rattle.rv_agreement.specs.Checks.{same_flow, same_sites}
 use Rattle.rv_agreement.specs.Valuations.{Valuation, Reading, Truth, Name, Linear, whole_count, width, reads_at, found_at, Comparison, all_comparisons}
 use Rattle.rv_agreement.specs.Valuations.{is_of_integers, Tested, tested_form, tested, updated, next_tick, observed}
-use Rattle.rv_agreement.specs.Agreement.{updates}
+use Rattle.rv_agreement.specs.{Evaluation.is_met, Evaluation.is_on, Checks.same_flow, Checks.same_sites, Agreement.updates}
 use Rattle.rv_proofs.specs.Systems as proofs
-use Rattle.rv_flat.specs.declared.flat.Flat.{Flat}
-use Rattle.rv_flat.specs.FlatInstants.{system_of}
-use Rattle.rv_control.specs.Tightening.{tightened}
-use Rattle.rv_control.specs.Named.{same_side, variables_of, by_names}
-use Rattle.rv_control.specs.Symbolic.{symbolic}
+use Rattle.rv_flat.specs.{declared.flat.Flat.Flat, FlatInstants.system_of}
+use Rattle.rv_control.specs.{Tightening.tightened, Named.same_side, Named.variables_of, Named.by_names, Symbolic.symbolic}
 
 -- Counts of variables.
 

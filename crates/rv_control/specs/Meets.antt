@@ -1,9 +1,7 @@
 -- A run of a program and the abstract run that it is.
 use Rattle.std.specs.Prelude.{◌≡◌, ◌↔◌, ℕ, ◌<◌, ℤ, true, List, Some, IsTrue}
-use Rattle.rv_base.specs.declared.value.Value.{Value}
-use Rattle.rv_base.specs.declared.value.Value.TheVariants.{Flag}
-use Rattle.rv_tree.specs.Tree.{ProgramTree}
-use Rattle.rv_tree.specs.Places.{Identifier, Sites}
+use Rattle.rv_base.specs.{declared.value.Value.Value, declared.value.Value.TheVariants.Flag}
+use Rattle.rv_tree.specs.{Tree.ProgramTree, Places.Identifier, Places.Sites}
 use Rattle.rv_meaning.specs.Runs.{History, AssertionsHold, observed}
 use Rattle.rv_diagram.specs.Nodes.{Valuation}
 use Rattle.rv_proofs.specs.Runs.{IsAbstractRun}

@@ -1,13 +1,10 @@
 -- A valuation by the numbers of the diagram variables is one by their names, and back.
-use Rattle.std.specs.Prelude.{suc, Bool, true, false, ◌&&◌, cond, nat_eq, List, [], ◌∷◌, map, Option, Some, slice_index_or}
-use Rattle.std.specs.Prelude.{None as Nothing}
+use Rattle.std.specs.Prelude.{suc, Bool, true, false, ◌&&◌, cond, nat_eq, List, [], ◌∷◌, map, Option, Some, slice_index_or, None as Nothing}
 use Rattle.rv_tree.specs.Places.{Sites}
 use Rattle.rv_types.specs.Lists.{Side, AtMost, AtLeast, Variable, MainTick, Tick, Kept, Next, Input, Test}
 use Rattle.rv_diagram.specs.Nodes.{Valuation as Numbered}
-use Rattle.rv_agreement.specs.Checks.{same_sites}
-use Rattle.rv_agreement.specs.Valuations.{Valuation}
-use Rattle.rv_flat.specs.declared.flat.Flat.{Flat}
-use Rattle.rv_flat.specs.Lists.{variable_of}
+use Rattle.rv_agreement.specs.{Checks.same_sites, Valuations.Valuation}
+use Rattle.rv_flat.specs.{declared.flat.Flat.Flat, Lists.variable_of}
 
 -- the diagram variables of a flat system, in order
 abbrev pub variables_of : Flat → List Variable

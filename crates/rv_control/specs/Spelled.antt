@@ -2,22 +2,15 @@
 use Rattle.std.specs.Prelude.{◌≡◌, ℕ, suc, ◌<◌, ℤ, Bool, cond, List, [], ◌∷◌, map, drop, slice_index_or}
 use Rattle.rv_base.specs.declared.value.Value.{Value}
 use Rattle.rv_base.specs.declared.value.Value.TheVariants.{Flag, Label, Whole}
-use Rattle.rv_tree.specs.Tree.{ProgramTree}
-use Rattle.rv_tree.specs.Places.{Identifier, Sites}
-use Rattle.rv_types.specs.declared.typed.Kind.{Kind}
+use Rattle.rv_tree.specs.{Tree.ProgramTree, Places.Identifier, Places.Sites}
+use Rattle.rv_types.specs.{declared.typed.Kind.Kind, Variables.is_integer, Variables.bits_for}
 use Rattle.rv_types.specs.declared.typed.Kind.TheVariants as kind
-use Rattle.rv_types.specs.Variables.{is_integer, bits_for}
-use Rattle.rv_meaning.specs.Codes.{code}
-use Rattle.rv_meaning.specs.Runs.{History, IsRun}
+use Rattle.rv_meaning.specs.{Codes.code, Runs.History, Runs.IsRun}
 use Rattle.rv_rows.specs.Forms as forms
 use Rattle.rv_agreement.specs.Valuations.{whole_count}
 use Rattle.rv_diagram.specs.Nodes.{Valuation as Numbered}
-use Rattle.rv_flat.specs.declared.flat.Flat.{Flat}
-use Rattle.rv_flat.specs.FlatInstants.{memory_places}
-use Rattle.rv_flat.specs.FlatOf.{flat_inputs}
-use Rattle.rv_flat.specs.Steps.{label_counts, memory_kinds, input_kinds}
-use Rattle.rv_control.specs.Named.{named}
-use Rattle.rv_control.specs.Meets.{IsAbstractOf}
+use Rattle.rv_flat.specs.{declared.flat.Flat.Flat, FlatInstants.memory_places, FlatOf.flat_inputs, Steps.label_counts, Steps.memory_kinds, Steps.input_kinds}
+use Rattle.rv_control.specs.{Named.named, Meets.IsAbstractOf}
 
 -- the value of a type: what bits spell, or a number
 abbrev pub value_at : List ℕ → Kind → (ℕ → Bool) → ℤ → Value

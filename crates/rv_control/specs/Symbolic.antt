@@ -1,8 +1,7 @@
 -- The symbolic instant at a valuation, as a function.
 use Rattle.std.specs.Prelude.{ℕ, zero, suc, List, [], ◌∷◌, ◌++◌, length, Option}
-use Rattle.rv_agreement.specs.Trees.{Item, nth_item, System}
-use Rattle.rv_agreement.specs.Evaluation.{item_value}
 use Rattle.rv_agreement.specs.Valuations.{Valuation, Reading, reads_at, found_at}
+use Rattle.rv_agreement.specs.{Trees.Item, Trees.nth_item, Trees.System, Evaluation.item_value}
 
 module _ (s : System) (w : Valuation) where
   -- the readings of some flows, and of one more after them

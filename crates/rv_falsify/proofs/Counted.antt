@@ -1,14 +1,11 @@
 -- How many bits types have, one after the other.
 use Rattle.std.proofs.Common.{◌≡◌, inl, inr, ℕ, zero, suc, ◌+◌, ◌*◌, ◌^◌, ◌<◌, ◌≤◌, Bool, true, false, cond, nat_le, List, [], ◌∷◌, length, map, refl, sym, ◌∙◌}
 use Rattle.std.proofs.Common.{ap, arith}
+use Rattle.std.proofs.{Math.Nat.eq-or-lt_of_le, Math.Nat.mul-le-mul_left, lemmas.Bool.and_parts, lemmas.Bool.leb-true, lemmas.Bool.le-leb}
 use Rattle.std.specs.Prelude.{slice_index_or}
-use Rattle.std.proofs.Math.Nat.{eq-or-lt_of_le, mul-le-mul_left}
-use Rattle.std.proofs.lemmas.Bool.{and_parts, leb-true, le-leb}
-use Rattle.rv_types.specs.declared.typed.Kind.{Kind}
+use Rattle.rv_types.specs.{declared.typed.Kind.Kind, Variables.bits_from}
 use Rattle.rv_types.specs.declared.typed.Kind.TheVariants as kind
-use Rattle.rv_types.specs.Variables.{bits_from}
-use Rattle.rv_agreement.specs.Trees.{kind_at}
-use Rattle.rv_agreement.specs.Agreement.{bit_count}
+use Rattle.rv_agreement.specs.{Trees.kind_at, Agreement.bit_count}
 use Rattle.rv_flat.specs.Facts.{all_few}
 use Rattle.rv_falsify.specs.Decoding.{bits_before}
 use Rattle.rv_types.proofs.ChainLaws.{no_flag}

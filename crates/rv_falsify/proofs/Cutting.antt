@@ -1,11 +1,8 @@
 -- A trace cut after the instant at which it falsifies.
 use Rattle.std.proofs.Common.{◌≡◌, ℕ, ◌+◌, List, take, sym, ◌∙◌, subst}
-use Rattle.rv_base.specs.declared.value.Trace.{Trace}
-use Rattle.rv_base.specs.declared.value.Value.{Value}
-use Rattle.rv_tree.specs.Tree.{ProgramTree}
-use Rattle.rv_tree.specs.Places.{Identifier}
-use Rattle.rv_replay.specs.Replays.{IsFalsifiedAt}
-use Rattle.rv_replay.specs.Traces.{IsTrace}
+use Rattle.rv_base.specs.{declared.value.Trace.Trace, declared.value.Value.Value}
+use Rattle.rv_tree.specs.{Tree.ProgramTree, Places.Identifier}
+use Rattle.rv_replay.specs.{Replays.IsFalsifiedAt, Traces.IsTrace}
 use Rattle.rv_probe.specs.Probes.{cut}
 use Rattle.rv_probe.proofs.Cuts.{cut_count, cut_falsified, cut_trace}
 use Rattle.rv_falsify.specs.Falsifying.{IsFalsifying}

@@ -1,49 +1,27 @@
 -- The trace that the words of a falsifying path spell falsifies, and a run that falsifies is a falsifying run of the system.
-use Rattle.std.proofs.Common.{◌≡◌, ℕ, ◌+◌, ◌<◌, ◌^◌, ℤ, pos, Bool, true, false, List, [], map, length, get_or, sym, ◌∙◌, ap, subst, arith, Some}
-use Rattle.std.proofs.Common.{slice_get}
+use Rattle.std.proofs.Common.{◌≡◌, ℕ, ◌+◌, ◌<◌, ◌^◌, ℤ, pos, Bool, true, false, List, [], map, length, get_or, sym, ◌∙◌, ap, subst, arith, Some, slice_get}
+use Rattle.std.proofs.{lemmas.Int.ints, lemmas.List.get_or-map, lemmas.List.length-map, lemmas.Option.slice_get_within, lemmas.Bool.false_from_ne_true}
 use Rattle.std.specs.Prelude.{IsTrue}
-use Rattle.std.proofs.lemmas.Int.{ints}
-use Rattle.std.proofs.lemmas.List.{get_or-map, length-map}
-use Rattle.std.proofs.lemmas.Option.{slice_get_within}
-use Rattle.rv_base.specs.declared.value.Trace.{Trace}
-use Rattle.rv_base.specs.declared.value.Value.{Value}
-use Rattle.rv_base.specs.declared.value.Value.TheVariants.{Flag}
-use Rattle.rv_tree.specs.Tree.{ProgramTree}
-use Rattle.rv_tree.specs.Places.{Identifier, Sites}
-use Rattle.rv_types.specs.declared.typed.Kind.{Kind}
+use Rattle.rv_base.specs.{declared.value.Trace.Trace, declared.value.Value.Value, declared.value.Value.TheVariants.Flag}
+use Rattle.rv_tree.specs.{Tree.ProgramTree, Places.Identifier, Places.Sites}
+use Rattle.rv_types.specs.{declared.typed.Kind.Kind, Instances.node_of, Instances.IsNode, Kinds.decl_kinds, Lists.MemoryAt, Lists.memory_at, Values.HasKind}
+use Rattle.rv_types.specs.{WellFormed.AreWell}
 use Rattle.rv_types.specs.declared.typed.Kind.TheVariants as kind
-use Rattle.rv_types.specs.Instances.{node_of, IsNode}
-use Rattle.rv_types.specs.Kinds.{decl_kinds}
-use Rattle.rv_types.specs.Lists.{MemoryAt, memory_at}
-use Rattle.rv_types.specs.Values.{HasKind}
-use Rattle.rv_types.specs.WellFormed.{AreWell}
 use Rattle.rv_meaning.specs.Runs.{History, Falsifies, IsRun, observed}
-use Rattle.rv_agreement.specs.Trees.{kind_at}
-use Rattle.rv_agreement.specs.Valuations.{whole_count}
+use Rattle.rv_agreement.specs.{Trees.kind_at, Valuations.whole_count}
 use Rattle.rv_diagram.specs.Nodes.{Valuation, valuation_of}
-use Rattle.rv_proofs.specs.Reached.{HasNoIntegers}
-use Rattle.rv_proofs.specs.Runs.{IsAbstractRun}
-use Rattle.rv_flat.specs.declared.flat.Flat.{Flat}
-use Rattle.rv_flat.specs.declared.parts.FlatMemory.{FlatMemory}
-use Rattle.rv_flat.specs.FlatInstants.{memory_places}
-use Rattle.rv_flat.specs.FlatOf.{first_values, flat_inputs, IsFlatOf}
-use Rattle.rv_flat.specs.Steps.{label_counts, memory_kinds, input_kinds, IsInRange}
-use Rattle.rv_flat.specs.Systems.{memory_of}
+use Rattle.rv_proofs.specs.{Reached.HasNoIntegers, Runs.IsAbstractRun}
+use Rattle.rv_flat.specs.{declared.flat.Flat.Flat, declared.parts.FlatMemory.FlatMemory, FlatInstants.memory_places, FlatOf.first_values, FlatOf.flat_inputs}
+use Rattle.rv_flat.specs.{FlatOf.IsFlatOf, Steps.label_counts, Steps.memory_kinds, Steps.input_kinds, Steps.IsInRange, Systems.memory_of}
 use Rattle.rv_flat.proofs.Typing.{memory_kth, value_kth}
-use Rattle.rv_walk.specs.Falsified.{IsFalsifyingRun}
-use Rattle.rv_walk.specs.Paths.{at_instant, no_integers, IsFalsifyingPath, IsShortestPath}
-use Rattle.rv_control.specs.Control.{control_of}
-use Rattle.rv_control.specs.Meets.{IsAbstractOf}
-use Rattle.rv_control.specs.Named.{named}
+use Rattle.rv_walk.specs.{Falsified.IsFalsifyingRun, Paths.at_instant, Paths.no_integers, Paths.IsFalsifyingPath, Paths.IsShortestPath}
 use Rattle.rv_control.specs.Spelled.{decoded, spelled_starts, spelled_inputs, value_at, HasSpelledRun}
+use Rattle.rv_control.specs.{Control.control_of, Meets.IsAbstractOf, Named.named}
 use Rattle.rv_control.proofs.Decoded.{decoded_at, length-decoded}
-use Rattle.rv_replay.specs.Observers.{IsObserved}
-use Rattle.rv_replay.specs.Traces.{Fixes, IsTrace, given, kinds_of}
+use Rattle.rv_replay.specs.{Observers.IsObserved, Traces.Fixes, Traces.IsTrace, Traces.given, Traces.kinds_of}
 use Rattle.rv_replay.proofs.FlatTraces.{starts_same, kinds_same}
 use Rattle.rv_falsify.specs.Falsifying.{IsFalsifying, IsNeverFalsified, IsShortest}
-use Rattle.rv_falsify.proofs.Spelling.{drop_none}
-use Rattle.rv_falsify.proofs.Running.{Laws, observed_truth, stays_within}
-use Rattle.std.proofs.lemmas.Bool.{false_from_ne_true}
+use Rattle.rv_falsify.proofs.{Spelling.drop_none, Running.Laws, Running.observed_truth, Running.stays_within}
 
 -- What is taken from the control of flat systems.
 abbrev pub RunsAreAbstract : Type 0

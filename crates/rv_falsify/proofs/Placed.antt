@@ -1,53 +1,31 @@
 -- Where the bits of memories and inputs stand among the diagram variables of a flat system.
-use Rattle.std.proofs.Common.{◌≡◌, inl, inr, ℕ, zero, suc, ◌+◌, ◌*◌, ◌<◌, ◌≤◌, Bool, true, false, cond, nat_eq, List, [], ◌∷◌, ◌++◌, length}
-use Rattle.std.proofs.Common.{length-append, map, refl, sym, ◌∙◌, ap, subst, arith, Option, Some}
-use Rattle.std.proofs.Common.{None as Nothing}
-use Rattle.std.specs.Prelude.{slice_index_or}
-use Rattle.std.specs.List.{Contains}
-use Rattle.std.proofs.Math.Nat.{eq-or-lt_of_le}
-use Rattle.std.proofs.lemmas.Bool.{ne_eqb}
-use Rattle.std.proofs.lemmas.List.{append_assoc, length-map}
-use Rattle.std.proofs.lemmas.List.Elements.{Contains-append_cases}
-use Rattle.rv_tree.specs.Tree.{ProgramTree}
-use Rattle.rv_tree.specs.Places.{Identifier, Sites, index_of}
-use Rattle.rv_types.specs.declared.typed.Kind.{Kind}
-use Rattle.rv_types.specs.Kinds.{decl_kinds}
-use Rattle.rv_types.specs.Instances.{node_of}
+use Rattle.std.proofs.Common.{◌≡◌, inl, inr, ℕ, zero, suc, ◌+◌, ◌*◌, ◌<◌, ◌≤◌, Bool, true, false, cond, nat_eq, List, [], ◌∷◌, ◌++◌, length, length-append, map}
+use Rattle.std.proofs.Common.{refl, sym, ◌∙◌, ap, subst, arith, Option, Some, None as Nothing}
+use Rattle.std.proofs.lemmas.Bool.{ne_eqb, and_left, and_right}
+use Rattle.std.proofs.{Math.Nat.eq-or-lt_of_le, lemmas.List.append_assoc, lemmas.List.length-map, lemmas.List.Elements.Contains-append_cases}
+use Rattle.std.specs.{Prelude.slice_index_or, List.Contains}
+use Rattle.rv_tree.specs.{Tree.ProgramTree, Places.Identifier, Places.Sites, Places.index_of}
 use Rattle.rv_types.specs.Lists.{Variable, MainTick, Tick, Kept, Input, MemoryAt, AreRising, AreVariables, bits, with_copies, memory_variables, input_variables}
 use Rattle.rv_types.specs.Lists.{test_variables, memory_places}
-use Rattle.rv_types.specs.Needs.{IsBefore}
-use Rattle.rv_types.specs.Variables.{kind_bits}
-use Rattle.rv_agreement.specs.Trees.{System, kind_at}
-use Rattle.rv_agreement.specs.Agreement.{bit_count}
-use Rattle.rv_agreement.specs.Checks.{same_sites}
+use Rattle.rv_types.specs.{declared.typed.Kind.Kind, Kinds.decl_kinds, Instances.node_of, Needs.IsBefore, Variables.kind_bits}
+use Rattle.rv_agreement.specs.{Trees.System, Trees.kind_at, Agreement.bit_count, Checks.same_sites}
 use Rattle.rv_diagram.specs.Nodes.{Valuation as Numbered}
-use Rattle.rv_flat.specs.declared.flat.Flat.{Flat}
-use Rattle.rv_flat.specs.declared.parts.Bit.{Bit}
-use Rattle.rv_flat.specs.declared.parts.Bit.TheVariants as bit
-use Rattle.rv_flat.specs.declared.parts.FlatMemory.{FlatMemory}
-use Rattle.rv_flat.specs.Facts.{numbers_among}
-use Rattle.rv_flat.specs.FlatInstants.{places, system_of}
-use Rattle.rv_flat.specs.FlatInstants as flats
-use Rattle.rv_flat.specs.FlatOf.{IsFlatOf}
-use Rattle.rv_flat.specs.Lists.{tick_places, variable_of}
 use Rattle.rv_flat.specs.Steps.{label_counts, memory_kinds, input_kinds}
-use Rattle.rv_flat.specs.Systems.{memory_of}
+use Rattle.rv_flat.specs.{declared.flat.Flat.Flat, declared.parts.Bit.Bit, declared.parts.FlatMemory.FlatMemory, Facts.numbers_among, FlatInstants.places}
+use Rattle.rv_flat.specs.{FlatInstants.system_of, FlatOf.IsFlatOf, Lists.tick_places, Lists.variable_of, Systems.memory_of}
+use Rattle.rv_flat.specs.declared.parts.Bit.TheVariants as bit
+use Rattle.rv_flat.specs.FlatInstants as flats
 use Rattle.rv_flat.proofs.Earliest.{not_itself}
 use Rattle.rv_control.specs.Named.{same_variable, tick_variable, truth_at, variables_of}
 use Rattle.rv_control.proofs.Listed.{IsStateBit, a_tick, a_bit, IsInputBit, a_bit_of, IsTestBit, a_test}
-use Rattle.rv_control.proofs.Names.{kept_itself, input_itself, state_truth, unnamed}
-use Rattle.rv_control.proofs.Concrete.{input_no_kept, test_no_kept}
 use Rattle.rv_control.proofs.Order.{bit_from, input_bit, same_bits, state_bit, test_bit}
-use Rattle.rv_replay.proofs.Orders.{one_listing}
+use Rattle.rv_control.proofs.{Names.kept_itself, Names.input_itself, Names.state_truth, Names.unnamed, Concrete.input_no_kept, Concrete.test_no_kept}
+use Rattle.rv_replay.proofs.{Orders.one_listing, FlatTraces.places_same}
 use Rattle.rv_falsify.specs.Decoding.{bits_before}
-use Rattle.rv_agreement.proofs.Chosen.{sites_told}
-use Rattle.rv_agreement.proofs.Systems.{from_map}
+use Rattle.rv_agreement.proofs.{Chosen.sites_told, Systems.from_map}
 use Rattle.rv_flatten.proofs.CountedVariables.{length_bits, length_copies}
 use Rattle.rv_meaning.proofs.NameLemmas.{same_text}
-use Rattle.rv_replay.proofs.FlatTraces.{places_same}
 use Rattle.rv_types.proofs.Members.{at_head, cons_cases, in_tail, of_flat_map}
-use Rattle.std.proofs.lemmas.Bool.{and_left}
-use Rattle.std.proofs.lemmas.Bool.{and_right}
 
 -- Variables without a name are passed over.
 skip : (xs ys : List Variable) (u : Numbered) (x : Variable) → ((y : Variable) → Contains xs y → same_variable y x ≡ false)

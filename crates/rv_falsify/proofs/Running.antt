@@ -1,46 +1,29 @@
 -- The instants of a run: the observer is there with a truth value, and without integers no value leaves the range.
 use Rattle.std.proofs.Common.{◌≡◌, inl, inr, ℕ, ℤ, zero, suc, ◌+◌, ◌^◌, ◌<◌, ◌≤◌, Bool, true, false, cond, List, [], ◌∷◌, length, get_or, refl, sym, ◌∙◌, ap}
-use Rattle.std.proofs.Common.{subst, arith, Some, IsSome, slice_get}
-use Rattle.std.proofs.Common.{None as Nothing}
+use Rattle.std.proofs.Common.{subst, arith, Some, IsSome, slice_get, None as Nothing}
+use Rattle.std.proofs.lemmas.List.{get_or-map, get_or_default, get_or_past, length-map}
+use Rattle.std.proofs.{lemmas.Bool.cases_lt, lemmas.Int.ints}
 use Rattle.std.specs.FinMap.{empty}
 use Rattle.std.specs.FinMap as finite
-use Rattle.std.proofs.lemmas.Bool.{cases_lt}
-use Rattle.std.proofs.lemmas.Int.{ints}
-use Rattle.std.proofs.lemmas.List.{get_or-map, get_or_default, get_or_past, length-map}
 use Rattle.rv_base.specs.declared.value.Value.{Value}
 use Rattle.rv_base.specs.declared.value.Value.TheVariants.{Flag, Label, Whole}
-use Rattle.rv_tree.specs.Tree.{ProgramTree}
-use Rattle.rv_tree.specs.Places.{Identifier, Sites}
-use Rattle.rv_types.specs.declared.typed.Kind.{Kind}
-use Rattle.rv_types.specs.declared.typed.Kind.TheVariants as kind
-use Rattle.rv_types.specs.declared.typed.Clock.{Clock}
-use Rattle.rv_types.specs.declared.typed.Clock.TheVariants.{Base}
+use Rattle.rv_tree.specs.{Tree.ProgramTree, Places.Identifier, Places.Sites}
 use Rattle.rv_types.specs.Instances.{absolute, clock_in, is_main, main_instance, place}
-use Rattle.rv_types.specs.Lists.{memory_at}
 use Rattle.rv_types.specs.Values.{HasKind, operand_kind}
-use Rattle.rv_types.specs.Variables.{is_integer}
-use Rattle.rv_meaning.specs.Meaning.{content, is_there, kept_place}
+use Rattle.rv_types.specs.{declared.typed.Kind.Kind, declared.typed.Clock.Clock, declared.typed.Clock.TheVariants.Base, Lists.memory_at, Variables.is_integer}
+use Rattle.rv_types.specs.declared.typed.Kind.TheVariants as kind
 use Rattle.rv_meaning.specs.Runs.{History, cell, cells, observed, AreStarts, IsRun}
 use Rattle.rv_meaning.specs.Instants.{State as Brought, is_on_in, AreGiven, IsInstant, IsNext}
-use Rattle.rv_meaning.specs.Following.{held_before, IsStateAt, IsTypedInstant}
-use Rattle.rv_agreement.specs.Agreement.{State, AreTyped, HasKind as HasKindIn}
-use Rattle.rv_agreement.specs.Trees.{kind_at}
+use Rattle.rv_meaning.specs.{Meaning.content, Meaning.is_there, Meaning.kept_place, Following.held_before, Following.IsStateAt, Following.IsTypedInstant}
+use Rattle.rv_agreement.specs.{Agreement.State, Agreement.AreTyped, Agreement.HasKind as HasKindIn, Trees.kind_at, Valuations.whole_count}
 use Rattle.rv_agreement.specs.Trees as trees
-use Rattle.rv_agreement.specs.Valuations.{whole_count}
 use Rattle.rv_proofs.specs.Reached.{HasNoIntegers}
-use Rattle.rv_flat.specs.declared.flat.Flat.{Flat}
 use Rattle.rv_flat.specs.FlatInstants.{Row, held, nth, places, system_of}
-use Rattle.rv_flat.specs.FlatOf.{flat_inputs}
-use Rattle.rv_flat.specs.Steps.{memory_kinds, IsWithin}
-use Rattle.rv_flat.specs.SystemRuns.{IsRunOf}
-use Rattle.rv_flat.proofs.Running.{RunIsInstants, StatesOfRun}
-use Rattle.rv_flat.proofs.SystemRuns.{kept_kinds}
-use Rattle.rv_flat.proofs.Typing.{TypedMemories, memory_found}
-use Rattle.rv_flat.proofs.Weighing.{size}
+use Rattle.rv_flat.specs.{declared.flat.Flat.Flat, FlatOf.flat_inputs, Steps.memory_kinds, Steps.IsWithin, SystemRuns.IsRunOf}
+use Rattle.rv_flat.proofs.{Running.RunIsInstants, Running.StatesOfRun, SystemRuns.kept_kinds, Typing.TypedMemories, Typing.memory_found, Weighing.size}
 use Rattle.rv_control.specs.Control.{control_of}
 use Rattle.rv_control.proofs.Program.{RunsAreFlat}
-use Rattle.rv_replay.specs.Observers.{IsObserved}
-use Rattle.rv_replay.specs.Replays.{flow, memory, StaysWithin}
+use Rattle.rv_replay.specs.{Observers.IsObserved, Replays.flow, Replays.memory, Replays.StaysWithin}
 use Rattle.rv_falsify.proofs.Weighed.{flow_small}
 use Rattle.rv_replay.proofs.Observers.{InputsOfProgram, StatesOfProgram, TypedFlows, its_clock, its_place, observer, truth}
 use Rattle.rv_replay.proofs.FlatSteps.{there_by}

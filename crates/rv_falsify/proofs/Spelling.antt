@@ -1,30 +1,19 @@
 -- The values that are read from words are those that their valuations spell.
 use Rattle.std.proofs.Common.{◌≡◌, inl, inr, ℕ, zero, suc, ◌+◌, ◌*◌, ◌<◌, ℤ, pos, Bool, false, cond, List, [], ◌∷◌, ◌++◌, length, map, drop, refl, sym, ◌∙◌, ap}
 use Rattle.std.proofs.Common.{arith}
+use Rattle.std.proofs.{Math.Nat.eq-or-lt_of_le, lemmas.List.ext_get_or, lemmas.List.get_or_push, lemmas.List.get_or_append_left, lemmas.List.length-map}
 use Rattle.std.specs.Prelude.{slice_index_or}
-use Rattle.std.proofs.Math.Nat.{eq-or-lt_of_le}
-use Rattle.std.proofs.lemmas.List.{ext_get_or, get_or_push, get_or_append_left, length-map}
-use Rattle.rv_base.specs.declared.value.Value.{Value}
-use Rattle.rv_base.specs.declared.value.Value.TheVariants.{Flag, Label}
-use Rattle.rv_tree.specs.Tree.{ProgramTree}
-use Rattle.rv_tree.specs.Places.{Identifier}
-use Rattle.rv_types.specs.declared.typed.Kind.{Kind}
+use Rattle.rv_base.specs.{declared.value.Value.Value, declared.value.Value.TheVariants.Flag, declared.value.Value.TheVariants.Label}
+use Rattle.rv_tree.specs.{Tree.ProgramTree, Places.Identifier}
+use Rattle.rv_types.specs.{declared.typed.Kind.Kind, Variables.is_integer, Variables.bits_for}
 use Rattle.rv_types.specs.declared.typed.Kind.TheVariants as kind
-use Rattle.rv_types.specs.Variables.{is_integer, bits_for}
 use Rattle.rv_rows.specs.Forms as forms
-use Rattle.rv_agreement.specs.Trees.{kind_at}
-use Rattle.rv_agreement.specs.Agreement.{bit_count}
-use Rattle.rv_agreement.specs.Valuations.{whole_count}
+use Rattle.rv_agreement.specs.{Trees.kind_at, Agreement.bit_count, Valuations.whole_count}
 use Rattle.rv_diagram.specs.Nodes.{valuation_of}
-use Rattle.rv_flat.specs.declared.flat.Flat.{Flat}
-use Rattle.rv_flat.specs.declared.parts.FlatMemory.{FlatMemory}
-use Rattle.rv_flat.specs.FlatInstants.{memory_places}
-use Rattle.rv_flat.specs.FlatOf.{IsFlatOf}
 use Rattle.rv_flat.specs.Steps.{label_counts, memory_kinds, input_kinds}
-use Rattle.rv_control.specs.Named.{named}
-use Rattle.rv_control.specs.Spelled.{value_at, rest_of, decoded, spelled_starts, spelled_inputs}
-use Rattle.rv_control.proofs.Alike.{code_same}
-use Rattle.rv_control.proofs.Decoded.{length-decoded, decoded_at}
+use Rattle.rv_flat.specs.{declared.flat.Flat.Flat, declared.parts.FlatMemory.FlatMemory, FlatInstants.memory_places, FlatOf.IsFlatOf}
+use Rattle.rv_control.specs.{Named.named, Spelled.value_at, Spelled.rest_of, Spelled.decoded, Spelled.spelled_starts, Spelled.spelled_inputs}
+use Rattle.rv_control.proofs.{Alike.code_same, Decoded.length-decoded, Decoded.decoded_at}
 use Rattle.rv_falsify.specs.Decoding.{bits_before, bit_behind, bits_along}
 use Rattle.rv_falsify.proofs.Placed.{kept_placed, given_placed}
 

@@ -1,37 +1,26 @@
 -- Where no memory or input holds an integer, no integer of a flat expression is larger than its weight.
-use Rattle.std.proofs.Common.{◌≡◌, inl, inr, ℕ, zero, suc, ◌+◌, ◌^◌, ◌<◌, ◌≤◌, max, Bool, true, false, ◌&&◌, cond, nat_abs, List, [], length}
-use Rattle.std.proofs.Common.{get_or, sym, ◌∙◌, ap, subst, arith, Option, Some}
-use Rattle.std.proofs.Common.{None as Nothing}
+use Rattle.std.proofs.Common.{◌≡◌, inl, inr, ℕ, zero, suc, ◌+◌, ◌^◌, ◌<◌, ◌≤◌, max, Bool, true, false, ◌&&◌, cond, nat_abs, List, [], length, get_or, sym, ◌∙◌}
+use Rattle.std.proofs.Common.{ap, subst, arith, Option, Some, None as Nothing}
+use Rattle.std.proofs.{Math.ListN.length-map, Math.Nat.eq-or-lt_of_le, lemmas.Bool.leb-true, lemmas.Bool.ltb-true, lemmas.Int.ints}
 use Rattle.std.specs.Prelude.{nat_lt, nat_le, slice_get}
-use Rattle.std.proofs.Math.ListN.{length-map}
-use Rattle.std.proofs.Math.Nat.{eq-or-lt_of_le}
-use Rattle.std.proofs.lemmas.Bool.{leb-true, ltb-true}
-use Rattle.std.proofs.lemmas.Int.{ints}
-use Rattle.rv_base.specs.declared.value.Value.{Value}
 use Rattle.rv_base.specs.declared.value.Value.TheVariants.{Flag, Label, Whole}
-use Rattle.rv_tree.specs.declared.tree.Op.{Op}
+use Rattle.rv_base.specs.{declared.value.Value.Value, Limits.heaviest}
+use Rattle.rv_tree.specs.{declared.tree.Op.Op, Places.Sites}
 use Rattle.rv_tree.specs.declared.tree.Op.TheVariants as op
-use Rattle.rv_base.specs.Limits.{heaviest}
-use Rattle.rv_tree.specs.Places.{Sites}
-use Rattle.rv_types.specs.declared.typed.Kind.{Kind}
+use Rattle.rv_types.specs.{declared.typed.Kind.Kind, Types.same_kind}
 use Rattle.rv_types.specs.declared.typed.Kind.TheVariants as kind
-use Rattle.rv_types.specs.Types.{same_kind}
 use Rattle.rv_meaning.specs.Meaning.{is_true, number, operate}
 use Rattle.rv_agreement.specs.Agreement.{State, found_in, IsWholeInstant}
 use Rattle.rv_agreement.specs.Checks.{same_clock, is_of, gives, clock_fits, fits, form_fits}
 use Rattle.rv_agreement.specs.Evaluation.{Found, value, form_value, integers, item_value}
 use Rattle.rv_agreement.specs.Trees.{FlatTree, Node, TreeForm, Constant, Flow, Memory, Ticked, Input, Not, Binary, Scale, If, AtMostOne, When, Current, System}
 use Rattle.rv_agreement.specs.Trees.{memory_kinds, nth_item}
-use Rattle.rv_flat.specs.declared.flat.Flat.{Flat}
 use Rattle.rv_flat.specs.FlatInstants.{Row, nth, held, is_on_at, flow_items, system_of}
 use Rattle.rv_flat.specs.Facts.{constant_weight, weight_under, flat_weight, form_flat_weight, flow_weights, is_light, form_is_light}
-use Rattle.rv_flat.specs.Systems.{flow_item}
-use Rattle.rv_flat.proofs.FlowWeights.{item_light, weight_kth}
-use Rattle.rv_flat.proofs.Tested.{ItemFits, flow_fits, operator_fits}
-use Rattle.rv_flat.proofs.Weighing.{size}
+use Rattle.rv_flat.specs.{declared.flat.Flat.Flat, Systems.flow_item}
+use Rattle.rv_flat.proofs.{FlowWeights.item_light, FlowWeights.weight_kth, Tested.ItemFits, Tested.flow_fits, Tested.operator_fits, Weighing.size}
 use Rattle.rv_base.proofs.Truths.{both_of}
-use Rattle.rv_types.proofs.ChainLaws.{no_flag}
-use Rattle.rv_types.proofs.Weights.{product_small}
+use Rattle.rv_types.proofs.{ChainLaws.no_flag, Weights.product_small}
 
 -- an operator gives no more than its operands allow
 operated_small : (o : Op) (k : Kind) (x y : Value) (v w : ℕ) → gives o k ≡ true → size x ≤ v → size y ≤ w → size (operate o false x y) ≤ weight_under o v w

@@ -1,12 +1,9 @@
 -- Traces that falsify a program.
 use Rattle.std.specs.Prelude.{◌≡◌, ℕ, ◌+◌, ◌≤◌, length}
-use Rattle.rv_base.specs.declared.value.Value.{Value}
-use Rattle.rv_base.specs.declared.value.Trace.{Trace}
-use Rattle.rv_tree.specs.Tree.{ProgramTree}
-use Rattle.rv_tree.specs.Places.{Identifier, Sites}
+use Rattle.rv_base.specs.{declared.value.Value.Value, declared.value.Trace.Trace}
+use Rattle.rv_tree.specs.{Tree.ProgramTree, Places.Identifier, Places.Sites}
 use Rattle.rv_meaning.specs.Runs.{Falsifies}
-use Rattle.rv_replay.specs.Replays.{IsFalsifiedAt}
-use Rattle.rv_replay.specs.Traces.{IsTrace}
+use Rattle.rv_replay.specs.{Replays.IsFalsifiedAt, Traces.IsTrace}
 
 module _ (program : ProgramTree) (main : Identifier) where
   -- A trace whose replay ends at its last instant, as falsified.

@@ -1,6 +1,5 @@
 -- How an analysis ends.
-use Rattle.rv_fixpoint.specs.declared.end.End.{End}
-use Rattle.rv_fixpoint.specs.declared.end.End.TheVariants.{Proved, Left}
+use Rattle.rv_fixpoint.specs.{declared.end.End.End, declared.end.End.TheVariants.Proved, declared.end.End.TheVariants.Left}
 
 -- The end is a proof.
 abbrev pub IsProved : End → Type 0

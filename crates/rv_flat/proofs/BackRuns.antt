@@ -1,42 +1,26 @@
 -- A run of a flat system is one of its program, in whole numbers of any size.
-use Rattle.std.proofs.Common.{◌≡◌, inl, inr, ℕ, zero, suc, ◌+◌, ◌<◌, ◌≤◌, Bool, false, ◌||◌, List, [], ◌∷◌, ◌++◌, length, length-append, map, get_or}
-use Rattle.std.proofs.Common.{refl, sym, ◌∙◌, ap, subst, arith, slice_get}
-use Rattle.std.proofs.Common.{None as Nothing, Some}
-use Rattle.std.specs.FinMap.{empty}
+use Rattle.std.proofs.Common.{◌≡◌, inl, inr, ℕ, zero, suc, ◌+◌, ◌<◌, ◌≤◌, Bool, false, ◌||◌, List, [], ◌∷◌, ◌++◌, length, length-append, map, get_or, refl, sym}
+use Rattle.std.proofs.Common.{◌∙◌, ap, subst, arith, slice_get, None as Nothing, Some}
 use Rattle.std.proofs.lemmas.List.{ext_get_or, get_or-map, get_or_push, get_or_append_left}
-use Rattle.std.proofs.Math.Nat.{eq-or-lt_of_le}
-use Rattle.std.proofs.Math.ListN.{length-map}
+use Rattle.std.proofs.{Math.Nat.eq-or-lt_of_le, Math.ListN.length-map}
+use Rattle.std.specs.FinMap.{empty}
 use Rattle.rv_base.specs.declared.value.Value.{Value}
 use Rattle.rv_base.specs.declared.value.Value.TheVariants.{Flag, Label, Whole}
-use Rattle.rv_tree.specs.Tree.{ProgramTree}
-use Rattle.rv_tree.specs.Places.{Identifier, Sites, index_of}
-use Rattle.rv_types.specs.declared.typed.Kind.{Kind}
+use Rattle.rv_tree.specs.{Tree.ProgramTree, Places.Identifier, Places.Sites, Places.index_of}
+use Rattle.rv_types.specs.{declared.typed.Kind.Kind, Instances.IsNode, Lists.AreRising, Lists.memory_at, Values.HasKind, Values.labels_at, WellFormed.AreWell}
 use Rattle.rv_types.specs.declared.typed.Kind.TheVariants as kind
-use Rattle.rv_types.specs.Instances.{IsNode}
-use Rattle.rv_types.specs.Lists.{AreRising, memory_at}
-use Rattle.rv_types.specs.Values.{HasKind, labels_at}
-use Rattle.rv_types.specs.WellFormed.{AreWell}
 use Rattle.rv_meaning.specs.Runs.{History, Instant, cells, AreStarts, AreInputs, IsRun}
-use Rattle.rv_meaning.specs.Instants.{State as Brought, IsInstant, IsNext}
-use Rattle.rv_meaning.specs.Following.{IsStateAt, AreSteps}
-use Rattle.rv_agreement.specs.Agreement.{State, HasKind as HasKindIn}
+use Rattle.rv_meaning.specs.{Instants.State as Brought, Instants.IsInstant, Instants.IsNext, Following.IsStateAt, Following.AreSteps}
+use Rattle.rv_agreement.specs.{Agreement.State, Agreement.HasKind as HasKindIn, Evaluation.IsInstant as IsSystemInstant, Evaluation.integers}
+use Rattle.rv_agreement.specs.{FlatRuns.IsFlatRun, Trees.System, Trees.kind_at}
 use Rattle.rv_agreement.specs.Agreement as agreement
 use Rattle.rv_agreement.specs.Evaluation as evaluation
-use Rattle.rv_agreement.specs.Evaluation.{IsInstant as IsSystemInstant, integers}
-use Rattle.rv_agreement.specs.FlatRuns.{IsFlatRun}
-use Rattle.rv_agreement.specs.Trees.{System, kind_at}
 use Rattle.rv_agreement.specs.Trees as trees
-use Rattle.rv_flat.specs.declared.flat.Flat.{Flat}
 use Rattle.rv_flat.specs.FlatInstants.{Row, places, memory_places, system_of, found_at, IsFlatInstant, IsFlatNext}
-use Rattle.rv_flat.specs.FlatOf.{IsFlatOf, flat_state, flat_inputs, row_of, instant_of}
-use Rattle.rv_flat.specs.Lists.{tick_places}
-use Rattle.rv_flat.specs.Steps.{label_counts, memory_kinds, input_kinds}
-use Rattle.rv_flat.specs.SystemRuns.{HasRun}
-use Rattle.rv_flat.specs.Systems.{flow_item, kept_of}
-use Rattle.rv_flat.proofs.Running.{all_false}
-use Rattle.rv_flat.proofs.SystemRuns.{kept_kinds, kept_items}
-use Rattle.rv_flat.proofs.TickList.{number_at}
+use Rattle.rv_flat.specs.{declared.flat.Flat.Flat, FlatOf.IsFlatOf, FlatOf.flat_state, FlatOf.flat_inputs, FlatOf.row_of, FlatOf.instant_of, Lists.tick_places}
+use Rattle.rv_flat.specs.{Steps.label_counts, Steps.memory_kinds, Steps.input_kinds, SystemRuns.HasRun, Systems.flow_item, Systems.kept_of}
 use Rattle.rv_flat.proofs.Typing.{SomeNext, counts_same, length-values, value_kth, memory_found, memories_rising}
+use Rattle.rv_flat.proofs.{Running.all_false, SystemRuns.kept_kinds, SystemRuns.kept_items, TickList.number_at}
 
 -- What is taken from the meaning: steps from the start are the run.
 abbrev pub StepsAreRun : Type 0

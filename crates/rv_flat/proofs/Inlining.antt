@@ -1,22 +1,17 @@
 -- The table of the memories has the clock and the tree of each, and a tree among them shows its memories alone.
-use Rattle.std.proofs.Common.{◌≡◌, ℕ, zero, suc, ◌<◌, Bool, true, ◌&&◌, List, [], ◌∷◌, length, map, refl, sym, ◌∙◌, ap, subst, arith, inl, inr}
-use Rattle.std.proofs.Common.{Option, None as Nothing, Some}
+use Rattle.std.proofs.Common.{◌≡◌, ℕ, zero, suc, ◌<◌, Bool, true, ◌&&◌, List, [], ◌∷◌, length, map, refl, sym, ◌∙◌, ap, subst, arith, inl, inr, Option}
+use Rattle.std.proofs.Common.{None as Nothing, Some}
+use Rattle.std.proofs.{lemmas.Bool.and_parts, lemmas.Bool.cases_lt, lemmas.Option.slice_get_past, lemmas.Option.slice_get_within, Math.Nat.eq-or-lt_of_le}
 use Rattle.std.specs.Prelude.{slice_get}
-use Rattle.std.proofs.lemmas.Bool.{and_parts, cases_lt}
-use Rattle.std.proofs.lemmas.Option.{slice_get_past, slice_get_within}
-use Rattle.std.proofs.Math.Nat.{eq-or-lt_of_le}
 use Rattle.rv_agreement.specs.Checks.{IsShared, FormIsShared, AreShared, IsInlined}
 use Rattle.rv_agreement.specs.Trees.{Item, Kept, System, no_item, nth_item, memory_items}
 use Rattle.rv_agreement.specs.Trees as tree
-use Rattle.rv_flat.specs.declared.parts.Bit.{Bit}
-use Rattle.rv_flat.specs.declared.parts.FlatExpr.{FlatExpr}
-use Rattle.rv_flat.specs.declared.parts.FlatFlow.{FlatFlow}
-use Rattle.rv_flat.specs.declared.parts.FlatInput.{FlatInput}
-use Rattle.rv_flat.specs.declared.parts.FlatMemory.{FlatMemory}
 use Rattle.rv_flat.specs.Inlined.{inlined, form_inlined, all_inlined, item_by, table_to, table_of, shown_ends, ends_within, all_end, IsTable}
 use Rattle.rv_flat.specs.RawTree.{RawTree, Node, RawForm, RawTrees, Constant, Flow, Memory, Ticked, Input, Not, Binary, Scale, If, AtMostOne, When, Current}
 use Rattle.rv_flat.specs.RawTree.{None, More, raw_tree, all_shown, form_all_shown, each_all_shown}
 use Rattle.rv_flat.specs.Systems.{asserted, assertion_item, flow_item, kept_of, memory_item, system_from}
+use Rattle.rv_flat.specs.{declared.parts.Bit.Bit, declared.parts.FlatExpr.FlatExpr, declared.parts.FlatFlow.FlatFlow, declared.parts.FlatInput.FlatInput}
+use Rattle.rv_flat.specs.{declared.parts.FlatMemory.FlatMemory}
 use Rattle.rv_types.proofs.ChainLaws.{no_flag}
 
 -- two tables that agree on the memories that are shown inline alike

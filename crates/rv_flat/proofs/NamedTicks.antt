@@ -1,20 +1,16 @@
 -- What an expression has depends on the flows that it names alone, and one that fits names those before it.
-use Rattle.std.proofs.Common.{◌≡◌, ℕ, ◌+◌, ◌<◌, ◌*ℤ◌, true, false, not, ◌&&◌, cond, refl, ap}
-use Rattle.std.proofs.Common.{Option, None as Nothing, Some}
-use Rattle.std.specs.Prelude.{nat_lt, nat_le, slice_get}
+use Rattle.std.proofs.Common.{◌≡◌, ℕ, ◌+◌, ◌<◌, ◌*ℤ◌, true, false, not, ◌&&◌, cond, refl, ap, Option, None as Nothing, Some}
 use Rattle.std.proofs.lemmas.Bool.{ltb-true}
-use Rattle.rv_base.specs.declared.value.Value.{Value}
-use Rattle.rv_base.specs.declared.value.Value.TheVariants.{Flag, Whole}
+use Rattle.std.specs.Prelude.{nat_lt, nat_le, slice_get}
+use Rattle.rv_base.specs.{declared.value.Value.Value, declared.value.Value.TheVariants.Flag, declared.value.Value.TheVariants.Whole}
 use Rattle.rv_tree.specs.Places.{Sites}
-use Rattle.rv_types.specs.declared.typed.Kind.{Kind}
+use Rattle.rv_types.specs.{declared.typed.Kind.Kind, Types.same_kind}
 use Rattle.rv_types.specs.declared.typed.Kind.TheVariants as kind
-use Rattle.rv_types.specs.Types.{same_kind}
 use Rattle.rv_meaning.specs.Meaning.{is_true, number, operate}
-use Rattle.rv_agreement.specs.Agreement.{IsNamed}
 use Rattle.rv_agreement.specs.Checks.{same_clock, is_of, clock_fits, fits, form_fits, all_fit}
-use Rattle.rv_agreement.specs.Evaluation.{Found, value, form_value, trues, integers}
 use Rattle.rv_agreement.specs.Trees.{FlatTree, Node, TreeForm, FlatTrees, Constant, Flow, Memory, Ticked, Input, Not, Binary, Scale, If, AtMostOne, When}
 use Rattle.rv_agreement.specs.Trees.{Current, None, More, System, memory_kinds, nth_item}
+use Rattle.rv_agreement.specs.{Agreement.IsNamed, Evaluation.Found, Evaluation.value, Evaluation.form_value, Evaluation.trues, Evaluation.integers}
 use Rattle.rv_flat.specs.FlatInstants.{Row, nth, held, is_on, is_on_at}
 use Rattle.rv_flat.specs.Tame.{IsOver, FormIsOver, AreOver}
 use Rattle.rv_flat.proofs.Tested.{operator_fits}

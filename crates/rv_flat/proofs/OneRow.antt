@@ -1,20 +1,12 @@
 -- A flat system has exactly one row at each state and inputs.
 use Rattle.std.proofs.Common.{◌≡◌, ℕ, zero, suc, ◌+◌, ◌<◌, ◌≤◌, cond, List, [], ◌∷◌, ◌++◌, length, refl, sym, ◌∙◌, subst, arith, length-append, inl, inr}
 use Rattle.std.proofs.Common.{Option, None as Nothing, Some}
-use Rattle.std.proofs.lemmas.List.{get_or_append_left, get_or_push, ext_get_or}
-use Rattle.std.proofs.Math.ListN.{length-map}
-use Rattle.std.proofs.Math.Nat.{eq-or-lt_of_le}
+use Rattle.std.proofs.{lemmas.List.get_or_append_left, lemmas.List.get_or_push, lemmas.List.ext_get_or, Math.ListN.length-map, Math.Nat.eq-or-lt_of_le}
 use Rattle.rv_base.specs.declared.value.Value.{Value}
-use Rattle.rv_agreement.specs.Agreement.{IsNamed}
-use Rattle.rv_agreement.specs.Trees.{Item, System}
-use Rattle.rv_flat.specs.declared.flat.Flat.{Flat}
-use Rattle.rv_flat.specs.declared.state.State.{State}
+use Rattle.rv_agreement.specs.{Agreement.IsNamed, Trees.Item, Trees.System}
 use Rattle.rv_flat.specs.FlatInstants.{Row, nth, is_on_at, found_at, flow_items, nth_item, system_of, value_at, IsFlatInstant}
-use Rattle.rv_flat.specs.Filling.{IsFilled}
-use Rattle.rv_flat.specs.Systems.{flow_item}
-use Rattle.rv_flat.specs.Tame.{IsOver}
-use Rattle.rv_flat.proofs.NamedTicks.{clock_named, over, same_there, same_value}
-use Rattle.rv_flat.proofs.Tested.{ItemFits, flow_fits}
+use Rattle.rv_flat.specs.{declared.flat.Flat.Flat, declared.state.State.State, Filling.IsFilled, Systems.flow_item, Tame.IsOver}
+use Rattle.rv_flat.proofs.{NamedTicks.clock_named, NamedTicks.over, NamedTicks.same_there, NamedTicks.same_value, Tested.ItemFits, Tested.flow_fits}
 
 -- what a flow has, or that it is absent
 abbrev pub item_value : State → List Value → Row → Item → Option Value

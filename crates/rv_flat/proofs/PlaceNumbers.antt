@@ -1,23 +1,17 @@
 -- Places by their numbers, and rows of flows as instants.
 use Rattle.std.proofs.Common.{◌≡◌, inl, inr, ℕ, suc, ◌+◌, ◌<◌, ◌↔◌, Bool, true, false, ◌||◌, cond, List, [], ◌∷◌, map, length, get_or, refl, sym, ◌∙◌, ap}
-use Rattle.std.proofs.Common.{subst, arith, Option, Some, IsSome}
-use Rattle.std.proofs.Common.{None as Nothing}
+use Rattle.std.proofs.Common.{subst, arith, Option, Some, IsSome, None as Nothing}
 use Rattle.std.proofs.lemmas.List.{length-map, get_or-map, get_or_default, get_or_past, same_lists}
-use Rattle.std.proofs.lemmas.Bool.{cases_order}
-use Rattle.std.proofs.lemmas.Cmp.{nat_list_cmp_total, tied_itself}
-use Rattle.std.specs.Ordering.{is_eq, eq_by_cmp, nat_cmp}
-use Rattle.std.specs.Cmp.Lexicographic.{slice_cmp, texts_ties}
-use Rattle.std.specs.FinMap as finite
+use Rattle.std.proofs.{lemmas.Bool.cases_order, lemmas.Cmp.nat_list_cmp_total, lemmas.Cmp.tied_itself}
 use Rattle.std.specs.FinMap.{slice_cmp-IsAntisymmetric, nat_cmp-IsAntisymmetric, get-insert, get-empty}
+use Rattle.std.specs.{Ordering.is_eq, Ordering.eq_by_cmp, Ordering.nat_cmp, Cmp.Lexicographic.slice_cmp, Cmp.Lexicographic.texts_ties}
+use Rattle.std.specs.FinMap as finite
 use Rattle.rv_base.specs.declared.value.Value.{Value}
 use Rattle.rv_tree.specs.Places.{Sites, is_same, is_among, index_of}
 use Rattle.rv_meaning.specs.Runs.{Instant, flat, cell}
-use Rattle.rv_flat.specs.FlatInstants.{Row, nth}
-use Rattle.rv_flat.specs.FlatOf.{row_of, instant_of}
-use Rattle.rv_meaning.proofs.Rows.{only_equal}
-use Rattle.rv_meaning.proofs.Told.{index_past}
-use Rattle.rv_types.proofs.Members.{among_from, index_there}
-use Rattle.rv_types.proofs.ChainLaws.{no_flag}
+use Rattle.rv_flat.specs.{FlatInstants.Row, FlatInstants.nth, FlatOf.row_of, FlatOf.instant_of}
+use Rattle.rv_meaning.proofs.{Rows.only_equal, Told.index_past}
+use Rattle.rv_types.proofs.{Members.among_from, Members.index_there, ChainLaws.no_flag}
 
 -- what is made of each of some places, by the number of one of them
 pub made_at : {Y : Type 0} (f : Sites → Y) (ps : List Sites) (p : Sites) (d : Y) → is_among ps p ≡ true → get_or (map f ps) (index_of ps p) d ≡ f p

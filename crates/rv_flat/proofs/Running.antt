@@ -1,35 +1,21 @@
 -- Steps of a flat system from the start give the run of its program.
 use Rattle.std.proofs.Common.{◌≡◌, ◌⊎◌, inl, inr, ℕ, zero, suc, ◌+◌, ◌<◌, ◌≤◌, ◌↔◌, Bool, true, false, List, [], ◌∷◌, ◌++◌, length, map, get_or, refl, sym, ◌∙◌}
-use Rattle.std.proofs.Common.{ap, subst, arith}
-use Rattle.std.proofs.Common.{Option, None as Nothing, Some}
-use Rattle.std.specs.FinMap.{empty}
-use Rattle.std.specs.List.{Contains}
-use Rattle.std.proofs.lemmas.List.{ext_get_or, get_or-map}
-use Rattle.std.proofs.Math.ListN.{length-map}
-use Rattle.rv_base.specs.declared.value.Value.{Value}
-use Rattle.rv_base.specs.declared.value.Place.{Place}
+use Rattle.std.proofs.Common.{ap, subst, arith, Option, None as Nothing, Some}
+use Rattle.std.proofs.{lemmas.List.ext_get_or, lemmas.List.get_or-map, Math.ListN.length-map}
+use Rattle.std.specs.{FinMap.empty, List.Contains}
 use Rattle.rv_base.specs.declared.value.Value.TheVariants.{Flag, Label, Whole}
-use Rattle.rv_tree.specs.Tree.{AssertionTree, ProgramTree}
-use Rattle.rv_tree.specs.Places.{Identifier, Sites, index_of}
-use Rattle.rv_types.specs.declared.typed.Clock.TheVariants.{Base}
+use Rattle.rv_base.specs.{declared.value.Value.Value, declared.value.Place.Place}
+use Rattle.rv_tree.specs.{Tree.AssertionTree, Tree.ProgramTree, Places.Identifier, Places.Sites, Places.index_of}
 use Rattle.rv_types.specs.Instances.{Instance, node_of, IsInstance, IsNode}
-use Rattle.rv_types.specs.Lists.{MemoryAt}
-use Rattle.rv_types.specs.WellFormed.{AreWell}
-use Rattle.rv_meaning.specs.Meaning.{is_true, kept_place, value}
+use Rattle.rv_types.specs.{declared.typed.Clock.TheVariants.Base, Lists.MemoryAt, WellFormed.AreWell}
 use Rattle.rv_meaning.specs.Runs.{History, cell, cells, observed, AssertionsHold, IsRun}
 use Rattle.rv_meaning.specs.Instants.{State as Brought, IsInstant, IsNext, IsStart, AllowsAt, value_now}
-use Rattle.rv_meaning.specs.Following.{IsStateAt}
-use Rattle.rv_flat.specs.declared.flat.Flat.{Flat}
-use Rattle.rv_flat.specs.declared.parts.FlatMemory.{FlatMemory}
-use Rattle.rv_flat.specs.declared.state.State.{State}
+use Rattle.rv_meaning.specs.{Meaning.is_true, Meaning.kept_place, Meaning.value, Following.IsStateAt}
 use Rattle.rv_flat.specs.FlatInstants.{Row, nth, places, memory_places, tick_clocks, IsFlatInstant, IsFlatNext}
 use Rattle.rv_flat.specs.FlatOf.{IsBroken, IsFlatBroken, flat_state, flat_inputs, row_of}
-use Rattle.rv_flat.specs.FlatRuns.{AreStepsOf, IsBrokenAt}
-use Rattle.rv_flat.specs.Lists.{tick_places}
-use Rattle.rv_flat.specs.Steps.{IsLeastOf}
-use Rattle.rv_flat.specs.Systems.{memory_of}
-use Rattle.rv_flat.proofs.Earliest.{least_same}
-use Rattle.rv_flat.proofs.OneRow.{only_row}
+use Rattle.rv_flat.specs.{declared.flat.Flat.Flat, declared.parts.FlatMemory.FlatMemory, declared.state.State.State, FlatRuns.AreStepsOf, FlatRuns.IsBrokenAt}
+use Rattle.rv_flat.specs.{Lists.tick_places, Steps.IsLeastOf, Systems.memory_of}
+use Rattle.rv_flat.proofs.{Earliest.least_same, OneRow.only_row}
 
 -- What is taken from the meaning: the states and the instants of a run.
 

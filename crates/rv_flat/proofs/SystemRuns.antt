@@ -1,51 +1,33 @@
 -- A run of a program is one of its flat system, in whole numbers of any size.
-use Rattle.std.proofs.Common.{◌≡◌, ℤ, ℕ, zero, suc, ◌+◌, ◌<◌, ◌≤◌, ◌↔◌, Bool, true, false, cond, List, [], ◌∷◌, length, map, get_or, refl}
-use Rattle.std.proofs.Common.{sym, ◌∙◌, ap, subst, arith, slice_get}
-use Rattle.std.proofs.Common.{Option, None as Nothing, Some}
-use Rattle.std.specs.FinMap.{empty}
-use Rattle.std.specs.Option.{option_map}
-use Rattle.std.proofs.lemmas.List.{get_or-map}
+use Rattle.std.proofs.Common.{◌≡◌, ℤ, ℕ, zero, suc, ◌+◌, ◌<◌, ◌≤◌, ◌↔◌, Bool, true, false, cond, List, [], ◌∷◌, length, map, get_or, refl, sym, ◌∙◌, ap, subst}
+use Rattle.std.proofs.Common.{arith, slice_get, Option, None as Nothing, Some}
 use Rattle.std.proofs.lemmas.Option.{slice_get-map, get_or_from_slice_get}
-use Rattle.std.proofs.Math.ListN.{length-map}
+use Rattle.std.proofs.{lemmas.List.get_or-map, Math.ListN.length-map, lemmas.Bool.true_from_ne_false}
+use Rattle.std.specs.{FinMap.empty, Option.option_map}
 use Rattle.rv_base.specs.declared.value.Value.{Value}
 use Rattle.rv_base.specs.declared.value.Value.TheVariants.{Flag, Label, Whole}
-use Rattle.rv_tree.specs.Tree.{ProgramTree}
-use Rattle.rv_tree.specs.Places.{Identifier, Sites, index_of}
-use Rattle.rv_types.specs.declared.typed.Kind.{Kind}
-use Rattle.rv_types.specs.declared.typed.Kind.TheVariants as kind
-use Rattle.rv_types.specs.Instances.{IsNode}
-use Rattle.rv_types.specs.Lists.{MemoryAt, memory_at}
+use Rattle.rv_tree.specs.{Tree.ProgramTree, Places.Identifier, Places.Sites, Places.index_of}
 use Rattle.rv_types.specs.Values.{HasKind, labels_at, operand_kind}
-use Rattle.rv_types.specs.WellFormed.{AreWell}
-use Rattle.rv_meaning.specs.Meaning.{is_true, kept_place}
-use Rattle.rv_meaning.specs.Runs.{History, cells, AreStarts, IsRun, IsSafe}
-use Rattle.rv_meaning.specs.Instants.{State as Brought, IsInstant, IsNext, IsStart, AreGiven}
-use Rattle.rv_meaning.specs.Following.{IsStateAt}
+use Rattle.rv_types.specs.{declared.typed.Kind.Kind, Instances.IsNode, Lists.MemoryAt, Lists.memory_at, WellFormed.AreWell}
+use Rattle.rv_types.specs.declared.typed.Kind.TheVariants as kind
+use Rattle.rv_meaning.specs.{Meaning.is_true, Meaning.kept_place, Runs.History, Runs.cells, Runs.AreStarts, Runs.IsRun, Runs.IsSafe, Instants.State as Brought}
+use Rattle.rv_meaning.specs.{Instants.IsInstant, Instants.IsNext, Instants.IsStart, Instants.AreGiven, Following.IsStateAt}
 use Rattle.rv_agreement.specs.Agreement.{State, HasKind as HasKindIn, AreTyped, IsWell, IsWholeInstant}
-use Rattle.rv_agreement.specs.Agreement as agreement
 use Rattle.rv_agreement.specs.Evaluation.{Found, value, is_met, after, integers}
+use Rattle.rv_agreement.specs.{Valuations.Valuation, FlatRuns.IsFlatRun, FlatRuns.AreMetIn, FlatRuns.IsInductive, Trees.System, Trees.kind_at}
+use Rattle.rv_agreement.specs.Agreement as agreement
 use Rattle.rv_agreement.specs.Evaluation as evaluation
-use Rattle.rv_agreement.specs.Valuations.{Valuation}
-use Rattle.rv_agreement.specs.FlatRuns.{IsFlatRun, AreMetIn, IsInductive}
-use Rattle.rv_agreement.specs.Trees.{System, kind_at}
 use Rattle.rv_agreement.specs.Trees as trees
-use Rattle.rv_flat.specs.declared.flat.Flat.{Flat}
-use Rattle.rv_flat.specs.declared.parts.FlatMemory.{FlatMemory}
-use Rattle.rv_flat.specs.declared.state.State as declared
 use Rattle.rv_flat.specs.FlatInstants.{Row, nth, places, memory_places, system_of, found_at, value_at, assertion_trees, IsFlatInstant, IsFlatNext}
 use Rattle.rv_flat.specs.FlatOf.{IsFlatOf, IsFlatBroken, flat_state, flat_inputs, no_assertion, row_of}
-use Rattle.rv_flat.specs.FlatRuns.{AreStepsOf}
-use Rattle.rv_flat.specs.Inlined.{tree_among, inlined, table_of}
-use Rattle.rv_flat.specs.RawTree.{RawTree, raw_tree}
-use Rattle.rv_flat.specs.Lists.{tick_places}
-use Rattle.rv_flat.specs.Steps.{label_counts}
-use Rattle.rv_flat.specs.SystemRuns.{system_state, IsRunOf}
-use Rattle.rv_flat.specs.Systems.{flow_item, memory_item, kept_of, assertion_item}
+use Rattle.rv_flat.specs.{declared.flat.Flat.Flat, declared.parts.FlatMemory.FlatMemory, FlatRuns.AreStepsOf, Inlined.tree_among, Inlined.inlined}
+use Rattle.rv_flat.specs.{Inlined.table_of, RawTree.RawTree, RawTree.raw_tree, Lists.tick_places, Steps.label_counts, SystemRuns.system_state}
+use Rattle.rv_flat.specs.{SystemRuns.IsRunOf, Systems.flow_item, Systems.memory_item, Systems.kept_of, Systems.assertion_item}
+use Rattle.rv_flat.specs.declared.state.State as declared
 use Rattle.rv_flat.proofs.Running.{RunIsInstants, StatesOfRun, all_false, same_kept, allowed_of_run, observer_of_run}
 use Rattle.rv_flat.proofs.Taming.{IsAsserted, whole, always, on_flow, asserted_is}
 use Rattle.rv_flat.proofs.Typing.{TypedMemories, counted, length-values, value_kth, memory_kth}
 use Rattle.rv_base.proofs.Lists.{item_at}
-use Rattle.std.proofs.lemmas.Bool.{true_from_ne_false}
 
 -- the memories of the system are those of the flat system, one by one
 pub kept_kinds : (all ms : List FlatMemory) → map (λ x. x.kind) (map (kept_of all) ms) ≡ map (λ m. m.kind) ms

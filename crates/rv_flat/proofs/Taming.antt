@@ -1,43 +1,27 @@
 -- At an instant each expression of a flat system is within an `i128`, and so are its parts, and it names flows of the row.
 use Rattle.std.proofs.Common.{◌≡◌, ℕ, zero, suc, ◌+◌, ◌*◌, ◌^◌, ◌<◌, ◌≤◌, Bool, true, false, cond, List, [], ◌∷◌, length, map, get_or, sym, ◌∙◌, ap, subst}
-use Rattle.std.proofs.Common.{arith, inl, inr}
-use Rattle.std.proofs.Common.{Option, None as Nothing, Some}
-use Rattle.std.specs.Prelude.{nat_le, nat_lt, slice_get}
-use Rattle.std.proofs.lemmas.List.{get_or_past}
+use Rattle.std.proofs.Common.{arith, inl, inr, Option, None as Nothing, Some}
 use Rattle.std.proofs.lemmas.Bool.{cases_lt, cond_both, ltb-true}
-use Rattle.std.proofs.lemmas.Int.{ints}
-use Rattle.std.proofs.Math.ListN.{length-map}
-use Rattle.std.proofs.Math.Nat.{eq-or-lt_of_le}
-use Rattle.rv_base.specs.declared.value.Value.{Value}
+use Rattle.std.proofs.{lemmas.List.get_or_past, lemmas.Int.ints, Math.ListN.length-map, Math.Nat.eq-or-lt_of_le}
+use Rattle.std.specs.Prelude.{nat_le, nat_lt, slice_get}
 use Rattle.rv_base.specs.declared.value.Value.TheVariants.{Flag, Label, Whole}
-use Rattle.rv_base.specs.Limits.{heaviest}
+use Rattle.rv_base.specs.{declared.value.Value.Value, Limits.heaviest}
 use Rattle.rv_tree.specs.Places.{Sites}
 use Rattle.rv_types.specs.declared.typed.Kind.TheVariants as kind
 use Rattle.rv_meaning.specs.Meaning.{is_true}
-use Rattle.rv_agreement.specs.Agreement.{IsNamed}
-use Rattle.rv_agreement.specs.Checks.{clock_fits, is_of}
-use Rattle.rv_agreement.specs.Evaluation.{Found, value, integers}
-use Rattle.rv_agreement.specs.Trees.{FlatTree, Node, Item}
-use Rattle.rv_flat.specs.declared.flat.Flat.{Flat}
-use Rattle.rv_flat.specs.declared.parts.FlatExpr.{FlatExpr}
-use Rattle.rv_flat.specs.declared.parts.FlatMemory.{FlatMemory}
-use Rattle.rv_flat.specs.declared.state.State.{State}
+use Rattle.rv_agreement.specs.{Agreement.IsNamed, Checks.clock_fits, Checks.is_of, Evaluation.Found, Evaluation.value, Evaluation.integers, Trees.FlatTree}
+use Rattle.rv_agreement.specs.{Trees.Node, Trees.Item}
 use Rattle.rv_flat.specs.FlatInstants.{Row, nth, held, is_on_at, found_at, flow_items, memory_items, assertion_trees, nth_item, system_of, value_at}
 use Rattle.rv_flat.specs.FlatInstants.{IsFlatInstant}
-use Rattle.rv_flat.specs.FlatOf.{no_assertion}
 use Rattle.rv_flat.specs.Facts.{flat_weight, form_flat_weight, flow_weights, is_light, form_is_light}
-use Rattle.rv_flat.specs.Filling.{IsFilled}
-use Rattle.rv_flat.specs.Inlined.{inlined, table_of, tree_among}
-use Rattle.rv_flat.specs.RawTree as raw
-use Rattle.rv_flat.specs.RawTree.{RawTree, raw_tree}
-use Rattle.rv_flat.specs.Steps.{IsInRange, AreValues, IsState, input_kinds}
 use Rattle.rv_flat.specs.Systems.{asserted, assertion_item, flow_item, kept_of, memory_item}
-use Rattle.rv_flat.specs.Tame.{IsHeld, IsOver, IsTame}
-use Rattle.rv_flat.proofs.Inlining.{items_kept}
-use Rattle.rv_flat.proofs.Tested.{ItemFits, assertion_fits, memory_fits}
+use Rattle.rv_flat.specs.{declared.flat.Flat.Flat, declared.parts.FlatExpr.FlatExpr, declared.parts.FlatMemory.FlatMemory, declared.state.State.State}
+use Rattle.rv_flat.specs.{FlatOf.no_assertion, Filling.IsFilled, Inlined.inlined, Inlined.table_of, Inlined.tree_among, RawTree.RawTree, RawTree.raw_tree}
+use Rattle.rv_flat.specs.{Steps.IsInRange, Steps.AreValues, Steps.IsState, Steps.input_kinds, Tame.IsHeld, Tame.IsOver, Tame.IsTame}
+use Rattle.rv_flat.specs.RawTree as raw
 use Rattle.rv_flat.proofs.OneRow.{IsItemOver, fits_kth, item_over, over_kth}
 use Rattle.rv_flat.proofs.Weighing.{size, held_small, tame, tame_held, value_small}
-use Rattle.rv_flat.proofs.FlowWeights.{item_light, weight_kth}
+use Rattle.rv_flat.proofs.{Inlining.items_kept, Tested.ItemFits, Tested.assertion_fits, Tested.memory_fits, FlowWeights.item_light, FlowWeights.weight_kth}
 use Rattle.rv_base.proofs.Truths.{both_of}
 
 range_small : (v : Value) → IsInRange v → size v ≤ 2 ^ 63

@@ -1,20 +1,13 @@
 -- The ticks among the variables of a flat system are those of its program, each once.
 use Rattle.std.proofs.Common.{◌≡◌, ℕ, zero, suc, ◌+◌, ◌<◌, List, [], ◌∷◌, ◌++◌, length, map, get_or, refl, sym, ◌∙◌, ap, subst}
 use Rattle.std.proofs.lemmas.List.{append-nil}
-use Rattle.rv_tree.specs.Tree.{ProgramTree}
-use Rattle.rv_tree.specs.Places.{Identifier, Sites, index_of}
-use Rattle.rv_types.specs.declared.typed.Kind.{Kind}
-use Rattle.rv_types.specs.Variables.{kind_bits}
+use Rattle.rv_tree.specs.{Tree.ProgramTree, Places.Identifier, Places.Sites, Places.index_of}
 use Rattle.rv_types.specs.Lists.{Side, Variable, MainTick, Tick, Kept, Next, Input, Test, AreRising, MemoryAt, ComparisonAt, sides_of, bits, with_copies}
 use Rattle.rv_types.specs.Lists.{memory_variables, input_variables, test_variables, AreVariables}
-use Rattle.rv_types.specs.Needs.{IsBefore}
-use Rattle.rv_types.specs.Kinds.{decl_kinds}
-use Rattle.rv_types.specs.Instances.{node_of}
-use Rattle.rv_flat.specs.declared.parts.Bit.{Bit}
+use Rattle.rv_types.specs.{declared.typed.Kind.Kind, Variables.kind_bits, Needs.IsBefore, Kinds.decl_kinds, Instances.node_of}
+use Rattle.rv_flat.specs.{declared.parts.Bit.Bit, Lists.tick_places, Lists.variable_of}
 use Rattle.rv_flat.specs.declared.parts.Bit.TheVariants as bit
-use Rattle.rv_flat.specs.Lists.{tick_places, variable_of}
-use Rattle.rv_flat.proofs.Earliest.{not_itself}
-use Rattle.rv_flat.proofs.PlaceNumbers.{its_number}
+use Rattle.rv_flat.proofs.{Earliest.not_itself, PlaceNumbers.its_number}
 
 -- the first number of a place in a list that rises
 module _ (ps : List Sites) where

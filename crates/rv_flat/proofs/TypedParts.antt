@@ -1,23 +1,17 @@
 -- The parts of an expression that has a type have types.
-use Rattle.std.proofs.Common.{◌≡◌, ℕ, Bool, true, false, ◌&&◌, ◌||◌, cond, List, [], ◌∷◌, refl, sym, ◌∙◌, ap, Option, Some, IsSome}
-use Rattle.std.proofs.Common.{None as Nothing}
+use Rattle.std.proofs.Common.{◌≡◌, ℕ, Bool, true, false, ◌&&◌, ◌||◌, cond, List, [], ◌∷◌, refl, sym, ◌∙◌, ap, Option, Some, IsSome, None as Nothing}
 use Rattle.std.proofs.lemmas.Option.{none-some, same_Some}
-use Rattle.rv_tree.specs.declared.tree.Name.{Name}
-use Rattle.rv_tree.specs.declared.tree.Op.{Op}
 use Rattle.rv_tree.specs.Tree.{Tree, Node, Named, Not, Minus, Pre, Current, When, Binary, If, AtMostOne, Call, Trees, NodeTree, ProgramTree}
-use Rattle.rv_tree.specs.Places.{Identifier}
-use Rattle.rv_types.specs.declared.typed.Kind.{Kind}
-use Rattle.rv_types.specs.declared.typed.Kind.TheVariants as kind
-use Rattle.rv_types.specs.declared.fault.Verdict.TheVariants.{Has, Silent, Clashes}
-use Rattle.rv_types.specs.Kinds.{flow_kind}
+use Rattle.rv_tree.specs.{declared.tree.Name.Name, declared.tree.Op.Op, Places.Identifier}
 use Rattle.rv_types.specs.Types.{Scope, Signature, kind_in, same_kind, where_met, one_of, two_of, three_of, all_typed, all_suit, fit, binary_rule, not_rule}
 use Rattle.rv_types.specs.Types.{minus_rule, memory_rule, when_of, if_rule, at_most_one_of, sole, call_of, is_constant, kind_of, kinds_of_all}
-use Rattle.rv_types.specs.Scopes.{value_kind, node_scope, signature_named}
-use Rattle.rv_types.specs.Instances.{IsArgument, head, tail}
+use Rattle.rv_types.specs.{declared.typed.Kind.Kind, declared.fault.Verdict.TheVariants.Has, declared.fault.Verdict.TheVariants.Silent}
+use Rattle.rv_types.specs.{declared.fault.Verdict.TheVariants.Clashes, Kinds.flow_kind, Scopes.value_kind, Scopes.node_scope, Scopes.signature_named}
+use Rattle.rv_types.specs.{Instances.IsArgument, Instances.head, Instances.tail}
+use Rattle.rv_types.specs.declared.typed.Kind.TheVariants as kind
 use Rattle.rv_meaning.proofs.TypedOperators.{met_kind}
-use Rattle.rv_types.proofs.ConstantContents.{kind_same}
+use Rattle.rv_types.proofs.{ConstantContents.kind_same, ChainLaws.no_flag}
 use Rattle.rv_base.proofs.Truths.{both_of}
-use Rattle.rv_types.proofs.ChainLaws.{no_flag}
 
 -- what is there
 pub some_is : {X : Type 0} {o : Option X} → IsSome o → (x : X) × (o ≡ Some x)

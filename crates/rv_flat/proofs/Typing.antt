@@ -1,40 +1,22 @@
 -- In the flat system of a well formed program each memory takes values of its type.
 use Rattle.std.proofs.Common.{◌≡◌, ℕ, zero, suc, ◌<◌, Bool, true, false, cond, List, [], ◌∷◌, length, map, get_or, refl, sym, ◌∙◌, ap, subst, arith}
-use Rattle.std.proofs.Common.{length-append, inl, inr}
-use Rattle.std.proofs.Common.{Option, None as Nothing, Some}
-use Rattle.std.specs.Prelude.{slice_get}
-use Rattle.std.specs.List.{Contains}
-use Rattle.std.proofs.lemmas.Bool.{ltb-true}
-use Rattle.std.proofs.lemmas.Bool.Decides.{nat_tests}
+use Rattle.std.proofs.Common.{length-append, inl, inr, Option, None as Nothing, Some}
 use Rattle.std.proofs.lemmas.List.{ext_get_or, get_or-map, get_or_append_left, get_or_push}
-use Rattle.std.proofs.lemmas.List.Elements.{Contains-get_or}
-use Rattle.std.proofs.lemmas.Option.{slice_get_within}
-use Rattle.std.proofs.Math.ListN.{length-map}
-use Rattle.std.proofs.Math.Nat.{eq-or-lt_of_le}
+use Rattle.std.proofs.{lemmas.Bool.ltb-true, lemmas.Bool.Decides.nat_tests, lemmas.List.Elements.Contains-get_or, lemmas.Option.slice_get_within}
+use Rattle.std.proofs.{Math.ListN.length-map, Math.Nat.eq-or-lt_of_le}
+use Rattle.std.specs.{Prelude.slice_get, List.Contains}
 use Rattle.rv_base.specs.declared.value.Value.{Value}
 use Rattle.rv_base.specs.declared.value.Value.TheVariants.{Flag, Label, Whole}
-use Rattle.rv_tree.specs.declared.tree.TypeDecl.{TypeDecl}
-use Rattle.rv_tree.specs.Tree.{ProgramTree}
-use Rattle.rv_tree.specs.Places.{Identifier, Sites, index_of}
-use Rattle.rv_types.specs.declared.typed.Kind.{Kind}
+use Rattle.rv_tree.specs.{declared.tree.TypeDecl.TypeDecl, Tree.ProgramTree, Places.Identifier, Places.Sites, Places.index_of}
+use Rattle.rv_types.specs.{declared.typed.Kind.Kind, Instances.IsNode, Lists.MemoryAt, Lists.AreRising, Lists.memory_at, Names.labels_of, Names.texts}
+use Rattle.rv_types.specs.{Needs.IsSequence, Values.HasKind, Values.labels_at, WellFormed.AreWell}
 use Rattle.rv_types.specs.declared.typed.Kind.TheVariants as kind
-use Rattle.rv_types.specs.Instances.{IsNode}
-use Rattle.rv_types.specs.Lists.{MemoryAt, AreRising, memory_at}
-use Rattle.rv_types.specs.Names.{labels_of, texts}
-use Rattle.rv_types.specs.Needs.{IsSequence}
-use Rattle.rv_types.specs.Values.{HasKind, labels_at}
-use Rattle.rv_types.specs.WellFormed.{AreWell}
-use Rattle.rv_meaning.specs.Runs.{Instant, AreStarts}
-use Rattle.rv_meaning.specs.Instants.{State as Brought, IsInstant, IsNext, AreGiven}
-use Rattle.rv_flat.specs.declared.flat.Flat.{Flat}
-use Rattle.rv_flat.specs.declared.parts.FlatMemory.{FlatMemory}
-use Rattle.rv_flat.specs.declared.state.State.{State}
+use Rattle.rv_meaning.specs.{Runs.Instant, Runs.AreStarts, Instants.State as Brought, Instants.IsInstant, Instants.IsNext, Instants.AreGiven}
 use Rattle.rv_flat.specs.FlatInstants.{Row, places, memory_places, nth_item, memory_items, value_at, IsFlatInstant, IsFlatNext}
 use Rattle.rv_flat.specs.FlatOf.{IsFlatOf, flat_state, flat_inputs, first_values, row_of, instant_of}
-use Rattle.rv_agreement.specs.Checks.{constant_fits}
-use Rattle.rv_flat.specs.Lists.{tick_places}
 use Rattle.rv_flat.specs.Steps.{IsInRange, IsState, AreValues, AreTaken, label_counts, memory_kinds, input_kinds}
-use Rattle.rv_flat.specs.Systems.{memory_of}
+use Rattle.rv_flat.specs.{declared.flat.Flat.Flat, declared.parts.FlatMemory.FlatMemory, declared.state.State.State, Lists.tick_places, Systems.memory_of}
+use Rattle.rv_agreement.specs.Checks.{constant_fits}
 use Rattle.rv_flat.proofs.TickList.{number_at, ticks_rising}
 
 -- What is taken from the meaning: memories of their types stay so, and there is a state after each row.

@@ -1,28 +1,22 @@
 -- No integer of a flat expression is larger than its weight times 2^63, so an `i128` holds each.
 use Rattle.std.proofs.Common.{◌≡◌, ℕ, ◌+◌, ◌*◌, ◌^◌, ◌<◌, ◌≤◌, max, Bool, true, false, ◌&&◌, cond, ℤ, ◌+ℤ◌, ◌-ℤ◌, ◌*ℤ◌, nat_abs, List, get_or, arith, Option}
 use Rattle.std.proofs.Common.{Some}
+use Rattle.std.proofs.{Math.Nat.mul-le-mul_left, Math.Nat.mul_assoc, lemmas.Bool.ltb-true, lemmas.Bool.Decides.nat_tests, lemmas.Int.unsigned_abs-mul}
+use Rattle.std.proofs.{lemmas.Int.ints}
 use Rattle.std.specs.Prelude.{nat_lt, nat_le, slice_get}
-use Rattle.std.proofs.Math.Nat.{mul-le-mul_left, mul_assoc}
-use Rattle.std.proofs.lemmas.Bool.{ltb-true}
-use Rattle.std.proofs.lemmas.Bool.Decides.{nat_tests}
-use Rattle.std.proofs.lemmas.Int.{unsigned_abs-mul, ints}
-use Rattle.rv_base.specs.declared.value.Value.{Value}
 use Rattle.rv_base.specs.declared.value.Value.TheVariants.{Flag, Label, Whole}
-use Rattle.rv_tree.specs.declared.tree.Op.{Op}
+use Rattle.rv_base.specs.{declared.value.Value.Value, Limits.heaviest}
+use Rattle.rv_tree.specs.{declared.tree.Op.Op, Places.Sites}
 use Rattle.rv_tree.specs.declared.tree.Op.TheVariants as op
-use Rattle.rv_base.specs.Limits.{heaviest}
-use Rattle.rv_tree.specs.Places.{Sites}
-use Rattle.rv_types.specs.declared.typed.Kind.{Kind}
+use Rattle.rv_types.specs.{declared.typed.Kind.Kind, Types.same_kind}
 use Rattle.rv_types.specs.declared.typed.Kind.TheVariants as kind
-use Rattle.rv_types.specs.Types.{same_kind}
 use Rattle.rv_meaning.specs.Meaning.{is_true, number, operate}
 use Rattle.rv_agreement.specs.Checks.{same_clock, is_of, gives, clock_fits, fits, form_fits, all_fit}
 use Rattle.rv_agreement.specs.Evaluation.{Found, value, form_value, integers}
 use Rattle.rv_agreement.specs.Trees.{FlatTree, Node, TreeForm, FlatTrees, Constant, Flow, Memory, Ticked, Input, Not, Binary, Scale, If, AtMostOne, When}
 use Rattle.rv_agreement.specs.Trees.{Current, None, More, System, memory_kinds, nth_item}
-use Rattle.rv_flat.specs.FlatInstants.{Row, nth, held, is_on_at}
 use Rattle.rv_flat.specs.Facts.{constant_weight, weight_under, flat_weight, form_flat_weight, is_light, form_is_light, all_light}
-use Rattle.rv_flat.specs.Tame.{IsHeld, IsTame, HasTame, AreTame}
+use Rattle.rv_flat.specs.{FlatInstants.Row, FlatInstants.nth, FlatInstants.held, FlatInstants.is_on_at, Tame.IsHeld, Tame.IsTame, Tame.HasTame, Tame.AreTame}
 use Rattle.rv_flat.proofs.Tested.{operator_fits}
 use Rattle.rv_base.proofs.Truths.{both_of}
 use Rattle.rv_types.proofs.ChainLaws.{no_flag}

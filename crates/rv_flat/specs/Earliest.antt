@@ -1,8 +1,6 @@
 -- The least of the places that a test picks.
-use Rattle.std.specs.Prelude.{◌≡◌, ℕ, ◌<◌, Bool, true, cond, List, [], Option, Some, slice_index_or}
-use Rattle.std.specs.Prelude.{None as Nothing}
-use Rattle.std.specs.Ordering.{nat_cmp, is_lt}
-use Rattle.std.specs.Cmp.Lexicographic.{slice_cmp}
+use Rattle.std.specs.Prelude.{◌≡◌, ℕ, ◌<◌, Bool, true, cond, List, [], Option, Some, slice_index_or, None as Nothing}
+use Rattle.std.specs.{Ordering.nat_cmp, Ordering.is_lt, Cmp.Lexicographic.slice_cmp}
 use Rattle.rv_base.specs.declared.value.Place.{Place}
 use Rattle.rv_tree.specs.Places.{Sites}
 

@@ -1,14 +1,10 @@
 -- What a flat system keeps in its type beside what makes it well formed: the flows of its ticks, its counts, and weights within
 -- their limit.
 use Rattle.std.specs.Prelude.{ℕ, ◌+◌, ◌*◌, max, nat_abs, Bool, true, ◌&&◌, nat_le, cond, List, [], ◌∷◌, ◌++◌, map, length, slice_index_or}
-use Rattle.rv_base.specs.declared.value.Value.{Value}
-use Rattle.rv_base.specs.declared.value.Value.TheVariants.{Whole}
-use Rattle.rv_tree.specs.declared.tree.Op.{Op}
+use Rattle.rv_base.specs.{declared.value.Value.Value, declared.value.Value.TheVariants.Whole, Limits.heaviest}
+use Rattle.rv_tree.specs.{declared.tree.Op.Op, Places.Sites, Places.is_among, Places.index_of}
 use Rattle.rv_tree.specs.declared.tree.Op.TheVariants as op
-use Rattle.rv_base.specs.Limits.{heaviest}
-use Rattle.rv_tree.specs.Places.{Sites, is_among, index_of}
-use Rattle.rv_types.specs.declared.typed.Kind.{Kind}
-use Rattle.rv_types.specs.Variables.{total, is_integer}
+use Rattle.rv_types.specs.{declared.typed.Kind.Kind, Variables.total, Variables.is_integer}
 use Rattle.rv_agreement.specs.Trees.{FlatTree, Node, TreeForm, FlatTrees, Constant, Flow, Memory, Ticked, Input, Not, Binary, Scale, If, AtMostOne, When}
 use Rattle.rv_agreement.specs.Trees.{Current, None, More, Item}
 

@@ -1,17 +1,11 @@
 -- What one instant gives, flow by flow, memory by memory and tick by tick.
-use Rattle.std.specs.Prelude.{◌≡◌, ℕ, ◌+◌, ◌<◌, Bool, false, not, ◌||◌, cond, List, [], ◌∷◌, length, Option, Some, slice_index_or}
-use Rattle.std.specs.Prelude.{None as Nothing}
-use Rattle.rv_base.specs.declared.value.Value.{Value}
-use Rattle.rv_base.specs.declared.value.Value.TheVariants.{Flag}
+use Rattle.std.specs.Prelude.{◌≡◌, ℕ, ◌+◌, ◌<◌, Bool, false, not, ◌||◌, cond, List, [], ◌∷◌, length, Option, Some, slice_index_or, None as Nothing}
+use Rattle.rv_base.specs.{declared.value.Value.Value, declared.value.Value.TheVariants.Flag}
 use Rattle.rv_meaning.specs.Meaning.{is_true}
 use Rattle.rv_agreement.specs.Evaluation.{Found, value, integers}
-use Rattle.rv_flat.specs.declared.flat.Flat.{Flat}
-use Rattle.rv_flat.specs.declared.state.State.{State}
 use Rattle.rv_flat.specs.FlatInstants.{Row, nth, is_on_at, nth_item, flow_items, memory_items, assertion_trees, value_at}
-use Rattle.rv_flat.specs.declared.parts.FlatMemory.{FlatMemory}
-use Rattle.rv_flat.specs.Inlined.{table_of}
-use Rattle.rv_flat.specs.Tame.{IsOver}
-use Rattle.rv_flat.specs.FlatOf.{no_assertion}
+use Rattle.rv_flat.specs.{declared.flat.Flat.Flat, declared.state.State.State, declared.parts.FlatMemory.FlatMemory, Inlined.table_of, Tame.IsOver}
+use Rattle.rv_flat.specs.{FlatOf.no_assertion}
 
 -- The row of the first flows, as many as are said: each has what its expression has where its clock is there, and is absent
 -- elsewhere.

@@ -1,17 +1,12 @@
 -- One instant of a flat system: what its flows have, from the state before it and the inputs, and the state after it.
-use Rattle.std.specs.Prelude.{◌≡◌, ℕ, ◌<◌, Bool, false, ◌||◌, cond, List, map, length, Option, Some, slice_index_or}
-use Rattle.std.specs.Prelude.{None as Nothing}
-use Rattle.rv_base.specs.declared.value.Value.{Value}
-use Rattle.rv_base.specs.declared.value.Value.TheVariants.{Flag}
+use Rattle.std.specs.Prelude.{◌≡◌, ℕ, ◌<◌, Bool, false, ◌||◌, cond, List, map, length, Option, Some, slice_index_or, None as Nothing}
+use Rattle.rv_base.specs.{declared.value.Value.Value, declared.value.Value.TheVariants.Flag}
 use Rattle.rv_tree.specs.Places.{Sites}
-use Rattle.rv_agreement.specs.Evaluation.{Found, value, integers}
+use Rattle.rv_agreement.specs.{Evaluation.Found, Evaluation.value, Evaluation.integers, Trees.FlatTree, Trees.Item, Trees.System}
 use Rattle.rv_agreement.specs.Evaluation as evaluation
-use Rattle.rv_agreement.specs.Trees.{FlatTree, Item, System}
 use Rattle.rv_agreement.specs.Trees as trees
-use Rattle.rv_flat.specs.declared.flat.Flat.{Flat}
-use Rattle.rv_flat.specs.declared.state.State.{State}
-use Rattle.rv_flat.specs.Inlined.{tree_among}
 use Rattle.rv_flat.specs.Systems.{system_from, flow_item, memory_item, places_of, memory_places_of, tick_clocks_of}
+use Rattle.rv_flat.specs.{declared.flat.Flat.Flat, declared.state.State.State, Inlined.tree_among}
 
 -- the system of a flat system: its parts by what an instant asks of them
 abbrev pub system_of : Flat → System

@@ -1,33 +1,20 @@
 -- A flat system is that of a program: both have the same instants at every state, and the same states after them.
 use Rattle.std.specs.Prelude.{◌≡◌, ℕ, suc, zero, ◌<◌, ◌↔◌, ◌⊎◌, true, false, List, [], ◌∷◌, ◌++◌, map, length, Option, Some, slice_get, slice_index_or}
 use Rattle.std.specs.Prelude.{None as Nothing}
-use Rattle.std.specs.FinMap.{empty, insert}
-use Rattle.std.specs.List.{Contains}
-use Rattle.rv_base.specs.declared.value.Value.{Value}
-use Rattle.rv_base.specs.declared.value.Value.TheVariants.{Flag}
-use Rattle.rv_tree.specs.Tree.{AssertionTree, ProgramTree}
-use Rattle.rv_tree.specs.Places.{Identifier, Sites, names, flows, index_of}
-use Rattle.rv_types.specs.declared.typed.Clock.TheVariants.{Base}
-use Rattle.rv_types.specs.Kinds.{decl_kinds, flow_kind}
-use Rattle.rv_types.specs.Names.{labels_of, texts}
+use Rattle.std.specs.{FinMap.empty, FinMap.insert, List.Contains}
+use Rattle.rv_base.specs.{declared.value.Value.Value, declared.value.Value.TheVariants.Flag}
+use Rattle.rv_tree.specs.{Tree.AssertionTree, Tree.ProgramTree, Places.Identifier, Places.Sites, Places.names, Places.flows, Places.index_of}
 use Rattle.rv_types.specs.Instances.{Instance, place, node_of, IsInstance, IsFlow}
-use Rattle.rv_types.specs.Needs.{IsSequence}
-use Rattle.rv_types.specs.Lists.{IsAny, AreMemories, AreVariables, AreColumns}
-use Rattle.rv_types.specs.Variables.{variable_count}
-use Rattle.rv_meaning.specs.Meaning.{is_true}
-use Rattle.rv_agreement.specs.ProgramAgreement.{IsSystemOf, KeepsProducts}
-use Rattle.rv_agreement.specs.Programs.{Compared, IsComparison, IsSymbolicOf}
-use Rattle.rv_agreement.specs.Translation.{Numbers, flat_compared}
-use Rattle.rv_agreement.specs.Valuations.{Valuation, Reading, IsSymbolic, Comparison, all_comparisons}
-use Rattle.rv_meaning.specs.Runs.{Instant, cell, observer_place}
+use Rattle.rv_types.specs.{declared.typed.Clock.TheVariants.Base, Kinds.decl_kinds, Kinds.flow_kind, Names.labels_of, Names.texts, Needs.IsSequence}
+use Rattle.rv_types.specs.{Lists.IsAny, Lists.AreMemories, Lists.AreVariables, Lists.AreColumns, Variables.variable_count}
 use Rattle.rv_meaning.specs.Instants.{State as Brought, IsInstant, IsNext, value_now}
-use Rattle.rv_flat.specs.declared.flat.Flat.{Flat}
-use Rattle.rv_flat.specs.declared.state.State.{State}
-use Rattle.rv_agreement.specs.Trees.{FlatTree, Node, Constant}
+use Rattle.rv_meaning.specs.{Meaning.is_true, Runs.Instant, Runs.cell, Runs.observer_place}
+use Rattle.rv_agreement.specs.Valuations.{Valuation, Reading, IsSymbolic, Comparison, all_comparisons}
+use Rattle.rv_agreement.specs.{ProgramAgreement.IsSystemOf, ProgramAgreement.KeepsProducts, Programs.Compared, Programs.IsComparison, Programs.IsSymbolicOf}
+use Rattle.rv_agreement.specs.{Translation.Numbers, Translation.flat_compared, Trees.FlatTree, Trees.Node, Trees.Constant}
 use Rattle.rv_flat.specs.Lists.{tick_places, variable_of, column_of}
 use Rattle.rv_flat.specs.FlatInstants.{Row, places, memory_places, assertion_trees, system_of, value_at, IsFlatInstant, IsFlatNext}
-use Rattle.rv_flat.specs.Systems.{memory_of}
-use Rattle.rv_flat.specs.Thresholds.{AreThresholds}
+use Rattle.rv_flat.specs.{declared.flat.Flat.Flat, declared.state.State.State, Systems.memory_of, Thresholds.AreThresholds}
 
 -- the places of the flows, of the memories, and of the flows of the ticks but the main one, by their numbers
 abbrev pub numbers_of : Flat → Numbers

@@ -2,18 +2,11 @@
 use Rattle.std.specs.Prelude.{◌≡◌, ℕ, ◌+◌, ◌<◌, false, [], ◌∷◌, ◌++◌, map, Some}
 use Rattle.std.specs.List.{Contains}
 use Rattle.rv_base.specs.declared.value.Value.{Value}
-use Rattle.rv_tree.specs.Tree.{AssertionTree, ProgramTree}
-use Rattle.rv_tree.specs.Places.{Identifier, Sites}
-use Rattle.rv_types.specs.declared.typed.Clock.TheVariants.{Base}
-use Rattle.rv_types.specs.Instances.{Instance, IsInstance, IsNode}
-use Rattle.rv_types.specs.WellFormed.{AreWell}
-use Rattle.rv_meaning.specs.Meaning.{is_true, value}
-use Rattle.rv_meaning.specs.Runs.{History, cells, IsRun}
-use Rattle.rv_flat.specs.declared.flat.Flat.{Flat}
-use Rattle.rv_flat.specs.declared.state.State.{State}
+use Rattle.rv_tree.specs.{Tree.AssertionTree, Tree.ProgramTree, Places.Identifier, Places.Sites}
+use Rattle.rv_types.specs.{declared.typed.Clock.TheVariants.Base, Instances.Instance, Instances.IsInstance, Instances.IsNode, WellFormed.AreWell}
+use Rattle.rv_meaning.specs.{Meaning.is_true, Meaning.value, Runs.History, Runs.cells, Runs.IsRun}
 use Rattle.rv_flat.specs.FlatInstants.{Row, memory_places, IsFlatInstant, IsFlatNext}
-use Rattle.rv_flat.specs.FlatOf.{IsFlatOf, flat_inputs}
-use Rattle.rv_flat.specs.Steps.{IsFlatStart}
+use Rattle.rv_flat.specs.{declared.flat.Flat.Flat, declared.state.State.State, FlatOf.IsFlatOf, FlatOf.flat_inputs, Steps.IsFlatStart}
 
 -- A run of a well formed program, and instants of its flat system after one another from the same starts and inputs.
 pub record AreStepsOf (program : ProgramTree) (main : Identifier) (f : Flat) (starts : Sites → Value) (inputs : ℕ → ℕ → Value) (n : ℕ) (h : History)

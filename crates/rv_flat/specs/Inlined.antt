@@ -1,13 +1,11 @@
 -- The tree of a flat expression among the memories of its system: each `current` shows the clock and the body of its memory.
 -- The tree grows by that, and nothing does in memory.
-use Rattle.std.specs.Prelude.{◌≡◌, ℕ, zero, suc, ◌+◌, Bool, false, ◌&&◌, true, List, length, Option, Some, slice_get}
-use Rattle.std.specs.Prelude.{None as Nothing}
+use Rattle.std.specs.Prelude.{◌≡◌, ℕ, zero, suc, ◌+◌, Bool, false, ◌&&◌, true, List, length, Option, Some, slice_get, None as Nothing}
 use Rattle.rv_agreement.specs.Trees.{FlatTree, TreeForm, FlatTrees, Item, no_item}
 use Rattle.rv_agreement.specs.Trees as tree
-use Rattle.rv_flat.specs.declared.parts.FlatExpr.{FlatExpr}
-use Rattle.rv_flat.specs.declared.parts.FlatMemory.{FlatMemory}
 use Rattle.rv_flat.specs.RawTree.{RawTree, Node, RawForm, RawTrees, Constant, Flow, Memory, Ticked, Input, Not, Binary, Scale, If, AtMostOne, When, Current}
 use Rattle.rv_flat.specs.RawTree.{None, More, raw_tree, all_shown}
+use Rattle.rv_flat.specs.{declared.parts.FlatExpr.FlatExpr, declared.parts.FlatMemory.FlatMemory}
 
 -- by what a table has of each memory
 module _ (table : ℕ → Item) where

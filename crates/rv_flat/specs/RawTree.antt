@@ -1,12 +1,9 @@
 -- A flat expression without where its parts lie in memory. `Current m` names its memory alone.
 use Rattle.std.specs.Prelude.{ℕ, ℤ, Bool, true, ◌&&◌, List, [], ◌∷◌}
 use Rattle.rv_base.specs.declared.value.Value.{Value}
-use Rattle.rv_tree.specs.declared.tree.Op.{Op}
-use Rattle.rv_tree.specs.Places.{Sites}
-use Rattle.rv_flat.specs.declared.parts.FlatExpr.{FlatExpr}
-use Rattle.rv_flat.specs.declared.parts.FlatForm.TheOpen.{FlatForm-F}
+use Rattle.rv_tree.specs.{declared.tree.Op.Op, Places.Sites}
+use Rattle.rv_flat.specs.{declared.parts.FlatExpr.FlatExpr, declared.parts.FlatForm.TheOpen.FlatForm-F, declared.parts.FlatForm.TheFolds.fold-FlatExpr}
 use Rattle.rv_flat.specs.declared.parts.FlatForm.TheOpen as step
-use Rattle.rv_flat.specs.declared.parts.FlatForm.TheFolds.{fold-FlatExpr}
 
 mutual
   pub data RawTree : Type 0 where

@@ -1,16 +1,13 @@
 -- The states of a flat system in whole numbers within the range of traces, and where one leaves it.
 use Rattle.std.specs.Prelude.{◌≡◌, ℕ, ◌<◌, ◌^◌, ℤ, pos, ◌-ℤ◌, ◌≤ℤ◌, ◌<ℤ◌, true, false, List, [], map, length, Option, Some, IsTrue, slice_get, slice_index_or}
 use Rattle.std.specs.Prelude.{None as Nothing}
-use Rattle.rv_base.specs.declared.value.Place.{Place}
-use Rattle.rv_base.specs.declared.value.Value.{Value}
 use Rattle.rv_base.specs.declared.value.Value.TheVariants.{Flag, Label, Whole}
+use Rattle.rv_base.specs.{declared.value.Place.Place, declared.value.Value.Value}
 use Rattle.rv_tree.specs.Places.{Sites}
-use Rattle.rv_types.specs.declared.typed.Kind.{Kind}
-use Rattle.rv_types.specs.Needs.{IsBefore}
-use Rattle.rv_flat.specs.declared.flat.Flat.{Flat}
-use Rattle.rv_flat.specs.declared.state.State.{State}
-use Rattle.rv_agreement.specs.Checks.{constant_fits}
+use Rattle.rv_types.specs.{declared.typed.Kind.Kind, Needs.IsBefore}
 use Rattle.rv_flat.specs.FlatInstants.{Row, nth, is_on_at, nth_item, memory_items, places, memory_places, tick_clocks, value_at}
+use Rattle.rv_flat.specs.{declared.flat.Flat.Flat, declared.state.State.State}
+use Rattle.rv_agreement.specs.Checks.{constant_fits}
 
 -- the integers from -2^63 to 2^63 - 1
 abbrev pub IsWithin : ℤ → Type 0

@@ -1,17 +1,11 @@
 -- Runs of a program and of its flat system, in whole numbers of any size.
-use Rattle.std.specs.Prelude.{◌≡◌, ℕ, ◌<◌, ◌≤◌, ◌↔◌, List, map, slice_index_or}
-use Rattle.std.specs.FinMap.{empty}
+use Rattle.std.specs.{Prelude.◌≡◌, Prelude.ℕ, Prelude.◌<◌, Prelude.◌≤◌, Prelude.◌↔◌, Prelude.List, Prelude.map, Prelude.slice_index_or, FinMap.empty}
 use Rattle.rv_base.specs.declared.value.Value.{Value}
-use Rattle.rv_tree.specs.Tree.{ProgramTree}
-use Rattle.rv_tree.specs.Places.{Identifier, Sites}
-use Rattle.rv_meaning.specs.Runs.{History, AssertionsHold, IsRun, cells, observed}
-use Rattle.rv_meaning.specs.Instants.{State as Brought}
-use Rattle.rv_meaning.specs.Following.{IsStateAt}
-use Rattle.rv_agreement.specs.Agreement.{State}
-use Rattle.rv_agreement.specs.FlatRuns.{IsFlatRun, AreMetIn}
-use Rattle.rv_flat.specs.declared.flat.Flat.{Flat}
+use Rattle.rv_tree.specs.{Tree.ProgramTree, Places.Identifier, Places.Sites}
+use Rattle.rv_meaning.specs.{Runs.History, Runs.AssertionsHold, Runs.IsRun, Runs.cells, Runs.observed, Instants.State as Brought, Following.IsStateAt}
+use Rattle.rv_agreement.specs.{Agreement.State, FlatRuns.IsFlatRun, FlatRuns.AreMetIn}
 use Rattle.rv_flat.specs.FlatInstants.{Row, nth, places, memory_places, system_of}
-use Rattle.rv_flat.specs.FlatOf.{flat_state, flat_inputs, row_of}
+use Rattle.rv_flat.specs.{declared.flat.Flat.Flat, FlatOf.flat_state, FlatOf.flat_inputs, FlatOf.row_of}
 
 -- what a state of the program is to the system
 abbrev pub system_state : Flat → Brought → State

@@ -1,19 +1,12 @@
 -- The parts of a flat system by what an instant asks of them.
-use Rattle.std.specs.Prelude.{ℕ, true, List, ◌∷◌, map, length, Option, Some}
-use Rattle.std.specs.Prelude.{None as Nothing}
+use Rattle.std.specs.Prelude.{ℕ, true, List, ◌∷◌, map, length, Option, Some, None as Nothing}
 use Rattle.rv_base.specs.declared.value.Value.TheVariants.{Flag}
 use Rattle.rv_tree.specs.Places.{Sites, index_of}
-use Rattle.rv_types.specs.declared.typed.Kind.{Kind}
-use Rattle.rv_types.specs.Lists.{MemoryAt}
+use Rattle.rv_types.specs.{declared.typed.Kind.Kind, Lists.MemoryAt}
 use Rattle.rv_agreement.specs.Trees.{Item, Kept, System}
-use Rattle.rv_flat.specs.declared.parts.Bit.{Bit}
-use Rattle.rv_flat.specs.declared.parts.FlatExpr.{FlatExpr}
-use Rattle.rv_flat.specs.declared.parts.FlatFlow.{FlatFlow}
-use Rattle.rv_flat.specs.declared.parts.FlatInput.{FlatInput}
-use Rattle.rv_flat.specs.declared.parts.FlatMemory.{FlatMemory}
-use Rattle.rv_flat.specs.Inlined.{inlined, table_of, tree_among}
-use Rattle.rv_flat.specs.Lists.{tick_places}
 use Rattle.rv_flat.specs.RawTree.{RawTree, Node, Constant, Flow, If, raw_tree}
+use Rattle.rv_flat.specs.{declared.parts.Bit.Bit, declared.parts.FlatExpr.FlatExpr, declared.parts.FlatFlow.FlatFlow, declared.parts.FlatInput.FlatInput}
+use Rattle.rv_flat.specs.{declared.parts.FlatMemory.FlatMemory, Inlined.inlined, Inlined.table_of, Inlined.tree_among, Lists.tick_places}
 
 -- the places of some flows, and of some memories
 abbrev pub places_of : List FlatFlow → List Sites

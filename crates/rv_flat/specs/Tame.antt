@@ -2,10 +2,9 @@
 use Rattle.std.specs.Prelude.{ℕ, ◌<◌, ◌^◌, nat_abs}
 use Rattle.rv_base.specs.declared.value.Value.{Value}
 use Rattle.rv_meaning.specs.Meaning.{number}
-use Rattle.rv_agreement.specs.Agreement.{IsNamed}
-use Rattle.rv_agreement.specs.Evaluation.{Found, form_value, integers}
 use Rattle.rv_agreement.specs.Trees.{FlatTree, Node, TreeForm, FlatTrees, Constant, Flow, Memory, Ticked, Input, Not, Binary, Scale, If, AtMostOne, When}
 use Rattle.rv_agreement.specs.Trees.{Current, None, More}
+use Rattle.rv_agreement.specs.{Agreement.IsNamed, Evaluation.Found, Evaluation.form_value, Evaluation.integers}
 use Rattle.rv_flat.specs.FlatInstants.{Row}
 
 -- the integer of a value is above -2^127 and below 2^127

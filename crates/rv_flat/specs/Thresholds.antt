@@ -3,8 +3,7 @@ use Rattle.std.specs.Prelude.{◌≡◌, ◌⊎◌, ℕ, ◌<◌, ℤ, pos, ◌+
 use Rattle.std.specs.List.{Contains}
 use Rattle.rv_base.specs.declared.value.Value.TheVariants.{Whole}
 use Rattle.rv_tree.specs.Tree.{Node, Number, ConstantTree, NodeTree, ProgramTree}
-use Rattle.rv_types.specs.Scopes.{constant_values}
-use Rattle.rv_types.specs.Variables.{parts, node_parts}
+use Rattle.rv_types.specs.{Scopes.constant_values, Variables.parts, Variables.node_parts}
 
 -- an integer literal of a node or of a constant's body, as the tree keeps it, or an integer constant
 pub data IsNumberOf (p : ProgramTree) (z : ℤ) : Type 0 where

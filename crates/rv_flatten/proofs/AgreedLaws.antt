@@ -1,21 +1,13 @@
 -- The laws of agreement that are used of what is read of a program.
-use Rattle.std.specs.Prelude.{◌≡◌, ℕ, Bool, List, map, Option}
-use Rattle.std.specs.List.{Contains}
+use Rattle.std.specs.{Prelude.◌≡◌, Prelude.ℕ, Prelude.Bool, Prelude.List, Prelude.map, Prelude.Option, List.Contains}
 use Rattle.rv_base.specs.declared.value.Value.{Value}
-use Rattle.rv_tree.specs.Tree.{Tree, ProgramTree}
-use Rattle.rv_tree.specs.Places.{Identifier, Sites, index_of}
-use Rattle.rv_types.specs.Instances.{Instance}
-use Rattle.rv_types.specs.Lists.{Side}
-use Rattle.rv_meaning.specs.Givers.{AreDefined}
-use Rattle.rv_meaning.specs.Instants.{State as Brought, now}
-use Rattle.rv_meaning.specs.Runs.{Instant, cell}
-use Rattle.rv_agreement.specs.Agreement.{IsWell}
-use Rattle.rv_agreement.specs.Checks.{IsChecked, IsInlined}
-use Rattle.rv_agreement.specs.Evaluation.{Found, IsInstant, nth, value, integers}
+use Rattle.rv_tree.specs.{Tree.Tree, Tree.ProgramTree, Places.Identifier, Places.Sites, Places.index_of}
+use Rattle.rv_types.specs.{Instances.Instance, Lists.Side}
+use Rattle.rv_meaning.specs.{Givers.AreDefined, Instants.State as Brought, Instants.now, Runs.Instant, Runs.cell}
 use Rattle.rv_agreement.specs.Programs.{FoundAt, found_of, meant, HasProducts, IsInstantOf, Compared, IsComparison}
 use Rattle.rv_agreement.specs.Translation.{Numbers, tick_number, flat_of, Names, AreNamed, IsClockOf, AreIndexed, flat_compared, IsTranslated}
-use Rattle.rv_agreement.specs.Trees.{System}
-use Rattle.rv_agreement.specs.Valuations.{Reading, readings, Comparison, all_comparisons}
+use Rattle.rv_agreement.specs.{Agreement.IsWell, Checks.IsChecked, Checks.IsInlined, Evaluation.Found, Evaluation.IsInstant, Evaluation.nth, Evaluation.value}
+use Rattle.rv_agreement.specs.{Evaluation.integers, Trees.System, Valuations.Reading, Valuations.readings, Valuations.Comparison, Valuations.all_comparisons}
 
 -- the names of an expression are found by their numbers as by their places
 abbrev pub AreFound : (V : Type 0) → Numbers → Found V → FoundAt V → Instance → Tree → Type 0

@@ -1,39 +1,26 @@
 -- The comparisons of a system that is read from its program: at one place there is one, with its operands.
 use Rattle.std.proofs.Common.{◌≡◌, ◌⊎◌, inl, inr, ℕ, suc, ◌<◌, ℤ, Bool, true, false, cond, nat_eq, List, [], ◌∷◌, ◌++◌, length, refl, sym, ◌∙◌, subst, arith}
-use Rattle.std.proofs.Common.{Option, Some}
-use Rattle.std.proofs.Common.{None as Nothing}
-use Rattle.std.proofs.lemmas.List.{length-map, get_or_default}
-use Rattle.std.proofs.lemmas.List.Elements.{Contains-append_cases}
+use Rattle.std.proofs.Common.{Option, Some, None as Nothing}
+use Rattle.std.proofs.{lemmas.List.length-map, lemmas.List.get_or_default, lemmas.List.Elements.Contains-append_cases}
 use Rattle.std.specs.List.{Contains}
-use Rattle.rv_tree.specs.declared.tree.Op.{Op}
+use Rattle.rv_tree.specs.{declared.tree.Op.Op, Sites.is_comparison, Tree.Tree, Tree.Form, Tree.Trees, Tree.ProgramTree, Places.Identifier, Places.Sites}
+use Rattle.rv_tree.specs.{Places.is_flow, Places.index_of}
 use Rattle.rv_tree.specs.declared.tree.Op.TheVariants as op
-use Rattle.rv_tree.specs.Sites.{is_comparison}
 use Rattle.rv_tree.specs.Tree as tree
-use Rattle.rv_tree.specs.Tree.{Tree, Form, Trees, ProgramTree}
-use Rattle.rv_tree.specs.Places.{Identifier, Sites, is_flow, index_of}
-use Rattle.rv_types.specs.declared.typed.Clock.TheVariants.{Base}
 use Rattle.rv_types.specs.Instances.{Body, Output, Instance, place, clock_in, IsInstance, IsNode, IsArgument, head, tail}
-use Rattle.rv_types.specs.Lists.{sides_of}
-use Rattle.rv_types.specs.Needs.{Giver, Gives, given, by_equation, by_call}
-use Rattle.rv_types.specs.Scopes.{node_scope, constant_value}
-use Rattle.rv_types.specs.Types.{is_constant}
-use Rattle.rv_types.specs.Variables.{node_parts}
-use Rattle.rv_types.specs.WellFormed.{AreWell}
-use Rattle.rv_agreement.specs.Agreement.{AreApart}
-use Rattle.rv_agreement.specs.Programs.{spot, is_test, operator_place, coefficient, operation}
+use Rattle.rv_types.specs.{declared.typed.Clock.TheVariants.Base, Lists.sides_of, Needs.Giver, Needs.Gives, Needs.given, Needs.by_equation, Needs.by_call}
+use Rattle.rv_types.specs.{Scopes.node_scope, Scopes.constant_value, Types.is_constant, Variables.node_parts, WellFormed.AreWell}
 use Rattle.rv_agreement.specs.Translation.{Numbers, tick_number, unplaced, flat_of, flat_form, flats_of, giver_item, IsTranslated}
 use Rattle.rv_agreement.specs.Trees.{FlatTree, Constant, Flow, Ticked, Scale, If, Binary, Item, Kept, System, no_item, nth_item, memory_items}
 use Rattle.rv_agreement.specs.Valuations.{Comparison, is_placed, own, comparisons, form_comparisons, comparisons_of, item_comparisons, all_items}
 use Rattle.rv_agreement.specs.Valuations.{all_comparisons}
-use Rattle.rv_flatten.proofs.ComparedParts.{one_tree}
-use Rattle.rv_flatten.proofs.ItemClocks.{same_instance}
+use Rattle.rv_agreement.specs.{Agreement.AreApart, Programs.spot, Programs.is_test, Programs.operator_place, Programs.coefficient, Programs.operation}
 use Rattle.rv_flatten.proofs.Standing.{Stands, as_child, of_not, of_minus, of_when, of_left, of_right, of_condition, of_first, of_second, of_operand, stands_in}
 use Rattle.rv_flatten.proofs.Standing.{body_stands, argument_stands, operand_stands, as_assertion}
-use Rattle.rv_flatten.proofs.WellInstances.{node_in}
+use Rattle.rv_flatten.proofs.{ComparedParts.one_tree, ItemClocks.same_instance, WellInstances.node_in}
 use Rattle.rv_instances.proofs.FlowPlaces.{snoc_parts}
-use Rattle.rv_types.proofs.Members.{cons_cases, nothing_in, of_flat_map}
+use Rattle.rv_types.proofs.{Members.cons_cases, Members.nothing_in, Members.of_flat_map, ChainLaws.no_flag}
 use Rattle.rv_base.proofs.Truths.{both_of}
-use Rattle.rv_types.proofs.ChainLaws.{no_flag}
 
 -- what an operator is itself has a place
 own_is : (o : Op) (r c : Comparison) → Contains (own o r) c → (is_placed r.at ≡ true) × (r ≡ c)

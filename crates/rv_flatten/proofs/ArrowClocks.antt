@@ -1,30 +1,22 @@
 -- The clocks of the `->` of a node are those of the `->` among its expressions, and each is the base clock or that of a flow.
 use Rattle.std.proofs.Common.{◌≡◌, inl, inr, Bool, true, false, cond, List, [], ◌∷◌, ◌++◌, flat_map, length, refl, sym, ◌∙◌, ap, subst, arith, unwrap_or}
-use Rattle.std.proofs.lemmas.Grind.{flat_map-append}
 use Rattle.std.proofs.lemmas.List.Elements.{Contains-append_left, Contains-append_cases}
-use Rattle.std.proofs.lemmas.Option.{slice_get_within}
+use Rattle.std.proofs.{lemmas.Grind.flat_map-append, lemmas.Option.slice_get_within}
 use Rattle.std.specs.List.{Contains}
 use Rattle.rv_tree.specs.declared.tree.Name.{Name}
-use Rattle.rv_tree.specs.declared.tree.Op.TheVariants as op
 use Rattle.rv_tree.specs.Tree.{Tree, Node, Binary, Call, EquationTree, AssertionTree, NodeTree, ProgramTree}
+use Rattle.rv_tree.specs.declared.tree.Op.TheVariants as op
 use Rattle.rv_types.specs.declared.typed.Kind.TheVariants as kind
-use Rattle.rv_types.specs.declared.typed.Clock.{Clock}
-use Rattle.rv_types.specs.declared.typed.Clock.TheVariants.{Base, On}
-use Rattle.rv_types.specs.Clocks.{pace}
-use Rattle.rv_types.specs.Names.{texts}
 use Rattle.rv_types.specs.Instances.{CallTree, calls, calls_in, calls_in_all, calls_in_equations, calls_in_assertions, taken, alone}
-use Rattle.rv_types.specs.Scopes.{node_scope}
 use Rattle.rv_types.specs.Variables.{is_arrow, parts, parts_of_all, node_parts}
-use Rattle.rv_types.specs.WellFormed.{IsWellFormed, IsWellTyped}
+use Rattle.rv_types.specs.{declared.typed.Clock.Clock, declared.typed.Clock.TheVariants.Base, declared.typed.Clock.TheVariants.On, Clocks.pace, Names.texts}
+use Rattle.rv_types.specs.{Scopes.node_scope, WellFormed.IsWellFormed, WellFormed.IsWellTyped}
 use Rattle.rv_types.proofs.Members.{at_head, cons_cases, in_flat_map, nothing_in, of_flat_map}
-use Rattle.rv_types.proofs.TypedParts.{IsTyped, parts_typed, argument_part, right_calls}
-use Rattle.rv_instances.specs.Flowing.{IsKnownClock}
-use Rattle.rv_instances.specs.Timed.{ToldOperator, own_operator}
+use Rattle.rv_types.proofs.{TypedParts.IsTyped, TypedParts.parts_typed, TypedParts.argument_part, TypedParts.right_calls, ChainLaws.no_flag}
+use Rattle.rv_instances.specs.{Flowing.IsKnownClock, Timed.ToldOperator, Timed.own_operator}
 use Rattle.rv_instances.proofs.TimedParts.{node_operators}
 use Rattle.rv_flatten.specs.Arrows.{arrow_of, node_arrows}
-use Rattle.rv_flatten.proofs.ClockKinds.{IsTrueClock, clock_taken, pace_is_true}
-use Rattle.rv_flatten.proofs.FlowKinds.{kinds_many}
-use Rattle.rv_types.proofs.ChainLaws.{no_flag}
+use Rattle.rv_flatten.proofs.{ClockKinds.IsTrueClock, ClockKinds.clock_taken, ClockKinds.pace_is_true, FlowKinds.kinds_many}
 
 -- the only one of no more than one
 only_one : (b : Bool) (c k : Clock) → Contains (cond b (c ∷ []) []) k → (b ≡ true) × (c ≡ k)

@@ -1,76 +1,39 @@
 -- A flat system that is put together from its parts.
-use Rattle.std.proofs.Common.{◌≡◌, ℕ, zero, suc, ◌+◌, ◌<◌, ◌≤◌, Bool, true, false, ◌||◌, cond, List, [], ◌∷◌, ◌++◌, map, length, take, get_or, slice_get}
-use Rattle.std.proofs.Common.{refl, sym, ◌∙◌, ap, subst, arith, unwrap_or, Option, Some, IsSome, length-append, None as Nothing}
-use Rattle.std.proofs.Math.Seq.{take-append_seam}
-use Rattle.std.proofs.lemmas.List.{length-map}
+use Rattle.std.proofs.Common.{◌≡◌, ℕ, zero, suc, ◌+◌, ◌<◌, ◌≤◌, Bool, true, false, ◌||◌, cond, List, [], ◌∷◌, ◌++◌, map, length, take, get_or, slice_get, refl}
+use Rattle.std.proofs.Common.{sym, ◌∙◌, ap, subst, arith, unwrap_or, Option, Some, IsSome, length-append, None as Nothing}
 use Rattle.std.proofs.lemmas.Option.{slice_get-map, slice_get-get_or, slice_get_within}
-use Rattle.std.proofs.lemmas.List.Elements.{Contains-get_or}
-use Rattle.std.specs.List.{Contains}
-use Rattle.std.specs.Option.{option_map}
-use Rattle.rv_tree.specs.declared.tree.Decl.{Decl}
-use Rattle.rv_tree.specs.Bounded.{most}
-use Rattle.rv_tree.specs.Tree.{Tree, NodeTree, ProgramTree}
+use Rattle.std.proofs.{Math.Seq.take-append_seam, lemmas.List.length-map, lemmas.List.Elements.Contains-get_or, lemmas.Bool.and_from}
+use Rattle.std.specs.{List.Contains, Option.option_map}
 use Rattle.rv_tree.specs.Places.{Identifier, Sites, flows, is_same, is_among, index_of}
-use Rattle.rv_types.specs.declared.typed.Kind.{Kind}
-use Rattle.rv_types.specs.declared.typed.Kind.TheVariants as kind
-use Rattle.rv_types.specs.declared.typed.Clock.{Clock}
-use Rattle.rv_types.specs.declared.typed.Clock.TheVariants.{Base, On}
-use Rattle.rv_types.specs.declared.fault.NameFault.{NameFault}
-use Rattle.rv_types.specs.declared.fault.NameFault.TheVariants.{NotObserver}
-use Rattle.rv_types.specs.Clocks.{pace}
-use Rattle.rv_types.specs.Kinds.{decl_kinds, flow_kinds, kind_in_program, node_among, node_named}
-use Rattle.rv_types.specs.Names.{texts, labels_of}
-use Rattle.rv_types.specs.Scopes.{is_observer, observer_faults}
-use Rattle.rv_types.specs.declared.typed.Typed.{Typed}
-use Rattle.rv_types.specs.Settled.{node_number, IsAnswer}
+use Rattle.rv_tree.specs.{declared.tree.Decl.Decl, Bounded.most, Tree.Tree, Tree.NodeTree, Tree.ProgramTree}
 use Rattle.rv_types.specs.Instances.{Instance, no_node, node_of, name_at, main_instance, absolute, taken, clock_in, IsInstance, is_main, IsFlow, IsNode}
-use Rattle.rv_types.specs.Lists.{AreTicks, AreMemories, IsAny, MemoryAt, sites_of}
-use Rattle.rv_types.specs.Needs.{IsBefore, IsSequence, Gives}
-use Rattle.rv_types.specs.Variables.{is_arrow, node_parts}
-use Rattle.rv_instances.specs.declared.answer.Instance.{Instance as Numbered}
-use Rattle.rv_instances.specs.declared.layout.Laid.{Laid}
-use Rattle.rv_instances.specs.declared.layout.Layout.{Layout}
-use Rattle.rv_instances.specs.AllInstances.{names_of, numbered}
-use Rattle.rv_instances.specs.Expanded.{IsExpanded, no_instance}
-use Rattle.rv_instances.specs.Flowing.{IsKnownClock}
+use Rattle.rv_types.specs.{declared.typed.Kind.Kind, declared.typed.Clock.Clock, declared.typed.Clock.TheVariants.Base, declared.typed.Clock.TheVariants.On}
+use Rattle.rv_types.specs.{declared.fault.NameFault.NameFault, declared.fault.NameFault.TheVariants.NotObserver, Clocks.pace, Kinds.decl_kinds}
+use Rattle.rv_types.specs.{Kinds.flow_kinds, Kinds.kind_in_program, Kinds.node_among, Kinds.node_named, Names.texts, Names.labels_of, Scopes.is_observer}
+use Rattle.rv_types.specs.{Scopes.observer_faults, declared.typed.Typed.Typed, Settled.node_number, Settled.IsAnswer, Lists.AreTicks, Lists.AreMemories}
+use Rattle.rv_types.specs.{Lists.IsAny, Lists.MemoryAt, Lists.sites_of, Needs.IsBefore, Needs.IsSequence, Needs.Gives, Variables.is_arrow, Variables.node_parts}
+use Rattle.rv_types.specs.declared.typed.Kind.TheVariants as kind
 use Rattle.rv_instances.specs.Layouts.{IsLayout, node_at, path_at, here_of}
-use Rattle.rv_flatten.specs.declared.found.Found.{Found}
-use Rattle.rv_flatten.specs.declared.given.Given.{Given}
-use Rattle.rv_flatten.specs.declared.numbering.Numbering.{Numbering}
-use Rattle.rv_flat.specs.declared.parts.Bit.{Bit}
-use Rattle.rv_flat.specs.declared.parts.FlatExpr.{FlatExpr}
-use Rattle.rv_flat.specs.declared.parts.FlatFlow.{FlatFlow}
-use Rattle.rv_flat.specs.declared.parts.FlatInput.{FlatInput}
-use Rattle.rv_flat.specs.declared.parts.FlatMemory.{FlatMemory}
+use Rattle.rv_instances.specs.{declared.answer.Instance.Instance as Numbered, declared.layout.Laid.Laid, declared.layout.Layout.Layout, AllInstances.names_of}
+use Rattle.rv_instances.specs.{AllInstances.numbered, Expanded.IsExpanded, Expanded.no_instance, Flowing.IsKnownClock}
 use Rattle.rv_flatten.specs.Building.{IsFoundOf, IsGiven, AreMade, AreRemembered, AreAsserted, main_given, numbers_of, program_given}
-use Rattle.rv_agreement.specs.Checks.{is_of}
-use Rattle.rv_agreement.specs.Translation.{Numbers}
-use Rattle.rv_flat.specs.Facts.{ticks_known}
-use Rattle.rv_flatten.specs.Frames.{IsNumbering}
-use Rattle.rv_flatten.specs.Kept.{kept_memory}
-use Rattle.rv_flat.specs.Lists.{tick_places}
-use Rattle.rv_flat.specs.RawTree.{raw_tree}
 use Rattle.rv_flatten.specs.Readings.{IsRead, AreKinds, raw_flow, raw_memory, no_raw, raw_giver, raw_delay, assertion_of, no_assumption}
-use Rattle.rv_flatten.specs.Readings as readings
+use Rattle.rv_flatten.specs.{declared.found.Found.Found, declared.given.Given.Given, declared.numbering.Numbering.Numbering, Frames.IsNumbering}
+use Rattle.rv_flatten.specs.{Kept.kept_memory}
 use Rattle.rv_flat.specs.Systems.{places_of, memory_places_of, memory_of}
-use Rattle.rv_flatten.proofs.ArrowClocks.{node_comes, arrow_known}
+use Rattle.rv_flat.specs.{declared.parts.Bit.Bit, declared.parts.FlatExpr.FlatExpr, declared.parts.FlatFlow.FlatFlow, declared.parts.FlatInput.FlatInput}
+use Rattle.rv_flat.specs.{declared.parts.FlatMemory.FlatMemory, Facts.ticks_known, Lists.tick_places, RawTree.raw_tree}
+use Rattle.rv_agreement.specs.{Checks.is_of, Translation.Numbers}
+use Rattle.rv_flatten.specs.Readings as readings
 use Rattle.rv_flatten.proofs.FlowKinds.{HasFlow, is_flow, kinds_many, flow_of_site, base_flow}
-use Rattle.rv_instances.proofs.LaidFlows.{laid_is}
-use Rattle.rv_flatten.proofs.FlowTotals.{some_instance}
 use Rattle.rv_flatten.proofs.InstanceNumbers.{number_at, node_is, node_in}
-use Rattle.rv_flatten.proofs.KindNumbers.{kind_itself}
-use Rattle.rv_flatten.proofs.FewInputs.{few_inputs}
-use Rattle.rv_flatten.proofs.MadeItems.{HasNumbers}
-use Rattle.rv_flatten.proofs.Translated.{mapped_at}
-use Rattle.rv_flatten.proofs.WellInstances.{formed, typed}
+use Rattle.rv_flatten.proofs.{ArrowClocks.node_comes, ArrowClocks.arrow_known, FlowTotals.some_instance, KindNumbers.kind_itself, FewInputs.few_inputs}
+use Rattle.rv_flatten.proofs.{MadeItems.HasNumbers, Translated.mapped_at, WellInstances.formed, WellInstances.typed}
+use Rattle.rv_instances.proofs.LaidFlows.{laid_is}
 use Rattle.rv_flatten.proofs.MainNames as main_names
 use Rattle.rv_meaning.proofs.NameLemmas.{same_text}
-use Rattle.rv_types.proofs.ConstantContents.{kind_same}
-use Rattle.rv_types.proofs.Members.{among_from, at_head, in_tail, index_there}
-use Rattle.rv_base.proofs.Lists.{item_at}
-use Rattle.rv_base.proofs.Options.{some_same}
-use Rattle.rv_types.proofs.ChainLaws.{no_flag}
-use Rattle.std.proofs.lemmas.Bool.{and_from}
+use Rattle.rv_types.proofs.{ConstantContents.kind_same, Members.among_from, Members.at_head, Members.in_tail, Members.index_there, ChainLaws.no_flag}
+use Rattle.rv_base.proofs.{Lists.item_at, Options.some_same}
 
 -- Lists.
 

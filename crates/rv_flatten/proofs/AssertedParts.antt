@@ -3,17 +3,13 @@ use Rattle.std.proofs.Common.{◌≡◌, inl, inr, ℕ, ◌+◌, ◌<◌, List, 
 use Rattle.std.proofs.lemmas.Bool.{cases_order}
 use Rattle.std.proofs.lemmas.List.Elements.{Contains-append_left, Contains-append_right, Contains-append_cases}
 use Rattle.std.specs.List.{Contains}
-use Rattle.rv_tree.specs.declared.tree.Assertion.{Assertion}
+use Rattle.rv_tree.specs.{declared.tree.Assertion.Assertion, Tree.AssertionTree, Tree.NodeTree, Tree.assertion_tree, Tree.node_tree}
 use Rattle.rv_tree.specs.declared.tree.Node as declared
-use Rattle.rv_tree.specs.Tree.{AssertionTree, NodeTree, assertion_tree, node_tree}
 use Rattle.rv_types.specs.Instances.{Instance, IsInstance}
-use Rattle.rv_instances.specs.declared.expanded.Expanded.{Expanded}
 use Rattle.rv_instances.specs.Expanded.{IsKnown, program_of, main_of}
-use Rattle.rv_instances.specs.Layouts.{IsNumberOf, node_at}
-use Rattle.rv_flat.specs.declared.parts.FlatExpr.{FlatExpr}
-use Rattle.rv_flatten.specs.Building.{AreAsserted}
-use Rattle.rv_flat.specs.RawTree.{RawTree, raw_tree}
-use Rattle.rv_flatten.specs.Readings.{assertion_of}
+use Rattle.rv_instances.specs.{declared.expanded.Expanded.Expanded, Layouts.IsNumberOf, Layouts.node_at}
+use Rattle.rv_flat.specs.{declared.parts.FlatExpr.FlatExpr, RawTree.RawTree, RawTree.raw_tree}
+use Rattle.rv_flatten.specs.{Building.AreAsserted, Readings.assertion_of}
 use Rattle.rv_agreement.specs.Translation.{Numbers}
 use Rattle.rv_flatten.proofs.InstanceNumbers.{instance_at, node_is}
 use Rattle.rv_types.proofs.Members.{in_map, nothing_in}

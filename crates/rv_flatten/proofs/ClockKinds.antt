@@ -1,34 +1,21 @@
 -- The clocks of flows and of expressions that have types are Boolean flows.
 use Rattle.std.proofs.Common.{◌≡◌, inl, inr, ℕ, suc, Bool, true, false, cond, List, [], ◌∷◌, ◌++◌, map, length, get_or, slice_get, refl, sym, subst, arith}
-use Rattle.std.proofs.Common.{Option, Some}
-use Rattle.std.proofs.Common.{None as Nothing}
-use Rattle.std.proofs.lemmas.Bool.{cases_order}
-use Rattle.std.proofs.lemmas.List.{get_or_past}
-use Rattle.std.proofs.lemmas.List.Elements.{Contains-get_or, Contains-append_cases}
+use Rattle.std.proofs.Common.{Option, Some, None as Nothing}
+use Rattle.std.proofs.{lemmas.Bool.cases_order, lemmas.List.get_or_past, lemmas.List.Elements.Contains-get_or, lemmas.List.Elements.Contains-append_cases}
 use Rattle.std.specs.List.{Contains}
-use Rattle.rv_tree.specs.declared.tree.Name.{Name}
-use Rattle.rv_tree.specs.declared.tree.Decl.{Decl}
-use Rattle.rv_tree.specs.declared.tree.Op.{Op}
-use Rattle.rv_tree.specs.declared.tree.Op.TheVariants as op
 use Rattle.rv_tree.specs.Tree.{Tree, Node, Form, True, False, Number, Named, Not, Minus, Pre, Current, When, Binary, If, AtMostOne, Call, Trees, None, More}
 use Rattle.rv_tree.specs.Tree.{NodeTree, ProgramTree}
-use Rattle.rv_tree.specs.Places.{is_flow, site_of}
-use Rattle.rv_types.specs.declared.typed.Kind.{Kind}
-use Rattle.rv_types.specs.declared.typed.Kind.TheVariants as kind
-use Rattle.rv_types.specs.declared.typed.Clock.{Clock}
-use Rattle.rv_types.specs.declared.typed.Clock.TheVariants.{Base, On}
-use Rattle.rv_types.specs.declared.fault.Pace.{Pace}
-use Rattle.rv_types.specs.declared.fault.Pace.TheVariants.{Free, At, Mute, Differ}
-use Rattle.rv_types.specs.Kinds.{flow_kinds}
-use Rattle.rv_types.specs.Types.{all_typed, kind_of, kinds_of_all}
-use Rattle.rv_types.specs.Scopes.{node_scope}
+use Rattle.rv_tree.specs.{declared.tree.Name.Name, declared.tree.Decl.Decl, declared.tree.Op.Op, Places.is_flow, Places.site_of}
+use Rattle.rv_tree.specs.declared.tree.Op.TheVariants as op
 use Rattle.rv_types.specs.Clocks.{base_clock, declared_clock, flow_clocks, clock_at, same_clock, seen, meet, grounded, binary_pace, when_pace, current_pace}
 use Rattle.rv_types.specs.Clocks.{pace, form_pace, pace_of_all}
-use Rattle.rv_types.specs.Instances.{taken, IsArgument, head, tail}
-use Rattle.rv_types.specs.WellFormed.{IsWellTyped}
+use Rattle.rv_types.specs.{declared.typed.Kind.Kind, declared.typed.Clock.Clock, declared.typed.Clock.TheVariants.Base, declared.typed.Clock.TheVariants.On}
+use Rattle.rv_types.specs.{declared.fault.Pace.Pace, declared.fault.Pace.TheVariants.Free, declared.fault.Pace.TheVariants.At}
+use Rattle.rv_types.specs.{declared.fault.Pace.TheVariants.Mute, declared.fault.Pace.TheVariants.Differ, Kinds.flow_kinds, Types.all_typed, Types.kind_of}
+use Rattle.rv_types.specs.{Types.kinds_of_all, Scopes.node_scope, Instances.taken, Instances.IsArgument, Instances.head, Instances.tail, WellFormed.IsWellTyped}
+use Rattle.rv_types.specs.declared.typed.Kind.TheVariants as kind
 use Rattle.rv_flat.proofs.TypedParts.{IsTyped, not_typed, minus_typed, pre_typed, when_typed, binary_typed, if_typed, most_typed, call_typed}
-use Rattle.rv_types.proofs.Members.{at_head, cons_cases, in_tail, nothing_in}
-use Rattle.rv_types.proofs.ChainLaws.{no_flag}
+use Rattle.rv_types.proofs.{Members.at_head, Members.cons_cases, Members.in_tail, Members.nothing_in, ChainLaws.no_flag}
 
 module _ (program : ProgramTree) (n : NodeTree) where
   -- a clock is the base clock or that of a Boolean flow

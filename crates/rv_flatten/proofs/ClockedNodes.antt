@@ -4,11 +4,8 @@ use Rattle.std.proofs.lemmas.List.{map-append, take_more, take_all}
 use Rattle.std.specs.List.{Contains}
 use Rattle.rv_tree.specs.declared.tree.Node as declared
 use Rattle.rv_tree.specs.Tree.{NodeTree, node_tree}
-use Rattle.rv_types.specs.declared.reading_clocks.NodeClocks.{NodeClocks}
-use Rattle.rv_types.specs.Names.{repeated}
-use Rattle.rv_types.specs.Known.{flow_names}
-use Rattle.rv_instances.specs.declared.expanded.Expanded.{Expanded}
-use Rattle.rv_instances.specs.Expanded.{IsKnown, program_of}
+use Rattle.rv_types.specs.{declared.reading_clocks.NodeClocks.NodeClocks, Names.repeated, Known.flow_names}
+use Rattle.rv_instances.specs.{declared.expanded.Expanded.Expanded, Expanded.IsKnown, Expanded.program_of}
 use Rattle.rv_flatten.proofs.InstanceNumbers.{flows_once}
 use Rattle.rv_types.proofs.Members.{in_map}
 

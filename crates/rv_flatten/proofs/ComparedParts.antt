@@ -1,31 +1,23 @@
 -- The comparisons of integers of a node are those that its parts are, and of one site there is one.
-use Rattle.std.proofs.Common.{◌≡◌, inl, inr, ℕ, ◌+◌, ◌≤◌, Bool, true, false, ◌&&◌, cond, nat_eq, List, [], ◌∷◌, ◌++◌, flat_map, refl, sym, ◌∙◌, ap}
-use Rattle.std.proofs.Common.{subst, arith, unwrap_or, Option, Some}
-use Rattle.std.proofs.Common.{None as Nothing}
-use Rattle.std.proofs.lemmas.Bool.Decides.{nat_tests}
-use Rattle.std.proofs.lemmas.Grind.{flat_map-append}
+use Rattle.std.proofs.Common.{◌≡◌, inl, inr, ℕ, ◌+◌, ◌≤◌, Bool, true, false, ◌&&◌, cond, nat_eq, List, [], ◌∷◌, ◌++◌, flat_map, refl, sym, ◌∙◌, ap, subst}
+use Rattle.std.proofs.Common.{arith, unwrap_or, Option, Some, None as Nothing}
+use Rattle.std.proofs.{lemmas.Bool.Decides.nat_tests, lemmas.Grind.flat_map-append}
 use Rattle.std.specs.List.{Contains}
-use Rattle.rv_tree.specs.declared.tree.Op.{Op}
-use Rattle.rv_tree.specs.Delays.{IsNumbered}
-use Rattle.rv_tree.specs.Sites.{is_comparison}
-use Rattle.rv_tree.specs.SitedParts as sited
-use Rattle.rv_tree.specs.SitedParts.{SitedPart, part}
 use Rattle.rv_tree.specs.Tree.{Tree, Node, True, False, Number, Named, Not, Minus, Pre, Current, When, Binary, If, AtMostOne, Call, Trees, None, More}
 use Rattle.rv_tree.specs.Tree.{EquationTree, AssertionTree, NodeTree, ProgramTree}
+use Rattle.rv_tree.specs.{declared.tree.Op.Op, Delays.IsNumbered, Sites.is_comparison, SitedParts.SitedPart, SitedParts.part}
+use Rattle.rv_tree.specs.SitedParts as sited
 use Rattle.rv_types.specs.declared.typed.Kind.TheVariants as kind
-use Rattle.rv_types.specs.Scopes.{node_scope}
-use Rattle.rv_types.specs.Types.{Scope, kind_of}
 use Rattle.rv_types.specs.Variables.{total, is_integer, parts, parts_of_all, node_parts}
+use Rattle.rv_types.specs.{Scopes.node_scope, Types.Scope, Types.kind_of}
 use Rattle.rv_agreement.specs.Programs.{is_test}
 use Rattle.rv_instances.specs.Timed.{own_operator, operators_told}
-use Rattle.rv_flatten.specs.declared.comparisons.Tested.{Tested}
-use Rattle.rv_flatten.specs.Compared.{own_test, tests_in}
-use Rattle.rv_flatten.proofs.Apart.{IsApart, apart_told}
-use Rattle.rv_flatten.proofs.CountedVariables.{total_joined}
+use Rattle.rv_flatten.specs.{declared.comparisons.Tested.Tested, Compared.own_test, Compared.tests_in}
+use Rattle.rv_flatten.proofs.{Apart.IsApart, Apart.apart_told, CountedVariables.total_joined}
 use Rattle.rv_instances.proofs.TimedParts.{node_operators}
 use Rattle.rv_types.proofs.Members.{at_head, cons_cases, in_flat_map, in_tail, nothing_in, of_flat_map}
-use Rattle.rv_base.proofs.Truths.{both_of}
 use Rattle.rv_types.proofs.ChainLaws.{no_flag}
+use Rattle.rv_base.proofs.Truths.{both_of}
 
 -- What is found.
 

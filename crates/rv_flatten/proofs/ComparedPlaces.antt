@@ -1,28 +1,18 @@
 -- The comparisons of all instances, sorted by places, are those of the program.
 use Rattle.std.proofs.Common.{◌≡◌, ℕ, ◌<◌, true, List, [], ◌∷◌, ◌++◌, map, length, get_or, refl, sym, ◌∙◌, ap, subst, arith, Some}
 use Rattle.std.specs.List.{Contains}
-use Rattle.rv_tree.specs.declared.tree.Op.{Op}
+use Rattle.rv_tree.specs.{declared.tree.Op.Op, Sites.is_comparison, Tree.Tree, Tree.Node, Tree.Binary, Tree.ProgramTree, Places.Identifier}
 use Rattle.rv_tree.specs.declared.tree.Op.TheVariants as op
-use Rattle.rv_tree.specs.Sites.{is_comparison}
-use Rattle.rv_tree.specs.Tree.{Tree, Node, Binary, ProgramTree}
-use Rattle.rv_tree.specs.Places.{Identifier}
-use Rattle.rv_types.specs.Instances.{Instance, no_node, IsInstance}
 use Rattle.rv_types.specs.Lists.{AreRising, ComparisonAt, Compares, AreComparisons, sides_of}
-use Rattle.rv_types.specs.Variables.{node_parts}
-use Rattle.rv_instances.specs.declared.answer.Instance.{Instance as Numbered}
-use Rattle.rv_instances.specs.AllInstances.{numbered}
-use Rattle.rv_instances.specs.Expanded.{IsExpanded, no_instance}
-use Rattle.rv_flatten.specs.declared.comparisons.Tested.{Tested}
-use Rattle.rv_flatten.specs.declared.kept.Comparison.{Comparison}
-use Rattle.rv_flatten.specs.Kept.{found_comparison}
-use Rattle.rv_flatten.specs.NodeReaders.{lists_to, AreSortedBy}
-use Rattle.rv_flatten.specs.Compared.{tests_in, compared_at, compared_in}
+use Rattle.rv_types.specs.{Instances.Instance, Instances.no_node, Instances.IsInstance, Variables.node_parts}
+use Rattle.rv_instances.specs.{declared.answer.Instance.Instance as Numbered, AllInstances.numbered, Expanded.IsExpanded, Expanded.no_instance}
+use Rattle.rv_flatten.specs.{declared.comparisons.Tested.Tested, declared.kept.Comparison.Comparison, Kept.found_comparison, NodeReaders.lists_to}
+use Rattle.rv_flatten.specs.{NodeReaders.AreSortedBy, Compared.tests_in, Compared.compared_at, Compared.compared_in}
 use Rattle.rv_flatten.proofs.InstanceNumbers.{in_lists, from_lists, made_of, node_in, instance_at, number_at, path_is, node_is, same_instance}
 use Rattle.rv_flatten.proofs.ComparedParts.{test_found, found_test, one_operator}
 use Rattle.rv_instances.proofs.FlowPlaces.{snoc_parts}
-use Rattle.rv_types.proofs.Members.{in_map}
+use Rattle.rv_types.proofs.{Members.in_map, ChainLaws.no_flag}
 use Rattle.rv_base.proofs.Lists.{from_map}
-use Rattle.rv_types.proofs.ChainLaws.{no_flag}
 
 -- the comparisons are the operators with order tests
 pub has_sides : (o : Op) → is_comparison o ≡ true → 0 < length (sides_of o)

@@ -1,30 +1,23 @@
 -- A constant expression whose parts are light has at each instant the value that it counts as.
 use Rattle.std.proofs.Common.{◌≡◌, ℕ, suc, ◌+◌, ◌*◌, ◌≤◌, max, ℤ, pos, ◌+ℤ◌, ◌-ℤ◌, ◌*ℤ◌, neg_ℤ, nat_abs, Bool, true, false, not, ◌&&◌, ◌||◌, cond, nat_le}
 use Rattle.std.proofs.Common.{int_lt, int_le, List, refl, sym, ◌∙◌, ap, arith, Option, Some}
+use Rattle.std.proofs.{lemmas.Int.ints, lemmas.Option.none-some, lemmas.Bool.Decides.nat_tests}
 use Rattle.std.specs.Ordering.{int_eq}
-use Rattle.std.proofs.lemmas.Int.{ints}
-use Rattle.std.proofs.lemmas.Option.{none-some}
-use Rattle.std.proofs.lemmas.Bool.Decides.{nat_tests}
-use Rattle.rv_base.specs.declared.value.Value.{Value}
 use Rattle.rv_base.specs.declared.value.Value.TheVariants.{Flag, Label, Whole}
-use Rattle.rv_tree.specs.declared.tree.Op.{Op}
-use Rattle.rv_tree.specs.declared.tree.Op.TheVariants as op
+use Rattle.rv_base.specs.{declared.value.Value.Value, Limits.heaviest, Limits.too_heavy}
 use Rattle.rv_tree.specs.Tree.{Tree, Node, Form, True, False, Number, Named, Not, Minus, Pre, Current, When, Binary, If, AtMostOne, Call, Trees, None, More}
 use Rattle.rv_tree.specs.Tree.{NodeTree, ProgramTree}
-use Rattle.rv_tree.specs.Places.{Identifier, Sites, is_flow}
-use Rattle.rv_types.specs.declared.typed.Kind.{Kind}
-use Rattle.rv_types.specs.declared.typed.Kind.TheVariants as kind
+use Rattle.rv_tree.specs.{declared.tree.Op.Op, Places.Identifier, Places.Sites, Places.is_flow}
+use Rattle.rv_tree.specs.declared.tree.Op.TheVariants as op
 use Rattle.rv_types.specs.Types.{kind_in, binary_rule, is_constant, is_constant_form, are_constant}
 use Rattle.rv_types.specs.Constants.{flag_in, whole_in, counted, counted_part, same_bool, same_int, same_value, value_under, none_true, at_most_one, value_of}
 use Rattle.rv_types.specs.Constants.{flags_of_all, weight_of}
-use Rattle.rv_types.specs.Constants as constants
-use Rattle.rv_types.specs.Scopes.{node_scope, constant_value}
-use Rattle.rv_types.specs.declared.typed.Clock.TheVariants.{Base}
 use Rattle.rv_types.specs.Instances.{Instance, place, clock_in, IsArgument, head, tail}
+use Rattle.rv_types.specs.{declared.typed.Kind.Kind, Scopes.node_scope, Scopes.constant_value, declared.typed.Clock.TheVariants.Base}
+use Rattle.rv_types.specs.declared.typed.Kind.TheVariants as kind
+use Rattle.rv_types.specs.Constants as constants
 use Rattle.rv_meaning.specs.Meaning.{is_true, number, is_equal, held, operate}
-use Rattle.rv_meaning.specs.Runs.{Instant, cell}
-use Rattle.rv_meaning.specs.Instants.{State, now, form_now, trues_now}
-use Rattle.rv_base.specs.Limits.{heaviest, too_heavy}
+use Rattle.rv_meaning.specs.{Runs.Instant, Runs.cell, Instants.State, Instants.now, Instants.form_now, Instants.trues_now}
 use Rattle.rv_instances.specs.Weights.{constant_size, weight, form_weight}
 use Rattle.rv_flatten.proofs.Standing.{Stands, as_child, of_not, of_minus, of_left, of_right, of_condition, of_first, of_second, of_operand}
 use Rattle.rv_flat.proofs.TypedParts.{IsTyped, not_typed, minus_typed, binary_typed, if_typed, most_typed}

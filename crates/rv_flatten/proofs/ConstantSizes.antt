@@ -1,26 +1,19 @@
 -- What a constant expression counts as is no larger than its weight.
 use Rattle.std.proofs.Common.{◌≡◌, ℕ, ◌+◌, ◌*◌, ◌^◌, ◌≤◌, ◌<◌, max, Bool, true, false, cond, nat_le, ℤ, pos, ◌+ℤ◌, ◌-ℤ◌, ◌*ℤ◌, neg_ℤ, nat_abs, refl, arith}
-use Rattle.std.proofs.Common.{List, [], ◌∷◌, reverse, Option, Some}
-use Rattle.std.proofs.Common.{None as Nothing}
-use Rattle.std.proofs.lemmas.List.Elements.{All-nil, All-push}
+use Rattle.std.proofs.Common.{List, [], ◌∷◌, reverse, Option, Some, None as Nothing}
+use Rattle.std.proofs.{lemmas.List.Elements.All-nil, lemmas.List.Elements.All-push, lemmas.Int.ints, lemmas.Bool.Decides.nat_tests}
 use Rattle.std.specs.List.{All}
-use Rattle.std.proofs.lemmas.Int.{ints}
-use Rattle.std.proofs.lemmas.Bool.Decides.{nat_tests}
-use Rattle.rv_base.specs.declared.value.Value.{Value}
-use Rattle.rv_base.specs.declared.value.Value.TheVariants.{Flag, Whole}
+use Rattle.rv_base.specs.{declared.value.Value.Value, declared.value.Value.TheVariants.Flag, declared.value.Value.TheVariants.Whole, Limits.heaviest}
+use Rattle.rv_base.specs.{Limits.too_heavy}
 use Rattle.rv_base.specs.declared.value.Value.TheVariants as value
-use Rattle.rv_tree.specs.declared.tree.Op.{Op}
-use Rattle.rv_tree.specs.declared.tree.Op.TheVariants as op
 use Rattle.rv_tree.specs.Tree.{Tree, Node, Form, True, False, Number, Named, Not, Minus, Pre, Current, When, Binary, If, AtMostOne, Call, ConstantTree}
 use Rattle.rv_tree.specs.Tree.{ProgramTree}
-use Rattle.rv_base.specs.Limits.{heaviest, too_heavy}
-use Rattle.rv_tree.specs.Places.{Identifier, is_same}
-use Rattle.rv_types.specs.Kinds.{LabelPlace, label_of}
-use Rattle.rv_types.specs.Scopes.{constant_value_after, constant_values_of, constant_values}
-use Rattle.rv_flatten.specs.Literals.{IsSmallValue}
+use Rattle.rv_tree.specs.{declared.tree.Op.Op, Places.Identifier, Places.is_same}
+use Rattle.rv_tree.specs.declared.tree.Op.TheVariants as op
 use Rattle.rv_types.specs.Constants.{flag_in, whole_in, counted, counted_part, value_under, weight_under, value_of, form_value, weight_of, form_weight}
-use Rattle.rv_types.proofs.ConstantValues.{chosen_small, negated_small}
-use Rattle.rv_types.proofs.Weights.{difference_small, product_small, sum_small}
+use Rattle.rv_types.specs.{Kinds.LabelPlace, Kinds.label_of, Scopes.constant_value_after, Scopes.constant_values_of, Scopes.constant_values}
+use Rattle.rv_flatten.specs.Literals.{IsSmallValue}
+use Rattle.rv_types.proofs.{ConstantValues.chosen_small, ConstantValues.negated_small, Weights.difference_small, Weights.product_small, Weights.sum_small}
 
 -- what counts is no larger
 counted_size : (m : ℕ) (z : ℤ) → nat_abs z ≤ m → nat_abs (whole_in (counted m z)) ≤ m

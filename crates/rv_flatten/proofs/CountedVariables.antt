@@ -1,40 +1,25 @@
 -- A program has no more diagram variables than are counted.
 use Rattle.std.proofs.Common.{◌≡◌, ◌⊎◌, inl, inr, ℕ, zero, suc, ◌+◌, ◌*◌, ◌<◌, ◌≤◌, Bool, true, false, ◌&&◌, ◌||◌, cond, nat_eq, List, [], ◌∷◌, ◌++◌, map}
 use Rattle.std.proofs.Common.{flat_map, length, get_or, refl, sym, ◌∙◌, ap, subst, arith, Option, Some, length-append, None as Nothing}
-use Rattle.std.specs.Prelude.{nat_le}
-use Rattle.std.proofs.lemmas.Bool.{cases_order, le-leb}
-use Rattle.std.proofs.lemmas.Bool.Decides.{nat_tests}
-use Rattle.std.proofs.lemmas.List.{length-map, get_or_default}
 use Rattle.std.proofs.lemmas.List.Elements.{Contains-append_left, Contains-append_right, Contains-append_cases}
-use Rattle.std.specs.List.{Contains}
-use Rattle.rv_tree.specs.declared.tree.Op.{Op}
+use Rattle.std.proofs.{lemmas.Bool.cases_order, lemmas.Bool.le-leb, lemmas.Bool.Decides.nat_tests, lemmas.List.length-map, lemmas.List.get_or_default}
+use Rattle.std.specs.{Prelude.nat_le, List.Contains}
+use Rattle.rv_tree.specs.{declared.tree.Op.Op, declared.tree.TypeDecl.TypeDecl, Tree.Tree, Tree.Node, Tree.Form, Tree.Binary, Tree.NodeTree, Tree.ProgramTree}
+use Rattle.rv_tree.specs.{Places.Identifier, Places.Sites, Places.memory_site, Delays.Delay, Delays.node_delays}
 use Rattle.rv_tree.specs.declared.tree.Op.TheVariants as op
-use Rattle.rv_tree.specs.declared.tree.TypeDecl.{TypeDecl}
-use Rattle.rv_tree.specs.Tree.{Tree, Node, Form, Binary, NodeTree, ProgramTree}
-use Rattle.rv_tree.specs.Places.{Identifier, Sites, memory_site}
-use Rattle.rv_tree.specs.Delays.{Delay, node_delays}
-use Rattle.rv_types.specs.declared.typed.Kind.{Kind}
-use Rattle.rv_types.specs.declared.typed.Clock.TheVariants.{Base}
-use Rattle.rv_types.specs.Kinds.{decl_kinds}
-use Rattle.rv_types.specs.Names.{labels_of, texts}
-use Rattle.rv_types.specs.Values.{label_count, operand_kind}
 use Rattle.rv_types.specs.Instances.{Instance, IsInstance, all_instances, clock_in, node_of}
 use Rattle.rv_types.specs.Lists.{AreRising, AreTicks, AreMemories, AreComparisons, AreVariables, IsAny, MemoryAt, ComparisonAt, Compares, Variable, MainTick}
 use Rattle.rv_types.specs.Lists.{Tick, Kept, Input, Test, bits, with_copies, memory_variables, input_variables, test_variables, sides_of, memory_places}
 use Rattle.rv_types.specs.Lists.{memory_at}
-use Rattle.rv_types.specs.Needs.{IsBefore}
 use Rattle.rv_types.specs.Variables.{total, is_integer, is_in, memories, memories_beside, node_parts, kind_bits, memory_bits, tests_of, own_tests, order_tests}
 use Rattle.rv_types.specs.Variables.{is_arrow, arrow_clocks, same_place, is_place_in, different, over_instances, ticks, variable_count}
+use Rattle.rv_types.specs.{declared.typed.Kind.Kind, declared.typed.Clock.TheVariants.Base, Kinds.decl_kinds, Names.labels_of, Names.texts, Values.label_count}
+use Rattle.rv_types.specs.{Values.operand_kind, Needs.IsBefore}
 use Rattle.rv_instances.specs.Counts.{integer_memories}
-use Rattle.rv_flat.specs.declared.parts.Bit.{Bit}
-use Rattle.rv_flat.specs.declared.parts.FlatMemory.{FlatMemory}
-use Rattle.rv_flat.specs.Facts.{all_few, integers}
-use Rattle.rv_flat.specs.Lists.{variable_of}
-use Rattle.rv_flat.specs.Systems.{memory_of}
+use Rattle.rv_flat.specs.{declared.parts.Bit.Bit, declared.parts.FlatMemory.FlatMemory, Facts.all_few, Facts.integers, Lists.variable_of, Systems.memory_of}
 use Rattle.rv_flat.proofs.Earliest.{not_itself}
-use Rattle.rv_types.proofs.Members.{at_head, cons_cases, in_flat_map, in_map, in_tail, nothing_in}
+use Rattle.rv_types.proofs.{Members.at_head, Members.cons_cases, Members.in_flat_map, Members.in_map, Members.in_tail, Members.nothing_in, ChainLaws.no_flag}
 use Rattle.rv_base.proofs.Truths.{both_of}
-use Rattle.rv_types.proofs.ChainLaws.{no_flag}
 
 -- Sums.
 

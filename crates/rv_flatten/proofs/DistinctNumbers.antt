@@ -1,15 +1,11 @@
 -- The numbers of a sorted list, each once.
 use Rattle.std.proofs.Common.{◌≡◌, ◌⊎◌, inl, inr, ℕ, zero, suc, ◌+◌, ◌-◌, ◌<◌, ◌≤◌, ℤ, pos, ◌<ℤ◌, ◌≤ℤ◌, Bool, true, false, cond, List, [], ◌∷◌, ◌++◌, length}
 use Rattle.std.proofs.Common.{get_or, take, slice_get, nat_eq, SFits, to_z, of_z, refl, sym, ◌∙◌, ap, subst, arith, Some}
-use Rattle.std.proofs.lemmas.Bool.{cases_order, eqb-true, eq-eqb}
-use Rattle.std.proofs.lemmas.Int.{ints, by_lt_z, to_z-of_z}
 use Rattle.std.proofs.lemmas.List.{take_more, length_push, get_or_push, get_or_append_left, get_or_default, take_all}
-use Rattle.std.proofs.lemmas.List.Elements.{Contains-append_left, Contains-push, Contains-push_cases}
-use Rattle.std.proofs.lemmas.Option.{none-some, same_Some}
-use Rattle.std.specs.Int.{w128}
-use Rattle.std.specs.List.{Contains}
-use Rattle.std.specs.List.Sorted.{IsSorted}
-use Rattle.std.specs.Ordering.{int_cmp, int_eq, is_lt}
+use Rattle.std.proofs.{lemmas.Bool.cases_order, lemmas.Bool.eqb-true, lemmas.Bool.eq-eqb, lemmas.Int.ints, lemmas.Int.by_lt_z, lemmas.Int.to_z-of_z}
+use Rattle.std.proofs.{lemmas.List.Elements.Contains-append_left, lemmas.List.Elements.Contains-push, lemmas.List.Elements.Contains-push_cases}
+use Rattle.std.proofs.{lemmas.Option.none-some, lemmas.Option.same_Some}
+use Rattle.std.specs.{Int.w128, List.Contains, List.Sorted.IsSorted, Ordering.int_cmp, Ordering.int_eq, Ordering.is_lt}
 use Rattle.rv_flatten.specs.Literals.{is_last, with_new, IsDistinctOf}
 use Rattle.rv_types.proofs.ChainLaws.{no_flag}
 

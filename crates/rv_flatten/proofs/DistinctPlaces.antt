@@ -1,16 +1,12 @@
 -- The ticks and the memories of a system that is read from its program have different places.
 use Rattle.std.proofs.Common.{◌≡◌, Bool, true, false, not, ◌&&◌, ◌||◌, List, [], ◌∷◌, map, get_or, refl, sym, ◌∙◌, ap, subst, arith, Option, Some}
 use Rattle.std.proofs.Common.{None as Nothing}
-use Rattle.std.proofs.lemmas.List.{get_or_default}
-use Rattle.std.proofs.lemmas.Simd.{map-map}
+use Rattle.std.proofs.{lemmas.List.get_or_default, lemmas.Simd.map-map}
 use Rattle.std.specs.List.{Contains}
-use Rattle.rv_tree.specs.Tree.{ProgramTree}
-use Rattle.rv_tree.specs.Places.{Identifier, Sites}
-use Rattle.rv_types.specs.Lists.{AreRising, MemoryAt}
-use Rattle.rv_types.specs.Needs.{IsBefore}
+use Rattle.rv_tree.specs.{Tree.ProgramTree, Places.Identifier, Places.Sites}
+use Rattle.rv_types.specs.{Lists.AreRising, Lists.MemoryAt, Needs.IsBefore}
 use Rattle.rv_agreement.specs.Checks.{same_sites, same_flow, is_among, are_distinct}
-use Rattle.rv_agreement.specs.Translation.{Numbers, IsTranslated}
-use Rattle.rv_agreement.specs.Trees.{Kept, System, memory_places}
+use Rattle.rv_agreement.specs.{Translation.Numbers, Translation.IsTranslated, Trees.Kept, Trees.System, Trees.memory_places}
 use Rattle.rv_flatten.proofs.Apart.{IsApart, apart_told, apart_by, apart_map}
 use Rattle.rv_flat.proofs.Earliest.{not_itself}
 use Rattle.rv_agreement.proofs.Chosen.{flow_told, sites_told}

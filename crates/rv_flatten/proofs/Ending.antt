@@ -1,41 +1,23 @@
 -- What the memories of a flat system show ends: a memory shows only such as take less of the source.
 use Rattle.std.proofs.Common.{◌≡◌, inl, inr, ℕ, zero, suc, ◌+◌, ◌<◌, ◌≤◌, ℤ, Bool, true, false, cond, nat_lt, List, [], ◌∷◌, ◌++◌, map, length, slice_get}
-use Rattle.std.proofs.Common.{slice_index_or, refl, sym, ◌∙◌, ap, subst, arith, Option, Some}
-use Rattle.std.proofs.Common.{None as Nothing}
-use Rattle.std.proofs.lemmas.Bool.{cases_order}
-use Rattle.std.proofs.lemmas.Bool.Decides.{nat_tests}
-use Rattle.std.proofs.lemmas.List.{length-map, get_or-map}
+use Rattle.std.proofs.Common.{slice_index_or, refl, sym, ◌∙◌, ap, subst, arith, Option, Some, None as Nothing}
 use Rattle.std.proofs.lemmas.List.Elements.{Contains-append_left, Contains-append_right, Contains-append_cases}
-use Rattle.std.proofs.lemmas.Option.{slice_get_within, get_or_from_slice_get}
-use Rattle.std.proofs.lemmas.Simd.{map-map}
+use Rattle.std.proofs.{lemmas.Bool.cases_order, lemmas.Bool.and_from, lemmas.Bool.Decides.nat_tests, lemmas.List.length-map, lemmas.List.get_or-map}
+use Rattle.std.proofs.{lemmas.Option.slice_get_within, lemmas.Option.get_or_from_slice_get, lemmas.Simd.map-map}
 use Rattle.std.specs.List.{Contains}
-use Rattle.rv_tree.specs.declared.tree.Op.{Op}
+use Rattle.rv_tree.specs.{declared.tree.Op.Op, Tree.Tree, Tree.Form, Tree.Trees, Tree.ProgramTree, Places.Identifier, Places.Sites, Places.is_flow}
+use Rattle.rv_tree.specs.{Places.index_of, Delays.Delay, Delays.delays, Delays.form_delays, Delays.delays_of_all, Delays.node_delays}
 use Rattle.rv_tree.specs.declared.tree.Op.TheVariants as op
 use Rattle.rv_tree.specs.Tree as tree
-use Rattle.rv_tree.specs.Tree.{Tree, Form, Trees, ProgramTree}
-use Rattle.rv_tree.specs.Places.{Identifier, Sites, is_flow, index_of}
-use Rattle.rv_tree.specs.Delays.{Delay, delays, form_delays, delays_of_all, node_delays}
 use Rattle.rv_types.specs.Instances.{Instance, IsInstance, IsNode}
-use Rattle.rv_types.specs.Lists.{delay_place, memory_at}
-use Rattle.rv_types.specs.Scopes.{node_scope}
-use Rattle.rv_types.specs.Types.{is_constant}
-use Rattle.rv_types.specs.WellFormed.{AreWell}
-use Rattle.rv_agreement.specs.Programs.{coefficient}
-use Rattle.rv_agreement.specs.Translation.{Numbers}
-use Rattle.rv_flat.specs.declared.parts.Bit.{Bit}
-use Rattle.rv_flat.specs.declared.parts.FlatExpr.{FlatExpr}
-use Rattle.rv_flat.specs.declared.parts.FlatFlow.{FlatFlow}
-use Rattle.rv_flat.specs.declared.parts.FlatInput.{FlatInput}
-use Rattle.rv_flat.specs.declared.parts.FlatMemory.{FlatMemory}
-use Rattle.rv_flat.specs.Inlined.{all_end, ends_within, shown_ends}
-use Rattle.rv_flat.specs.RawTree.{RawTree, RawForm, raw_tree, all_shown, form_all_shown, each_all_shown}
+use Rattle.rv_types.specs.{Lists.delay_place, Lists.memory_at, Scopes.node_scope, Types.is_constant, WellFormed.AreWell}
+use Rattle.rv_agreement.specs.{Programs.coefficient, Translation.Numbers}
+use Rattle.rv_flat.specs.{declared.parts.Bit.Bit, declared.parts.FlatExpr.FlatExpr, declared.parts.FlatFlow.FlatFlow, declared.parts.FlatInput.FlatInput}
+use Rattle.rv_flat.specs.{declared.parts.FlatMemory.FlatMemory, Inlined.all_end, Inlined.ends_within, Inlined.shown_ends, RawTree.RawTree, RawTree.RawForm}
+use Rattle.rv_flat.specs.{RawTree.raw_tree, RawTree.all_shown, RawTree.form_all_shown, RawTree.each_all_shown, Systems.memory_of, Systems.memory_places_of}
 use Rattle.rv_flatten.specs.Readings.{RawItem, no_raw, raw_memory, raw_of, raw_form, raws_of, numbers_of, operator, product, IsRead}
-use Rattle.rv_flat.specs.Systems.{memory_of, memory_places_of}
-use Rattle.rv_flatten.proofs.OnePlace.{one_of_place}
-use Rattle.rv_flatten.proofs.Standing.{delays_in, operand_stands}
-use Rattle.rv_types.proofs.Members.{among_from, at_head, cons_cases, in_map, index_there, nothing_in}
-use Rattle.rv_types.proofs.ChainLaws.{no_flag}
-use Rattle.std.proofs.lemmas.Bool.{and_from}
+use Rattle.rv_flatten.proofs.{OnePlace.one_of_place, Standing.delays_in, Standing.operand_stands}
+use Rattle.rv_types.proofs.{Members.among_from, Members.at_head, Members.cons_cases, Members.in_map, Members.index_there, Members.nothing_in, ChainLaws.no_flag}
 
 -- How many expressions an expression is made of.
 abbrev mutual

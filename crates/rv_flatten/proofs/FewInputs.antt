@@ -1,11 +1,7 @@
 -- A node has no more inputs than a source has bytes.
-use Rattle.std.proofs.Common.{◌≤◌, ◌++◌, length, length-append, arith}
-use Rattle.std.proofs.lemmas.List.{length-map}
+use Rattle.std.proofs.{Common.◌≤◌, Common.◌++◌, Common.length, Common.length-append, Common.arith, lemmas.List.length-map}
 use Rattle.std.specs.List.{Contains}
-use Rattle.rv_tree.specs.Bounded.{IsBounded, most}
-use Rattle.rv_tree.specs.Tree.{NodeTree, ProgramTree}
-use Rattle.rv_tree.specs.Places.{names}
-use Rattle.rv_tree.specs.declared.tree.Decl.{Decl}
+use Rattle.rv_tree.specs.{Bounded.IsBounded, Bounded.most, Tree.NodeTree, Tree.ProgramTree, Places.names, declared.tree.Decl.Decl}
 use Rattle.rv_types.specs.Kinds.{decl_kinds, kind_in_program}
 
 pub few_inputs : (p : ProgramTree) → IsBounded p → (n : NodeTree) → Contains p.nodes n → length (decl_kinds p n.inputs) ≤ most

@@ -1,20 +1,15 @@
 -- A program that is accepted has few memories: no more than expressions in all its instances.
 use Rattle.std.proofs.Common.{◌≡◌, ℕ, ◌+◌, ◌≤◌, List, [], ◌∷◌, ◌++◌, map, flat_map, length, get_or, refl, sym, ◌∙◌, ap, subst, arith, Option, length-append}
-use Rattle.std.proofs.lemmas.Bool.Decides.{Decides-eqb}
-use Rattle.std.proofs.lemmas.Cmp.{nat_list_eq_equiv}
 use Rattle.std.proofs.lemmas.List.{get_or_default, length-map}
 use Rattle.std.proofs.lemmas.Map.Made.{length-le_from_is_member, is_member-Decides, IsDistinct-from_AllPairs}
-use Rattle.std.proofs.lemmas.Slice.Eq.{slice_eq-Decides}
-use Rattle.std.specs.Bool.{Decides}
-use Rattle.std.specs.List.{AllPairs, Contains}
+use Rattle.std.proofs.{lemmas.Bool.Decides.Decides-eqb, lemmas.Cmp.nat_list_eq_equiv, lemmas.Slice.Eq.slice_eq-Decides}
+use Rattle.std.specs.{Bool.Decides, List.AllPairs, List.Contains}
 use Rattle.rv_tree.specs.Tree.{Tree, Node, Form, True, False, Number, Named, Not, Minus, Pre, Current, When, Binary, If, AtMostOne, Call, Trees, None, More}
 use Rattle.rv_tree.specs.Tree.{EquationTree, AssertionTree, NodeTree, ProgramTree}
 use Rattle.rv_tree.specs.Places.{Identifier, Sites, is_same}
 use Rattle.rv_tree.specs.Delays.{delays, form_delays, delays_of_all, delays_in_equations, delays_in_assertions, node_delays}
-use Rattle.rv_types.specs.Instances.{Instance, IsInstance, all_instances}
 use Rattle.rv_types.specs.Lists.{AreRising, AreMemories, IsAny, MemoryAt, memory_places, delay_place}
-use Rattle.rv_types.specs.Needs.{IsBefore}
-use Rattle.rv_types.specs.Variables.{total}
+use Rattle.rv_types.specs.{Instances.Instance, Instances.IsInstance, Instances.all_instances, Needs.IsBefore, Variables.total}
 use Rattle.rv_instances.specs.Counts.{size, form_size, size_of_all, node_size, expanded}
 use Rattle.rv_flat.proofs.Earliest.{not_itself}
 use Rattle.rv_types.proofs.Members.{in_flat_map, in_map}

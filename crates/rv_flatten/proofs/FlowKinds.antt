@@ -1,27 +1,18 @@
 -- The flows that clocks, names and calls of an instance stand for, with their types.
 use Rattle.std.proofs.Common.{◌≡◌, ℕ, zero, suc, ◌+◌, ◌<◌, List, [], ◌∷◌, ◌++◌, map, length, get_or, slice_get, sym, ◌∙◌, ap, subst, arith, append_assoc}
-use Rattle.std.proofs.Common.{unwrap_or, length-append, Option, Some}
-use Rattle.std.proofs.Common.{None as Nothing}
+use Rattle.std.proofs.Common.{unwrap_or, length-append, Option, Some, None as Nothing}
 use Rattle.std.proofs.lemmas.List.{length-map, map-append, get_or_default}
 use Rattle.std.proofs.lemmas.Option.{none-some, same_Some, slice_get_within}
-use Rattle.std.specs.Option.{option_map}
-use Rattle.std.specs.List.{Contains}
-use Rattle.rv_tree.specs.declared.tree.Decl.{Decl}
-use Rattle.rv_tree.specs.Tree.{NodeTree, ProgramTree}
-use Rattle.rv_tree.specs.Places.{Identifier, Sites, flows, site_of}
-use Rattle.rv_types.specs.declared.typed.Kind.{Kind}
-use Rattle.rv_types.specs.declared.typed.Kind.TheVariants as kind
-use Rattle.rv_types.specs.declared.typed.Clock.{Clock}
-use Rattle.rv_types.specs.declared.typed.Clock.TheVariants.{Base, On}
+use Rattle.std.specs.{Option.option_map, List.Contains}
+use Rattle.rv_tree.specs.{declared.tree.Decl.Decl, Tree.NodeTree, Tree.ProgramTree, Places.Identifier, Places.Sites, Places.flows, Places.site_of}
 use Rattle.rv_types.specs.Kinds.{kind_in_program, decl_kinds, flow_kinds, flow_kind, node_named}
-use Rattle.rv_types.specs.Types.{Signature}
-use Rattle.rv_types.specs.Scopes.{signature_of, signature_named}
 use Rattle.rv_types.specs.Instances.{CallTree, calls, Instance, place, absolute, clock_of_args, callee, main_instance, node_of, output_place, IsInstance}
 use Rattle.rv_types.specs.Instances.{is_main, is_callee, IsFlow, IsNode, no_node}
-use Rattle.rv_types.specs.WellFormed.{AreWell}
+use Rattle.rv_types.specs.{declared.typed.Kind.Kind, declared.typed.Clock.Clock, declared.typed.Clock.TheVariants.Base, declared.typed.Clock.TheVariants.On}
+use Rattle.rv_types.specs.{Types.Signature, Scopes.signature_of, Scopes.signature_named, WellFormed.AreWell}
+use Rattle.rv_types.specs.declared.typed.Kind.TheVariants as kind
 use Rattle.rv_flat.proofs.PlaceNumbers.{its_number}
-use Rattle.rv_flatten.proofs.ClockKinds.{IsTrueClock, clock_taken, paces_are_true}
-use Rattle.rv_flatten.proofs.WellInstances.{formed, typed}
+use Rattle.rv_flatten.proofs.{ClockKinds.IsTrueClock, ClockKinds.clock_taken, ClockKinds.paces_are_true, WellInstances.formed, WellInstances.typed}
 
 -- a flow of a type stands at the place
 pub record HasFlow (program : ProgramTree) (main : Identifier) (q : Sites) (k : Kind) : Type 0 where

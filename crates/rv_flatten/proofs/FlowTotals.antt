@@ -1,19 +1,10 @@
 -- Where the flows of instances begin, and how many there are.
-use Rattle.std.proofs.Common.{◌≡◌, inl, inr, ℕ, suc, ◌+◌, ◌<◌, ◌≤◌, ◌^◌, List, [], length, get_or, slice_get, Some, sym, ◌∙◌, ap}
-use Rattle.std.proofs.Common.{subst, arith}
-use Rattle.std.proofs.lemmas.Bool.{cases_order}
-use Rattle.std.proofs.lemmas.List.{get_or_past}
-use Rattle.std.proofs.lemmas.List.Elements.{Contains-get_or}
-use Rattle.std.proofs.lemmas.Option.{get_or_from_slice_get}
-use Rattle.rv_tree.specs.Tree.{NodeTree, ProgramTree}
-use Rattle.rv_tree.specs.Bounded.{IsBounded, most}
-use Rattle.rv_tree.specs.Places.{Identifier, flows}
+use Rattle.std.proofs.Common.{◌≡◌, inl, inr, ℕ, suc, ◌+◌, ◌<◌, ◌≤◌, ◌^◌, List, [], length, get_or, slice_get, Some, sym, ◌∙◌, ap, subst, arith}
+use Rattle.std.proofs.{lemmas.Bool.cases_order, lemmas.List.get_or_past, lemmas.List.Elements.Contains-get_or, lemmas.Option.get_or_from_slice_get}
+use Rattle.rv_tree.specs.{Tree.NodeTree, Tree.ProgramTree, Bounded.IsBounded, Bounded.most, Places.Identifier, Places.flows}
 use Rattle.rv_types.specs.Instances.{no_node, main_instance, is_main}
-use Rattle.rv_instances.specs.declared.answer.Instance.{Instance as Numbered}
-use Rattle.rv_instances.specs.declared.layout.Laid.{Laid}
-use Rattle.rv_instances.specs.Expanded.{IsExpanded}
-use Rattle.rv_instances.specs.Flowing.{flow_count}
 use Rattle.rv_instances.specs.Layouts.{flows_before, all_laid, all_places}
+use Rattle.rv_instances.specs.{declared.answer.Instance.Instance as Numbered, declared.layout.Laid.Laid, Expanded.IsExpanded, Flowing.flow_count}
 use Rattle.rv_instances.proofs.LaidFlows.{few_before, laid_is, places_size}
 
 -- the flows of a node are few

@@ -1,15 +1,9 @@
 -- The numbers of flows, ticks and memories, where what was looked at is a list read.
 use Rattle.std.proofs.Common.{◌≡◌, ℕ, ◌+◌, ◌<◌, List, [], ◌∷◌, map, length, Some, slice_index_or, refl, sym, ◌∙◌, ap, subst}
 use Rattle.std.specs.List.{Contains}
-use Rattle.rv_tree.specs.Tree.{ProgramTree}
-use Rattle.rv_tree.specs.Places.{Identifier, Sites, index_of, memory_site}
-use Rattle.rv_tree.specs.Delays.{Delay, node_delays}
-use Rattle.rv_types.specs.Instances.{Instance, IsInstance}
-use Rattle.rv_types.specs.Lists.{AreRising, delay_place}
-use Rattle.rv_instances.specs.declared.answer.Instance.{Instance as Numbered}
-use Rattle.rv_instances.specs.Callees.{callee_in}
-use Rattle.rv_instances.specs.Flowing.{place_at}
-use Rattle.rv_instances.specs.Layouts.{IsNumberOf}
+use Rattle.rv_tree.specs.{Tree.ProgramTree, Places.Identifier, Places.Sites, Places.index_of, Places.memory_site, Delays.Delay, Delays.node_delays}
+use Rattle.rv_types.specs.{Instances.Instance, Instances.IsInstance, Lists.AreRising, Lists.delay_place}
+use Rattle.rv_instances.specs.{declared.answer.Instance.Instance as Numbered, Callees.callee_in, Flowing.place_at, Layouts.IsNumberOf}
 use Rattle.rv_flatten.specs.declared.kept.Kept.{Kept}
 use Rattle.rv_flat.specs.Facts.{numbers_among}
 use Rattle.rv_types.proofs.Members.{at_head, in_tail}

@@ -1,13 +1,7 @@
 -- What fits is known under other names.
 use Rattle.std.proofs.Common.{◌≡◌, List, [], get_or, sym, ◌∙◌, ap, subst}
-use Rattle.rv_tree.specs.declared.tree.Name.{Name}
-use Rattle.rv_tree.specs.Tree.{NodeTree, ProgramTree}
-use Rattle.rv_tree.specs.Places.{Identifier, Sites}
-use Rattle.rv_types.specs.declared.typed.Typed.{Typed}
-use Rattle.rv_types.specs.Instances.{no_node, name_at}
-use Rattle.rv_types.specs.Names.{texts, node_names}
-use Rattle.rv_types.specs.Needs.{IsSequence}
-use Rattle.rv_types.specs.Settled.{IsSettled}
+use Rattle.rv_tree.specs.{declared.tree.Name.Name, Tree.NodeTree, Tree.ProgramTree, Places.Identifier, Places.Sites}
+use Rattle.rv_types.specs.{declared.typed.Typed.Typed, Instances.no_node, Instances.name_at, Names.texts, Names.node_names, Needs.IsSequence, Settled.IsSettled}
 use Rattle.rv_instances.specs.Weights.{AreLight}
 use Rattle.rv_flatten.proofs.InstanceNumbers.{made_of}
 use Rattle.rv_types.proofs.Members.{index_there}

@@ -1,32 +1,22 @@
 -- The instances of an expanded program by their numbers, and what is found of them, one after the other.
 use Rattle.std.proofs.Common.{◌≡◌, inl, inr, ℕ, zero, suc, ◌+◌, ◌<◌, Bool, true, false, ◌||◌, cond, List, [], ◌∷◌, ◌++◌, map, flat_map, length, get_or, refl}
 use Rattle.std.proofs.Common.{sym, ◌∙◌, ap, subst, arith, unwrap_or, Some, IsSome, length-append}
-use Rattle.std.proofs.lemmas.Bool.{cases_order}
-use Rattle.std.proofs.lemmas.List.{get_or_default, length-map}
 use Rattle.std.proofs.lemmas.List.Elements.{Contains-append_left, Contains-append_right, Contains-append_cases, Contains-get_or}
+use Rattle.std.proofs.{lemmas.Bool.cases_order, lemmas.List.get_or_default, lemmas.List.length-map}
 use Rattle.std.specs.List.{Contains}
-use Rattle.rv_tree.specs.Tree.{NodeTree, ProgramTree}
-use Rattle.rv_tree.specs.Places.{Identifier, is_same, is_among, index_of}
-use Rattle.rv_types.specs.Kinds.{node_among}
+use Rattle.rv_tree.specs.{Tree.NodeTree, Tree.ProgramTree, Places.Identifier, Places.is_same, Places.is_among, Places.index_of}
 use Rattle.rv_types.specs.Instances.{calls, Instance, no_node, callee, IsInstance, is_main, is_callee, IsNode}
 use Rattle.rv_types.specs.Names.{texts, decls, decl_names, lefts, repeated, repeated_values, node_names, type_names, alias_use, constant_uses, names_in_node}
 use Rattle.rv_types.specs.Names.{name_faults, undefined_unless, flow_use, clock_use, equation_uses, assertion_uses}
-use Rattle.rv_types.specs.Needs.{IsBefore}
-use Rattle.rv_types.specs.Settled.{node_number}
-use Rattle.rv_instances.specs.declared.answer.Instance.{Instance as Numbered}
-use Rattle.rv_instances.specs.AllInstances.{numbered}
-use Rattle.rv_instances.specs.Expanded.{IsExpanded, no_instance}
-use Rattle.rv_instances.specs.Layouts.{node_at, path_at}
+use Rattle.rv_types.specs.{Kinds.node_among, Needs.IsBefore, Settled.node_number}
+use Rattle.rv_instances.specs.{declared.answer.Instance.Instance as Numbered, AllInstances.numbered, Expanded.IsExpanded, Expanded.no_instance, Layouts.node_at}
+use Rattle.rv_instances.specs.{Layouts.path_at}
 use Rattle.rv_flatten.specs.NodeReaders.{lists_to}
 use Rattle.rv_flat.proofs.Earliest.{not_itself}
 use Rattle.rv_flatten.proofs.WellInstances as well
-use Rattle.rv_instances.proofs.FlowPlaces.{snoc_parts}
-use Rattle.rv_instances.proofs.Known.{each_nil}
+use Rattle.rv_instances.proofs.{FlowPlaces.snoc_parts, Known.each_nil}
 use Rattle.rv_meaning.proofs.NameLemmas.{same_text}
-use Rattle.rv_types.proofs.Members.{among_from, in_map, index_there}
-use Rattle.rv_types.proofs.Members.{nothing_in}
-use Rattle.rv_types.proofs.RightNames.{both_empty}
-use Rattle.rv_types.proofs.ChainLaws.{no_flag}
+use Rattle.rv_types.proofs.{Members.among_from, Members.in_map, Members.index_there, Members.nothing_in, RightNames.both_empty, ChainLaws.no_flag}
 
 -- Lists.
 

@@ -1,20 +1,15 @@
 -- The item of a flow of an instance is on the clock of the flow.
 use Rattle.std.proofs.Common.{◌≡◌, ℕ, zero, suc, ◌+◌, ◌<◌, List, [], ◌∷◌, ◌++◌, map, length, get_or, slice_get, refl, sym, ◌∙◌, ap, subst, arith, append_assoc}
 use Rattle.std.proofs.Common.{length-append, Some}
-use Rattle.std.proofs.lemmas.List.{length-map, get_or_default, get_or_append_left}
-use Rattle.std.proofs.lemmas.Option.{slice_get_within}
+use Rattle.std.proofs.{lemmas.List.length-map, lemmas.List.get_or_default, lemmas.List.get_or_append_left, lemmas.Option.slice_get_within}
 use Rattle.std.specs.List.{Contains}
-use Rattle.rv_tree.specs.declared.tree.Decl.{Decl}
-use Rattle.rv_tree.specs.Tree.{NodeTree, ProgramTree}
 use Rattle.rv_tree.specs.Places.{Identifier, Sites, flows as flows_of, names, site_of, index_of}
-use Rattle.rv_types.specs.declared.typed.Kind.{Kind}
-use Rattle.rv_types.specs.declared.typed.Clock.TheVariants.{Base}
+use Rattle.rv_tree.specs.{declared.tree.Decl.Decl, Tree.NodeTree, Tree.ProgramTree}
 use Rattle.rv_types.specs.Clocks.{base_clock, declared_clock, clock_at, pace}
-use Rattle.rv_types.specs.Kinds.{kind_in_program, decl_kinds}
 use Rattle.rv_types.specs.Instances.{CallTree, calls, Body, Output, Instance, absolute, clock_of, clock_of_arguments, callee, main_instance, node_of}
 use Rattle.rv_types.specs.Instances.{output_place, IsInstance, is_main, is_callee, IsFlow, IsNode}
 use Rattle.rv_types.specs.Needs.{Giver, Gives, given, by_equation, by_call}
-use Rattle.rv_types.specs.WellFormed.{AreWell}
+use Rattle.rv_types.specs.{declared.typed.Kind.Kind, declared.typed.Clock.TheVariants.Base, Kinds.kind_in_program, Kinds.decl_kinds, WellFormed.AreWell}
 use Rattle.rv_agreement.specs.Trees.{System, nth_item}
 use Rattle.rv_agreement.specs.Translation.{Numbers, clock_number, giver_item, IsTranslated, IsClockOf}
 use Rattle.rv_flat.proofs.PlaceNumbers.{its_number}

@@ -2,14 +2,10 @@
 use Rattle.std.proofs.Common.{◌≡◌, ◌+◌, ◌<◌, ℕ, List, [], ◌∷◌, map, drop, length, get_or, refl, ◌∙◌, ap, arith}
 use Rattle.std.proofs.lemmas.List.{drop-drop, get_or-drop}
 use Rattle.std.specs.Prelude.{slice_index_or}
-use Rattle.rv_tree.specs.Delays.{Delay}
-use Rattle.rv_tree.specs.Tree.{NodeTree}
-use Rattle.rv_types.specs.declared.typed.Kind.{Kind}
+use Rattle.rv_tree.specs.{Delays.Delay, Tree.NodeTree}
+use Rattle.rv_types.specs.{declared.typed.Kind.Kind, Delayed.delayed_kinds, Types.Scope}
 use Rattle.rv_types.specs.declared.typed.Kind.TheVariants as kind
-use Rattle.rv_types.specs.Delayed.{delayed_kinds}
-use Rattle.rv_types.specs.Types.{Scope}
-use Rattle.rv_instances.specs.declared.timed.ClockedDelay.{ClockedDelay}
-use Rattle.rv_instances.specs.Timed.{delay_listed, delay_told}
+use Rattle.rv_instances.specs.{declared.timed.ClockedDelay.ClockedDelay, Timed.delay_listed, Timed.delay_told}
 use Rattle.rv_flatten.specs.Remembered.{ReadAt, read_told, read_by, joined, reads}
 use Rattle.rv_base.proofs.Lists.{next_of}
 

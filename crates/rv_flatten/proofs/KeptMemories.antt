@@ -1,22 +1,13 @@
 -- What the `pre` and `current` of all instances read, sorted by places, are the memories of the program.
 use Rattle.std.proofs.Common.{◌≡◌, ℕ, List, [], ◌∷◌, map, length, get_or, refl, sym, ◌∙◌, ap, subst, None as Nothing}
 use Rattle.std.specs.List.{Contains}
-use Rattle.rv_tree.specs.Tree.{Node, Named, ProgramTree}
-use Rattle.rv_tree.specs.Places.{Identifier}
-use Rattle.rv_tree.specs.Delays.{Delay, node_delays}
-use Rattle.rv_types.specs.declared.typed.Kind.{Kind}
-use Rattle.rv_types.specs.Instances.{Instance, no_node, IsInstance}
+use Rattle.rv_tree.specs.{Tree.Node, Tree.Named, Tree.ProgramTree, Places.Identifier, Delays.Delay, Delays.node_delays}
 use Rattle.rv_types.specs.Lists.{AreRising, MemoryAt, memory_at, memory_places, delay_place}
-use Rattle.rv_types.specs.Scopes.{node_scope}
-use Rattle.rv_types.specs.Values.{operand_kind}
-use Rattle.rv_instances.specs.declared.answer.Instance.{Instance as Numbered}
-use Rattle.rv_instances.specs.AllInstances.{numbered}
+use Rattle.rv_types.specs.{declared.typed.Kind.Kind, Instances.Instance, Instances.no_node, Instances.IsInstance, Scopes.node_scope, Values.operand_kind}
 use Rattle.rv_instances.specs.Expanded.{IsExpanded, no_instance}
-use Rattle.rv_instances.specs.Layouts.{IsNumberOf}
-use Rattle.rv_flatten.specs.declared.kept.Kept.{Kept}
-use Rattle.rv_flatten.specs.Kept.{kept_memory, AreKept, IsKept}
-use Rattle.rv_flatten.specs.NodeReaders.{lists_to, AreSortedBy}
+use Rattle.rv_instances.specs.{declared.answer.Instance.Instance as Numbered, AllInstances.numbered, Layouts.IsNumberOf}
 use Rattle.rv_flatten.specs.Remembered.{read_by, reads_in, KeptAt, kept_seen, kept_at, kept_in}
+use Rattle.rv_flatten.specs.{declared.kept.Kept.Kept, Kept.kept_memory, Kept.AreKept, Kept.IsKept, NodeReaders.lists_to, NodeReaders.AreSortedBy}
 use Rattle.rv_flatten.proofs.InstanceNumbers.{in_lists, from_lists, made_of, is_node, instance_at, number_at, path_is, node_is}
 use Rattle.rv_flatten.proofs.OnePlace.{one_of_place}
 use Rattle.rv_types.proofs.Members.{in_map}

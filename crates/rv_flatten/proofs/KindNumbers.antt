@@ -1,36 +1,25 @@
 -- The enumerations that types name are declared, and values of types fit the labels of a flat system.
 use Rattle.std.proofs.Common.{◌≡◌, ℕ, zero, suc, ◌+◌, ◌<◌, Bool, true, false, ◌||◌, cond, nat_lt, List, [], ◌∷◌, map, length, reverse, get_or, slice_get, refl}
-use Rattle.std.proofs.Common.{sym, ◌∙◌, ap, subst, arith, unwrap_or, Option, Some}
-use Rattle.std.proofs.Common.{None as Nothing}
-use Rattle.std.proofs.lemmas.Bool.Decides.{nat_tests}
-use Rattle.std.proofs.lemmas.Bool.{eq-eqb}
-use Rattle.std.proofs.lemmas.List.{length-map, length-reverse}
+use Rattle.std.proofs.Common.{sym, ◌∙◌, ap, subst, arith, unwrap_or, Option, Some, None as Nothing}
 use Rattle.std.proofs.lemmas.Option.{none-some, same_Some, slice_get-map}
+use Rattle.std.proofs.{lemmas.Bool.Decides.nat_tests, lemmas.Bool.eq-eqb, lemmas.List.length-map, lemmas.List.length-reverse}
 use Rattle.std.specs.Option.{option_map}
 use Rattle.rv_base.specs.declared.value.Value.{Value}
 use Rattle.rv_base.specs.declared.value.Value.TheVariants.{Flag, Label, Whole}
-use Rattle.rv_tree.specs.declared.tree.TypeName.{TypeName}
-use Rattle.rv_tree.specs.declared.tree.TypeName.TheVariants as written
-use Rattle.rv_tree.specs.declared.tree.TypeBody.{TypeBody}
-use Rattle.rv_tree.specs.declared.tree.TypeBody.TheVariants as body
-use Rattle.rv_tree.specs.declared.tree.TypeDecl.{TypeDecl}
-use Rattle.rv_tree.specs.declared.tree.Decl.{Decl}
-use Rattle.rv_tree.specs.declared.tree.Op.{Op}
-use Rattle.rv_tree.specs.declared.tree.Op.TheVariants as op
 use Rattle.rv_tree.specs.Tree.{Tree, Node, Form, True, False, Number, Named, Not, Minus, Pre, Current, When, Binary, If, AtMostOne, Call, NodeTree, ProgramTree}
-use Rattle.rv_tree.specs.Places.{Identifier, is_same, is_flow, site_of}
-use Rattle.rv_types.specs.declared.typed.Kind.{Kind}
-use Rattle.rv_types.specs.declared.typed.Kind.TheVariants as kind
-use Rattle.rv_types.specs.declared.fault.Verdict.TheVariants.{Has, Clashes, Multiplies}
-use Rattle.rv_types.specs.Names.{decls, labels_of, texts}
+use Rattle.rv_tree.specs.{declared.tree.TypeName.TypeName, declared.tree.TypeBody.TypeBody, declared.tree.TypeDecl.TypeDecl, declared.tree.Decl.Decl}
+use Rattle.rv_tree.specs.{declared.tree.Op.Op, Places.Identifier, Places.is_same, Places.is_flow, Places.site_of}
+use Rattle.rv_tree.specs.declared.tree.TypeName.TheVariants as written
+use Rattle.rv_tree.specs.declared.tree.TypeBody.TheVariants as body
+use Rattle.rv_tree.specs.declared.tree.Op.TheVariants as op
 use Rattle.rv_types.specs.Kinds.{written_kind, declared_kind, kind_after, kind_in_program, decl_kinds, flow_kind}
 use Rattle.rv_types.specs.Types.{kind_in, same_kind, both_are, one_of, binary_rule}
-use Rattle.rv_types.specs.Scopes.{value_kind, constant_kind, constant_value}
-use Rattle.rv_types.specs.Values.{HasKind, labels_at}
-use Rattle.rv_types.specs.WellFormed.{AreWell}
+use Rattle.rv_types.specs.{declared.typed.Kind.Kind, declared.fault.Verdict.TheVariants.Has, declared.fault.Verdict.TheVariants.Clashes}
+use Rattle.rv_types.specs.{declared.fault.Verdict.TheVariants.Multiplies, Names.decls, Names.labels_of, Names.texts, Scopes.value_kind, Scopes.constant_kind}
+use Rattle.rv_types.specs.{Scopes.constant_value, Values.HasKind, Values.labels_at, WellFormed.AreWell}
+use Rattle.rv_types.specs.declared.typed.Kind.TheVariants as kind
 use Rattle.rv_agreement.specs.Checks.{enumerations, all_kinds, any_of, constant_fits}
-use Rattle.rv_flat.proofs.TypedParts.{IsTyped, minus_typed, not_typed, pre_typed, current_typed, when_typed, binary_typed, if_typed, most_typed}
-use Rattle.rv_flat.proofs.TypedParts.{call_typed}
+use Rattle.rv_flat.proofs.TypedParts.{IsTyped, minus_typed, not_typed, pre_typed, current_typed, when_typed, binary_typed, if_typed, most_typed, call_typed}
 use Rattle.rv_flatten.proofs.FlowKinds.{signature_is}
 use Rattle.rv_meaning.proofs.TypedOperators.{met_kind}
 

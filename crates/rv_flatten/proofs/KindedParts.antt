@@ -1,18 +1,12 @@
 -- A system that is put together from parts has the types, the items and the places of its parts.
 use Rattle.std.proofs.Common.{◌≡◌, ℕ, List, map, length, sym, ◌∙◌, ap, arith}
-use Rattle.std.proofs.lemmas.List.{length-map}
-use Rattle.std.proofs.lemmas.Simd.{map-map}
-use Rattle.rv_tree.specs.Tree.{ProgramTree}
-use Rattle.rv_tree.specs.Places.{Identifier}
+use Rattle.std.proofs.{lemmas.List.length-map, lemmas.Simd.map-map}
+use Rattle.rv_tree.specs.{Tree.ProgramTree, Places.Identifier}
 use Rattle.rv_agreement.specs.Trees.{Kept, System, memory_items, memory_places}
-use Rattle.rv_flat.specs.declared.parts.Bit.{Bit}
-use Rattle.rv_flat.specs.declared.parts.FlatExpr.{FlatExpr}
-use Rattle.rv_flat.specs.declared.parts.FlatFlow.{FlatFlow}
-use Rattle.rv_flat.specs.declared.parts.FlatInput.{FlatInput}
-use Rattle.rv_flat.specs.declared.parts.FlatMemory.{FlatMemory}
-use Rattle.rv_flatten.specs.Kinded.{IsKinded}
-use Rattle.rv_flatten.specs.Readings.{numbers_of, AreKinds}
 use Rattle.rv_flat.specs.Systems.{flow_item, memory_item, kept_of, memory_places_of, system_from}
+use Rattle.rv_flat.specs.{declared.parts.Bit.Bit, declared.parts.FlatExpr.FlatExpr, declared.parts.FlatFlow.FlatFlow, declared.parts.FlatInput.FlatInput}
+use Rattle.rv_flat.specs.{declared.parts.FlatMemory.FlatMemory}
+use Rattle.rv_flatten.specs.{Kinded.IsKinded, Readings.numbers_of, Readings.AreKinds}
 
 module _ (flows : List FlatFlow) (memories : List FlatMemory) (inputs : List FlatInput) (assertions : List FlatExpr) (variables : List Bit)
     (labels : List (List (List ℕ))) (observer : ℕ) where

@@ -1,28 +1,18 @@
 -- The flows of a flat system as they are made.
-use Rattle.std.proofs.Common.{◌≡◌, inl, inr, ℕ, zero, suc, ◌+◌, ◌<◌, List, [], ◌∷◌, ◌++◌, map, length, Some, unwrap_or, slice_get, slice_index_or, refl}
-use Rattle.std.proofs.Common.{sym, ◌∙◌, ap, subst, arith}
+use Rattle.std.proofs.Common.{◌≡◌, inl, inr, ℕ, zero, suc, ◌+◌, ◌<◌, List, [], ◌∷◌, ◌++◌, map, length, Some, unwrap_or, slice_get, slice_index_or, refl, sym}
+use Rattle.std.proofs.Common.{◌∙◌, ap, subst, arith}
 use Rattle.std.proofs.lemmas.List.{length-append, length-map}
 use Rattle.std.proofs.lemmas.Option.{none-some, slice_get_within, slice_get-map, get_or_from_slice_get, slice_get-get_or}
-use Rattle.std.specs.Option.{option_map}
-use Rattle.std.specs.List.{Contains}
-use Rattle.rv_tree.specs.Places.{Identifier, Sites, flows, site_of}
-use Rattle.rv_tree.specs.Tree.{NodeTree, ProgramTree}
-use Rattle.rv_types.specs.declared.typed.Kind.{Kind}
-use Rattle.rv_types.specs.declared.typed.Kind.TheVariants as kind
+use Rattle.std.specs.{Option.option_map, List.Contains}
+use Rattle.rv_tree.specs.{Places.Identifier, Places.Sites, Places.flows, Places.site_of, Tree.NodeTree, Tree.ProgramTree}
 use Rattle.rv_types.specs.Instances.{Instance, no_node, place, IsInstance}
-use Rattle.rv_types.specs.Kinds.{flow_kind, flow_kinds}
-use Rattle.rv_types.specs.Needs.{Giver, Gives}
-use Rattle.rv_instances.specs.declared.answer.Instance.{Instance as Numbered}
-use Rattle.rv_instances.specs.declared.givers.Giver.{Giver as Told}
-use Rattle.rv_instances.specs.declared.givers.Giver.TheVariants.{Input}
-use Rattle.rv_instances.specs.declared.flows.Flow.{Flow}
-use Rattle.rv_instances.specs.Expanded.{no_instance}
+use Rattle.rv_types.specs.{declared.typed.Kind.Kind, Kinds.flow_kind, Kinds.flow_kinds, Needs.Giver, Needs.Gives}
+use Rattle.rv_types.specs.declared.typed.Kind.TheVariants as kind
 use Rattle.rv_instances.specs.Flowing.{all_flows, flow_sites, place_at}
-use Rattle.rv_instances.specs.Givers.{StandsFor}
-use Rattle.rv_instances.specs.Layouts.{all_places, path_at}
-use Rattle.rv_flatten.specs.declared.given.Given.{Given}
+use Rattle.rv_instances.specs.{declared.answer.Instance.Instance as Numbered, declared.givers.Giver.Giver as Told, declared.givers.Giver.TheVariants.Input}
+use Rattle.rv_instances.specs.{declared.flows.Flow.Flow, Expanded.no_instance, Givers.StandsFor, Layouts.all_places, Layouts.path_at}
+use Rattle.rv_flatten.specs.{declared.given.Given.Given, Building.IsGiven, Building.IsMade, Building.kind_at, Building.program_given, Building.main_given}
 use Rattle.rv_flat.specs.declared.parts.FlatFlow.{FlatFlow}
-use Rattle.rv_flatten.specs.Building.{IsGiven, IsMade, kind_at, program_given, main_given}
 use Rattle.rv_agreement.specs.Translation.{Numbers}
 use Rattle.rv_flatten.proofs.FlowKinds.{kinds_many}
 use Rattle.rv_flatten.proofs.InstanceNumbers.{instance_at, path_is, node_is, same_instance}

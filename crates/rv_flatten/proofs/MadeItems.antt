@@ -2,41 +2,26 @@
 use Rattle.std.proofs.Common.{◌≡◌, ℕ, ◌+◌, true, List, [], ◌∷◌, ◌++◌, refl, sym, ◌∙◌, ap, subst, Option, IsSome}
 use Rattle.std.specs.List.{Contains}
 use Rattle.rv_base.specs.declared.value.Value.TheVariants.{Flag}
-use Rattle.rv_tree.specs.Tree.{Tree, AssertionTree, ProgramTree, tree_of}
-use Rattle.rv_tree.specs.Places.{Identifier, Sites}
-use Rattle.rv_tree.specs.Delays.{Delay, node_delays}
+use Rattle.rv_tree.specs.{Tree.Tree, Tree.AssertionTree, Tree.ProgramTree, Tree.tree_of, Places.Identifier, Places.Sites, Delays.Delay, Delays.node_delays}
 use Rattle.rv_types.specs.declared.typed.Kind.TheVariants as kind
-use Rattle.rv_types.specs.declared.typed.Clock.TheVariants.{Base}
-use Rattle.rv_types.specs.Types.{kind_of}
-use Rattle.rv_types.specs.Scopes.{node_scope, constant_value}
-use Rattle.rv_types.specs.ValueTables.{value_by}
 use Rattle.rv_types.specs.Instances.{Body, Output, Instance, absolute, clock_in, output_place, IsInstance}
-use Rattle.rv_types.specs.Lists.{AreTicks}
-use Rattle.rv_types.specs.Needs.{Giver, Given, Of, Gives}
-use Rattle.rv_types.specs.Variables.{node_parts}
-use Rattle.rv_instances.specs.declared.answer.Instance.{Instance as Numbered}
-use Rattle.rv_instances.specs.declared.givers.BodyOf.{BodyOf}
-use Rattle.rv_instances.specs.declared.givers.OutputOf.{OutputOf}
-use Rattle.rv_instances.specs.declared.givers.Giver.TheVariants as told
-use Rattle.rv_instances.specs.declared.layout.Layout.{Layout}
+use Rattle.rv_types.specs.{declared.typed.Clock.TheVariants.Base, Types.kind_of, Scopes.node_scope, Scopes.constant_value, ValueTables.value_by, Lists.AreTicks}
+use Rattle.rv_types.specs.{Needs.Giver, Needs.Given, Needs.Of, Needs.Gives, Variables.node_parts}
 use Rattle.rv_instances.specs.Expanded.{IsExpanded, IsKnown, program_of, main_of}
-use Rattle.rv_instances.specs.Givers.{StandsFor}
 use Rattle.rv_instances.specs.Layouts.{IsHere, IsLayout, IsNumberOf, all_places, here_of, node_at}
 use Rattle.rv_instances.specs.NumberedNeeds.{IsReader, clock_number as number_of_clock, node_read, numbers_of, site_in}
-use Rattle.rv_instances.specs.Weights.{AreLight}
-use Rattle.rv_flatten.specs.declared.frame.Frame.{Frame}
-use Rattle.rv_flat.specs.RawTree.{RawTree, Node, Constant, Flow, If}
-use Rattle.rv_flatten.specs.Frames.{IsFrame, IsNumbering}
-use Rattle.rv_flatten.specs.NodeReaders.{scope_by}
+use Rattle.rv_instances.specs.{declared.answer.Instance.Instance as Numbered, declared.givers.BodyOf.BodyOf, declared.givers.OutputOf.OutputOf}
+use Rattle.rv_instances.specs.{declared.layout.Layout.Layout, Givers.StandsFor, Weights.AreLight}
+use Rattle.rv_instances.specs.declared.givers.Giver.TheVariants as told
 use Rattle.rv_flatten.specs.Readings.{unplaced, presence, flow_at, raw_of, raw_giver, raw_delay, assertion_of}
-use Rattle.rv_agreement.specs.Translation.{Numbers, clock_number}
 use Rattle.rv_flatten.specs.Tables.{path_read, flow_read, clock_read, clock_of_read}
+use Rattle.rv_flatten.specs.{declared.frame.Frame.Frame, Frames.IsFrame, Frames.IsNumbering, NodeReaders.scope_by}
+use Rattle.rv_flat.specs.RawTree.{RawTree, Node, Constant, Flow, If}
+use Rattle.rv_agreement.specs.Translation.{Numbers, clock_number}
 use Rattle.rv_flat.proofs.TypedParts.{some_is}
 use Rattle.rv_flatten.proofs.ReadItems.{is_frame, giver_clock, body_given, output_given}
 use Rattle.rv_flatten.proofs.ReadTables.{path_is, clock_read_is, own_clock_is, output_is}
-use Rattle.rv_flatten.proofs.Standing.{stands_in, operand_stands, as_assertion}
-use Rattle.rv_flatten.proofs.WellInstances.{typed}
-use Rattle.rv_flatten.proofs.MainNames.{is_node}
+use Rattle.rv_flatten.proofs.{Standing.stands_in, Standing.operand_stands, Standing.as_assertion, WellInstances.typed, MainNames.is_node}
 
 -- what a layout has of an instance
 abbrev pub HasNumbers : Type 0

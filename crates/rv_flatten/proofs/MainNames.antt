@@ -1,9 +1,7 @@
 -- The name of the main node is that of a node.
 use Rattle.std.proofs.Common.{◌≡◌, true, List, [], ◌∷◌, map, refl, sym, ◌∙◌, ap}
-use Rattle.rv_tree.specs.Tree.{NodeTree, ProgramTree}
-use Rattle.rv_tree.specs.Places.{Identifier, is_among}
-use Rattle.rv_types.specs.Names.{texts}
-use Rattle.rv_types.specs.Instances.{IsNode}
+use Rattle.rv_tree.specs.{Tree.NodeTree, Tree.ProgramTree, Places.Identifier, Places.is_among}
+use Rattle.rv_types.specs.{Names.texts, Instances.IsNode}
 use Rattle.rv_instances.specs.AllInstances.{names_of}
 
 names_same : (ns : List NodeTree) → texts (map (λ n. n.name) ns) ≡ map (λ n. n.name.text) ns

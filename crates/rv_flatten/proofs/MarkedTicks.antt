@@ -1,30 +1,20 @@
 -- The ticks of a program are the flows that are marked for the clocks of its `->`.
 use Rattle.std.proofs.Common.{◌≡◌, ◌⊎◌, inl, inr, ℕ, zero, suc, ◌+◌, ◌<◌, ◌^◌, Bool, true, false, cond, List, [], ◌∷◌, ◌++◌, map, length, get_or, replicate}
 use Rattle.std.proofs.Common.{set, refl, sym, ◌∙◌, ap, subst, arith, length-set, get_or-set_same, get_or-set_other, Option, Some, None as Nothing}
-use Rattle.std.proofs.lemmas.Bool.{cases_eq}
 use Rattle.std.proofs.lemmas.List.{get_or-map, length-map, length-replicate}
 use Rattle.std.proofs.lemmas.List.Elements.{Contains-append_left, Contains-append_right, Contains-append_cases, Contains-get_or}
-use Rattle.std.proofs.lemmas.Option.{none-some, same_Some}
+use Rattle.std.proofs.{lemmas.Bool.cases_eq, lemmas.Option.none-some, lemmas.Option.same_Some}
 use Rattle.std.specs.List.{Contains}
-use Rattle.rv_tree.specs.Tree.{Tree, NodeTree, ProgramTree}
-use Rattle.rv_tree.specs.Places.{Identifier, Sites, flows}
-use Rattle.rv_types.specs.declared.typed.Clock.{Clock}
-use Rattle.rv_types.specs.declared.typed.Clock.TheVariants.{Base, On}
-use Rattle.rv_types.specs.Clocks.{pace}
+use Rattle.rv_tree.specs.{Tree.Tree, Tree.NodeTree, Tree.ProgramTree, Places.Identifier, Places.Sites, Places.flows}
 use Rattle.rv_types.specs.Instances.{Instance, IsInstance, absolute, clock_in, taken}
-use Rattle.rv_types.specs.Needs.{IsBefore}
-use Rattle.rv_types.specs.Variables.{is_arrow, node_parts}
-use Rattle.rv_types.specs.Lists.{AreRising, AreTicks}
-use Rattle.rv_instances.specs.declared.answer.Instance.{Instance as Numbered}
-use Rattle.rv_instances.specs.declared.layout.Layout.{Layout}
-use Rattle.rv_instances.specs.Expanded.{IsExpanded}
-use Rattle.rv_instances.specs.Flowing.{place_at, AreFlowPlaces, IsKnownClock}
+use Rattle.rv_types.specs.{declared.typed.Clock.Clock, declared.typed.Clock.TheVariants.Base, declared.typed.Clock.TheVariants.On, Clocks.pace, Needs.IsBefore}
+use Rattle.rv_types.specs.{Variables.is_arrow, Variables.node_parts, Lists.AreRising, Lists.AreTicks}
 use Rattle.rv_instances.specs.Layouts.{Here, IsHere, IsNumberOf, IsClockPlaced, IsWithin, here_of, node_at, all_places}
-use Rattle.rv_instances.specs.NumberedNeeds.{listed, clock_number}
+use Rattle.rv_instances.specs.{declared.answer.Instance.Instance as Numbered, declared.layout.Layout.Layout, Expanded.IsExpanded, Flowing.place_at}
+use Rattle.rv_instances.specs.{Flowing.AreFlowPlaces, Flowing.IsKnownClock, NumberedNeeds.listed, NumberedNeeds.clock_number}
 use Rattle.rv_flatten.specs.Arrows.{node_arrows, arrow_numbers, arrow_numbers_to, with_marks, marked_from}
 use Rattle.rv_flatten.proofs.ArrowClocks.{node_comes, node_only, arrow_known}
-use Rattle.rv_flatten.proofs.MainNames.{is_node}
-use Rattle.rv_flatten.proofs.WellInstances.{formed, typed}
+use Rattle.rv_flatten.proofs.{MainNames.is_node, WellInstances.formed, WellInstances.typed}
 use Rattle.rv_types.proofs.Members.{at_head, cons_cases, in_flat_map, in_map, in_tail, nothing_in, of_flat_map}
 use Rattle.rv_base.proofs.Lists.{set_keeps}
 

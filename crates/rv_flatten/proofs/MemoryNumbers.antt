@@ -1,22 +1,14 @@
 -- The memories by their instances and sites have their numbers.
-use Rattle.std.proofs.Common.{◌≡◌, ℕ, ◌+◌, ◌<◌, ◌≤◌, Bool, true, false, ◌&&◌, cond, nat_eq, List, [], ◌∷◌, ◌++◌, map, length, get_or, sym, ◌∙◌, ap, subst}
-use Rattle.std.proofs.Common.{refl, arith, Option, Some}
+use Rattle.std.proofs.Common.{◌≡◌, ℕ, ◌+◌, ◌<◌, ◌≤◌, Bool, true, false, ◌&&◌, cond, nat_eq, List, [], ◌∷◌, ◌++◌, map, length, get_or, sym, ◌∙◌, ap, subst, refl}
+use Rattle.std.proofs.Common.{arith, Option, Some}
 use Rattle.std.proofs.lemmas.Bool.Decides.{Decides-and, Decides-eqb, not_from_Decides}
 use Rattle.std.proofs.lemmas.List.{get_or_default, get_or-map, length-map}
-use Rattle.std.specs.Bool.{Decides}
-use Rattle.std.specs.List.{Contains}
-use Rattle.rv_tree.specs.Tree.{ProgramTree}
-use Rattle.rv_tree.specs.Places.{Identifier, Sites, index_of, memory_site}
-use Rattle.rv_tree.specs.Delays.{Delay, node_delays}
-use Rattle.rv_types.specs.Instances.{Instance, IsInstance}
-use Rattle.rv_types.specs.Lists.{AreRising, MemoryAt, memory_at, delay_place}
-use Rattle.rv_instances.specs.declared.answer.Instance.{Instance as Numbered}
-use Rattle.rv_instances.specs.Expanded.{IsExpanded}
-use Rattle.rv_instances.specs.Layouts.{IsNumberOf, path_at}
-use Rattle.rv_flatten.specs.declared.kept.Kept.{Kept}
-use Rattle.rv_flatten.specs.Kept.{kept_memory, AreKept}
-use Rattle.rv_flatten.proofs.InstanceNumbers.{path_is, same_number}
-use Rattle.rv_flatten.proofs.KeptMemories.{kept_places}
+use Rattle.std.specs.{Bool.Decides, List.Contains}
+use Rattle.rv_tree.specs.{Tree.ProgramTree, Places.Identifier, Places.Sites, Places.index_of, Places.memory_site, Delays.Delay, Delays.node_delays}
+use Rattle.rv_types.specs.{Instances.Instance, Instances.IsInstance, Lists.AreRising, Lists.MemoryAt, Lists.memory_at, Lists.delay_place}
+use Rattle.rv_instances.specs.{declared.answer.Instance.Instance as Numbered, Expanded.IsExpanded, Layouts.IsNumberOf, Layouts.path_at}
+use Rattle.rv_flatten.specs.{declared.kept.Kept.Kept, Kept.kept_memory, Kept.AreKept}
+use Rattle.rv_flatten.proofs.{InstanceNumbers.path_is, InstanceNumbers.same_number, KeptMemories.kept_places}
 use Rattle.rv_flat.proofs.TickList.{number_at}
 use Rattle.rv_instances.proofs.FlowPlaces.{snoc_parts}
 use Rattle.rv_base.proofs.Lists.{from_map}

@@ -4,38 +4,25 @@ use Rattle.std.proofs.lemmas.Option.{none-some, slice_get_within}
 use Rattle.std.specs.List.{Contains}
 use Rattle.rv_tree.specs.Tree as tree
 use Rattle.rv_tree.specs.Tree.{Tree, Form, Trees, NodeTree, ProgramTree}
-use Rattle.rv_tree.specs.Places.{Identifier, Sites, flows, is_among}
-use Rattle.rv_tree.specs.Delays.{Delay, node_delays}
+use Rattle.rv_tree.specs.{Places.Identifier, Places.Sites, Places.flows, Places.is_among, Delays.Delay, Delays.node_delays}
 use Rattle.rv_base.specs.Limits.{heaviest}
-use Rattle.rv_types.specs.declared.typed.Kind.{Kind}
-use Rattle.rv_types.specs.declared.typed.Kind.TheVariants as kind
-use Rattle.rv_types.specs.declared.typed.Clock.TheVariants.{Base}
 use Rattle.rv_types.specs.declared.fault.Verdict.TheVariants.{Has, Clashes, Multiplies}
-use Rattle.rv_types.specs.Kinds.{flow_kind, flow_kinds}
 use Rattle.rv_types.specs.Types.{kind_in, both_are, binary_rule, is_constant}
-use Rattle.rv_types.specs.Constants.{value_of}
-use Rattle.rv_types.specs.Scopes.{node_scope, constant_value}
-use Rattle.rv_types.specs.Variables.{node_parts, is_arrow}
-use Rattle.rv_types.specs.Lists.{delay_place}
 use Rattle.rv_types.specs.Instances.{Body, Output, Instance, clock_in, IsInstance, IsArgument, head, tail, IsNode}
 use Rattle.rv_types.specs.Needs.{Giver, Given, Of, Gives, given, by_equation, by_call}
-use Rattle.rv_types.specs.WellFormed.{AreWell}
-use Rattle.rv_meaning.specs.Meaning.{number}
-use Rattle.rv_meaning.specs.Runs.{Instant}
-use Rattle.rv_meaning.specs.Instants.{State as Brought, now}
+use Rattle.rv_types.specs.{declared.typed.Kind.Kind, declared.typed.Clock.TheVariants.Base, Kinds.flow_kind, Kinds.flow_kinds, Constants.value_of}
+use Rattle.rv_types.specs.{Scopes.node_scope, Scopes.constant_value, Variables.node_parts, Variables.is_arrow, Lists.delay_place, WellFormed.AreWell}
+use Rattle.rv_types.specs.declared.typed.Kind.TheVariants as kind
+use Rattle.rv_meaning.specs.{Meaning.number, Runs.Instant, Instants.State as Brought, Instants.now}
 use Rattle.rv_instances.specs.Weights.{weight, AreLight}
-use Rattle.rv_agreement.specs.ProgramAgreement.{KeepsProducts}
-use Rattle.rv_agreement.specs.Programs.{coefficient, HasProducts, FormHasProducts, AllHaveProducts}
-use Rattle.rv_agreement.specs.Translation.{Names, FormNames, AllNames, AreNamed}
-use Rattle.rv_flatten.proofs.ConstantOperands.{same_number, constant_now}
-use Rattle.rv_flatten.proofs.FlowKinds.{kinds_many}
+use Rattle.rv_agreement.specs.{ProgramAgreement.KeepsProducts, Programs.coefficient, Programs.HasProducts, Programs.FormHasProducts, Programs.AllHaveProducts}
+use Rattle.rv_agreement.specs.{Translation.Names, Translation.FormNames, Translation.AllNames, Translation.AreNamed}
 use Rattle.rv_flatten.proofs.Standing.{Stands, as_child, of_not, of_minus, of_current, of_when, of_left, of_right, of_condition, of_first, of_second}
 use Rattle.rv_flatten.proofs.Standing.{of_operand, stands_in, own_delay, own_current, body_stands, argument_stands, as_assertion, operand_stands}
+use Rattle.rv_flatten.proofs.{ConstantOperands.same_number, ConstantOperands.constant_now, FlowKinds.kinds_many, WellInstances.typed, WellInstances.is_light}
 use Rattle.rv_flat.proofs.TypedParts.{some_is, IsTyped, not_typed, minus_typed, current_typed, when_typed, binary_typed, if_typed, most_typed}
-use Rattle.rv_flatten.proofs.WellInstances.{typed, is_light}
 use Rattle.rv_meaning.proofs.Told.{index_past}
-use Rattle.rv_types.proofs.Members.{among_contains}
-use Rattle.rv_types.proofs.ChainLaws.{no_flag}
+use Rattle.rv_types.proofs.{Members.among_contains, ChainLaws.no_flag}
 
 -- a name with a type among the flows of a node is that of a flow
 flow_there : (program : ProgramTree) (n : NodeTree) (x : Identifier) (k : Kind) → flow_kind program n x ≡ Some k → Contains (flows n) x

@@ -1,16 +1,12 @@
 -- Two `pre` or `current` with one place are alike: both are one of one instance, or both operands name one flow of it.
 use Rattle.std.proofs.Common.{◌≡◌, ◌⊎◌, inl, inr, ℕ, ◌<◌, Bool, true, false, cond, [], ◌∷◌, length, get_or, refl, sym, ◌∙◌, ap, subst, arith, length-append}
-use Rattle.std.proofs.Common.{unwrap_or, Option, Some}
-use Rattle.std.proofs.Common.{None as Nothing}
+use Rattle.std.proofs.Common.{unwrap_or, Option, Some, None as Nothing}
 use Rattle.std.specs.List.{Contains}
-use Rattle.rv_tree.specs.Tree.{Tree, Node, Named, NodeTree, ProgramTree}
-use Rattle.rv_tree.specs.Places.{Identifier, flows, is_flow, site_of, memory_site}
-use Rattle.rv_tree.specs.Delays.{Delay, node_delays, IsNumbered}
+use Rattle.rv_tree.specs.{Tree.Tree, Tree.Node, Tree.Named, Tree.NodeTree, Tree.ProgramTree, Places.Identifier, Places.flows, Places.is_flow, Places.site_of}
+use Rattle.rv_tree.specs.{Places.memory_site, Delays.Delay, Delays.node_delays, Delays.IsNumbered}
 use Rattle.rv_types.specs.Instances.{calls, Instance, callee, IsInstance, is_main, is_callee, IsNode}
-use Rattle.rv_types.specs.Lists.{delay_place}
-use Rattle.rv_types.specs.WellFormed.{AreWell}
-use Rattle.rv_agreement.specs.Trees.{Item}
-use Rattle.rv_agreement.specs.Translation.{Numbers, delay_item}
+use Rattle.rv_types.specs.{Lists.delay_place, WellFormed.AreWell}
+use Rattle.rv_agreement.specs.{Trees.Item, Translation.Numbers, Translation.delay_item}
 use Rattle.rv_flatten.specs.Readings.{RawItem, raw_delay}
 use Rattle.rv_flatten.proofs.WellInstances.{node_in, formed}
 use Rattle.rv_instances.proofs.FlowPlaces.{snoc_parts}

@@ -1,7 +1,7 @@
 -- The expressions of a node stand in it, or are the call on the right side of an equation.
 use Rattle.std.proofs.Common.{◌≡◌, inl, inr, ℕ, suc, ◌++◌, sym, subst, unwrap_or, Option, flat_map}
-use Rattle.std.specs.List.{Contains}
 use Rattle.std.proofs.lemmas.List.Elements.{Contains-append_left, Contains-append_cases}
+use Rattle.std.specs.List.{Contains}
 use Rattle.rv_tree.specs.Tree.{Tree, Node, Form, True, False, Number, Named, Not, Minus, Pre, Current, When, Binary, If, AtMostOne, Call, Trees, None, More}
 use Rattle.rv_tree.specs.Tree.{EquationTree, AssertionTree, NodeTree}
 use Rattle.rv_tree.specs.Places.{Identifier}
@@ -9,8 +9,7 @@ use Rattle.rv_types.specs.Variables.{parts, form_parts, parts_of_all, node_parts
 use Rattle.rv_types.specs.Instances.{CallTree, calls_in, calls_in_all, calls_in_equations, calls_in_assertions, calls, IsArgument, head, tail}
 use Rattle.rv_flatten.proofs.Standing.{Stands, as_argument, as_assertion, as_child, of_not, of_minus, of_pre, of_current, of_when, of_left, of_right}
 use Rattle.rv_flatten.proofs.Standing.{of_condition, of_first, of_second, of_operand, of_argument, whole, called, right_stands}
-use Rattle.rv_types.proofs.Members.{at_head, cons_cases, nothing_in, of_flat_map}
-use Rattle.rv_types.proofs.TypedParts.{right_calls}
+use Rattle.rv_types.proofs.{Members.at_head, Members.cons_cases, Members.nothing_in, Members.of_flat_map, TypedParts.right_calls}
 
 module _ (n : NodeTree) where
   mutual

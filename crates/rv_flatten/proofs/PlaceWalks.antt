@@ -1,18 +1,14 @@
 -- Where the layout of all flows leads along a place.
 use Rattle.std.proofs.Common.{◌≡◌, inl, inr, ℕ, zero, suc, ◌+◌, ◌-◌, ◌<◌, ◌^◌, List, [], ◌∷◌, ◌++◌, map, length, get_or, take, unwrap_or, refl, sym, ◌∙◌, ap}
 use Rattle.std.proofs.Common.{subst, arith}
+use Rattle.std.proofs.{lemmas.Bool.cases_eq, lemmas.List.get_or_default, lemmas.List.get_or-map, lemmas.List.length-map, lemmas.List.take_all}
 use Rattle.std.specs.Prelude.{min}
-use Rattle.std.proofs.lemmas.Bool.{cases_eq}
-use Rattle.std.proofs.lemmas.List.{get_or_default, get_or-map, length-map, take_all}
-use Rattle.rv_tree.specs.Tree.{ProgramTree}
-use Rattle.rv_tree.specs.Places.{Identifier, Sites, flows, site_of}
+use Rattle.rv_tree.specs.{Tree.ProgramTree, Places.Identifier, Places.Sites, Places.flows, Places.site_of}
 use Rattle.rv_types.specs.Instances.{Instance, callee, main_instance, IsInstance, is_main, is_callee, IsFlow}
 use Rattle.rv_types.specs.Needs.{IsBefore, IsSequence}
-use Rattle.rv_instances.specs.declared.answer.Instance.{Instance as Numbered}
-use Rattle.rv_instances.specs.declared.layout.Layout.{Layout}
-use Rattle.rv_instances.specs.AllInstances.{numbered}
 use Rattle.rv_instances.specs.Expanded.{IsExpanded, no_instance}
 use Rattle.rv_instances.specs.Layouts.{IsLayout, IsHere, IsNumberOf, IsPlaced, callee_or_main, here_of, path_at, all_places}
+use Rattle.rv_instances.specs.{declared.answer.Instance.Instance as Numbered, declared.layout.Layout.Layout, AllInstances.numbered}
 use Rattle.rv_flatten.specs.Positions.{AreNumbersOf, number_from, site_number, way_from}
 use Rattle.rv_flatten.proofs.FlowTotals.{few_flows}
 use Rattle.rv_types.proofs.Members.{among_from, index_there}

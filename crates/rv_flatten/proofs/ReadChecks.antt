@@ -1,28 +1,23 @@
 -- A system that is read from its program passes the tests that a flat system keeps, and each `current` in it shows its memory.
 use Rattle.std.proofs.Common.{ℕ, suc, ℤ, Bool, true, false, cond, sym, subst, slice_get, Option, IsTrue}
 use Rattle.rv_base.specs.declared.value.Value.{Value}
-use Rattle.rv_tree.specs.declared.tree.Op.{Op}
+use Rattle.rv_tree.specs.{declared.tree.Op.Op, Tree.Tree, Tree.Form, Tree.Trees, Tree.ProgramTree, Places.Identifier, Places.Sites, Places.is_flow}
+use Rattle.rv_tree.specs.{Places.index_of}
 use Rattle.rv_tree.specs.declared.tree.Op.TheVariants as op
 use Rattle.rv_tree.specs.Tree as tree
-use Rattle.rv_tree.specs.Tree.{Tree, Form, Trees, ProgramTree}
-use Rattle.rv_tree.specs.Places.{Identifier, Sites, is_flow, index_of}
 use Rattle.rv_types.specs.declared.typed.Kind.TheVariants as kind
-use Rattle.rv_types.specs.declared.typed.Clock.TheVariants.{Base}
 use Rattle.rv_types.specs.Instances.{Body, Output, Instance, place, clock_in, IsInstance, IsNode, IsArgument, head, tail}
 use Rattle.rv_types.specs.Needs.{Giver, Gives, given, by_equation, by_call}
-use Rattle.rv_types.specs.Scopes.{node_scope, constant_value}
-use Rattle.rv_types.specs.Types.{is_constant}
-use Rattle.rv_types.specs.WellFormed.{AreWell}
+use Rattle.rv_types.specs.{declared.typed.Clock.TheVariants.Base, Scopes.node_scope, Scopes.constant_value, Types.is_constant, WellFormed.AreWell}
 use Rattle.rv_agreement.specs.Checks.{is_of, IsShared, FormIsShared, AreShared, IsChecked, IsInlined}
 use Rattle.rv_agreement.specs.Programs.{coefficient, operation}
 use Rattle.rv_agreement.specs.Translation.{Numbers, tick_number, unplaced, flat_of, flat_form, flats_of, giver_item, IsTranslated}
 use Rattle.rv_agreement.specs.Trees.{FlatTree, Constant, Flow, Ticked, Scale, If, Binary, Item, System}
 use Rattle.rv_flatten.specs.Kinded.{IsKinded}
-use Rattle.rv_flatten.proofs.ApartComparisons.{comparisons_apart}
-use Rattle.rv_flatten.proofs.DistinctPlaces.{distinct_ticks, distinct_memories}
 use Rattle.rv_flatten.proofs.ReadFits.{all_flows_fit, all_memories_fit, all_assertions_fit, all_clocks_fit, clock_many}
 use Rattle.rv_flatten.proofs.Standing.{Stands, as_child, of_not, of_minus, of_current, of_when, of_left, of_right, of_condition, of_first, of_second}
 use Rattle.rv_flatten.proofs.Standing.{of_operand, own_current, body_stands, argument_stands, operand_stands, as_assertion}
+use Rattle.rv_flatten.proofs.{ApartComparisons.comparisons_apart, DistinctPlaces.distinct_ticks, DistinctPlaces.distinct_memories}
 
 module _ (s : System) where
   product_shared : (left : Bool) (y z : ℤ) (f g : FlatTree) → IsShared s f → IsShared s g → FormIsShared s (cond left (Scale y g) (Scale z f))

@@ -1,75 +1,52 @@
 -- What is read of a program fits: it names earlier flows alone, each on its clock, and its types fit.
 use Rattle.std.proofs.Common.{◌≡◌, ℕ, suc, ◌+◌, ◌<◌, Bool, true, false, not, ◌&&◌, ◌||◌, cond, nat_lt, nat_eq, ℤ, pos, List, [], ◌∷◌, ◌++◌, map, length, get_or}
-use Rattle.std.proofs.Common.{slice_get, refl, sym, ◌∙◌, ap, subst, arith, unwrap_or, Option, Some}
-use Rattle.std.proofs.Common.{None as Nothing}
-use Rattle.std.proofs.lemmas.Bool.{eq-eqb}
-use Rattle.std.proofs.lemmas.List.{length-map, get_or-map}
+use Rattle.std.proofs.Common.{slice_get, refl, sym, ◌∙◌, ap, subst, arith, unwrap_or, Option, Some, None as Nothing}
+use Rattle.std.proofs.lemmas.Bool.{eq-eqb, and_from, or_right}
 use Rattle.std.proofs.lemmas.List.Elements.{Contains-append_left, Contains-append_right, All-contains}
 use Rattle.std.proofs.lemmas.Option.{none-some, same_Some, slice_get-get_or, slice_get-map, slice_get_within, get_or_from_slice_get}
-use Rattle.std.proofs.lemmas.Simd.{map-map}
-use Rattle.std.specs.Option.{option_map}
-use Rattle.std.specs.List.{All, Contains}
-use Rattle.rv_base.specs.declared.value.Value.{Value}
-use Rattle.rv_base.specs.declared.value.Value.TheVariants.{Flag}
+use Rattle.std.proofs.{lemmas.List.length-map, lemmas.List.get_or-map, lemmas.Simd.map-map}
+use Rattle.std.specs.{Option.option_map, List.All, List.Contains}
+use Rattle.rv_base.specs.{declared.value.Value.Value, declared.value.Value.TheVariants.Flag}
 use Rattle.rv_base.specs.declared.value.Value.TheVariants as value
-use Rattle.rv_tree.specs.declared.tree.Op.{Op}
-use Rattle.rv_tree.specs.declared.tree.Op.TheVariants as op
-use Rattle.rv_tree.specs.Sites.{is_comparison}
-use Rattle.rv_tree.specs.Tree as tree
-use Rattle.rv_tree.specs.Tree.{Tree, Form, Trees, ProgramTree}
 use Rattle.rv_tree.specs.Places.{Identifier, Sites, flows as flows_of, is_flow, index_of, site_of}
-use Rattle.rv_tree.specs.Delays.{Delay, node_delays}
-use Rattle.rv_types.specs.declared.typed.Kind.{Kind}
-use Rattle.rv_types.specs.declared.typed.Kind.TheVariants as kind
-use Rattle.rv_types.specs.declared.typed.Clock.{Clock}
-use Rattle.rv_types.specs.declared.typed.Clock.TheVariants.{Base}
-use Rattle.rv_types.specs.declared.fault.Pace.TheVariants.{Free, At}
-use Rattle.rv_types.specs.declared.fault.Verdict.TheVariants.{Has, Clashes, Multiplies}
+use Rattle.rv_tree.specs.{declared.tree.Op.Op, Sites.is_comparison, Tree.Tree, Tree.Form, Tree.Trees, Tree.ProgramTree, Delays.Delay, Delays.node_delays}
+use Rattle.rv_tree.specs.declared.tree.Op.TheVariants as op
+use Rattle.rv_tree.specs.Tree as tree
 use Rattle.rv_types.specs.Clocks.{seen, meet, pace, form_pace, pace_of_all}
-use Rattle.rv_types.specs.Kinds.{kind_in_program, decl_kinds, flow_kind, flow_kinds}
-use Rattle.rv_types.specs.Names.{labels_of, texts}
 use Rattle.rv_types.specs.Types.{kind_in, same_kind, where_met, both_are, binary_rule, is_constant}
-use Rattle.rv_types.specs.Scopes.{node_scope, constant_kind, constant_value}
-use Rattle.rv_types.specs.Values.{HasKind}
-use Rattle.rv_types.specs.Variables.{is_arrow, is_integer}
-use Rattle.rv_types.specs.Lists.{MemoryAt, memory_at, delay_place, sides_of}
 use Rattle.rv_types.specs.Instances.{CallTree, Body, Output, clock_of_arguments, Instance, place, absolute, clock_of, clock_taken as taken_clock, clock_in}
 use Rattle.rv_types.specs.Instances.{output_place, node_of, IsInstance, IsFlow, IsNode, IsArgument, head, tail}
 use Rattle.rv_types.specs.Needs.{IsBefore, flow_of, needs, form_needs, needs_all, needs_of, Giver, Of, Gives, given, by_equation, by_call, IsAmongFirst}
-use Rattle.rv_types.specs.WellFormed.{Suits, AreWell}
+use Rattle.rv_types.specs.{declared.typed.Kind.Kind, declared.typed.Clock.Clock, declared.typed.Clock.TheVariants.Base, declared.fault.Pace.TheVariants.Free}
+use Rattle.rv_types.specs.{declared.fault.Pace.TheVariants.At, declared.fault.Verdict.TheVariants.Has, declared.fault.Verdict.TheVariants.Clashes}
+use Rattle.rv_types.specs.{declared.fault.Verdict.TheVariants.Multiplies, Kinds.kind_in_program, Kinds.decl_kinds, Kinds.flow_kind, Kinds.flow_kinds}
+use Rattle.rv_types.specs.{Names.labels_of, Names.texts, Scopes.node_scope, Scopes.constant_kind, Scopes.constant_value, Values.HasKind, Variables.is_arrow}
+use Rattle.rv_types.specs.{Variables.is_integer, Lists.MemoryAt, Lists.memory_at, Lists.delay_place, Lists.sides_of, WellFormed.Suits, WellFormed.AreWell}
+use Rattle.rv_types.specs.declared.typed.Kind.TheVariants as kind
 use Rattle.rv_agreement.specs.Checks.{same_clock, is_of, any_of, all_kinds, constant_fits, is_placed_for, clock_fits, fits, form_fits, all_fit, item_fits}
 use Rattle.rv_agreement.specs.Checks.{flows_fit, memories_fit, assertions_fit, clocks_fit}
-use Rattle.rv_agreement.specs.Programs.{spot, operator_place, coefficient, operation}
 use Rattle.rv_agreement.specs.Translation.{Numbers, clock_number, tick_number, unplaced, flat_of, flat_form, flats_of, giver_item, delay_item, assertion_item}
 use Rattle.rv_agreement.specs.Translation.{IsTranslated}
 use Rattle.rv_agreement.specs.Trees.{FlatTree, Constant, Flow, Ticked, Scale, If, Binary, Item, Kept, System, no_item, nth_item, memory_items, memory_kinds}
 use Rattle.rv_agreement.specs.Trees.{memory_places, kind_at}
-use Rattle.rv_agreement.specs.Valuations.{is_placed}
+use Rattle.rv_agreement.specs.{Programs.spot, Programs.operator_place, Programs.coefficient, Programs.operation, Valuations.is_placed}
 use Rattle.rv_flatten.specs.Kinded.{IsKinded}
-use Rattle.rv_flatten.proofs.ArrowClocks.{arrow_true}
-use Rattle.rv_flatten.proofs.ComparedParts.{has_site}
-use Rattle.rv_flat.proofs.Earliest.{not_itself}
-use Rattle.rv_flatten.proofs.ItemClocks.{number_at, number_within, item_clock, output_clock}
 use Rattle.rv_flatten.proofs.Standing.{Stands, as_child, of_not, of_minus, of_current, of_when, of_left, of_right, of_condition, of_first, of_second}
 use Rattle.rv_flatten.proofs.Standing.{of_operand, stands_in, own_delay, own_current, own_call, body_stands, argument_stands, operand_stands, as_assertion}
 use Rattle.rv_flatten.proofs.Standing.{output_call}
-use Rattle.rv_flatten.proofs.SuitedParts.{suits_when}
-use Rattle.rv_flat.proofs.TypedParts.{some_is, IsTyped, named_typed, not_typed, minus_typed, pre_typed, current_typed}
-use Rattle.rv_flat.proofs.TypedParts.{when_typed, binary_typed, if_typed, most_typed, call_typed}
-use Rattle.rv_flat.proofs.PlaceNumbers.{its_number}
-use Rattle.rv_flatten.proofs.WellInstances.{node_in, formed, typed}
 use Rattle.rv_flatten.proofs.ClockKinds.{IsTrueClock, clock_taken, clock_taken_on, clock_is_true, pace_is_true, paces_are_true}
 use Rattle.rv_flatten.proofs.FlowKinds.{HasFlow, is_flow as flow_there, kinds_many, signature_is, flow_of_site, clock_flow, output_flow, input_flow, main_input}
 use Rattle.rv_flatten.proofs.KindNumbers.{IsBelow, kind_declared, kind_itself, among_kinds, value_fits}
+use Rattle.rv_flatten.proofs.{ArrowClocks.arrow_true, ComparedParts.has_site, ItemClocks.number_at, ItemClocks.number_within, ItemClocks.item_clock}
+use Rattle.rv_flatten.proofs.{ItemClocks.output_clock, SuitedParts.suits_when, WellInstances.node_in, WellInstances.formed, WellInstances.typed}
+use Rattle.rv_flat.proofs.TypedParts.{some_is, IsTyped, named_typed, not_typed, minus_typed, pre_typed, current_typed, when_typed, binary_typed, if_typed}
+use Rattle.rv_flat.proofs.TypedParts.{most_typed, call_typed}
+use Rattle.rv_flat.proofs.{Earliest.not_itself, PlaceNumbers.its_number}
 use Rattle.rv_agreement.proofs.Suited.{suits_binary}
-use Rattle.rv_meaning.proofs.Suiting.{ground_taken, suits_both, suits_seen, taken_suits}
-use Rattle.rv_meaning.proofs.TypedOperators.{met_kind}
-use Rattle.rv_types.proofs.ConstantContents.{kind_same}
+use Rattle.rv_meaning.proofs.{Suiting.ground_taken, Suiting.suits_both, Suiting.suits_seen, Suiting.taken_suits, TypedOperators.met_kind}
 use Rattle.rv_types.proofs.Members.{among_contains, among_from, at_head, in_map, in_tail, index_there}
+use Rattle.rv_types.proofs.{ConstantContents.kind_same, ChainLaws.no_flag}
 use Rattle.rv_base.proofs.Truths.{both_of, less_told}
-use Rattle.rv_types.proofs.ChainLaws.{no_flag}
-use Rattle.std.proofs.lemmas.Bool.{and_from}
-use Rattle.std.proofs.lemmas.Bool.{or_right}
 
 -- a clock is itself
 same_told : (c d : Option ℕ) → d ≡ c → same_clock c d ≡ true

@@ -1,34 +1,19 @@
 -- A flat system that is read from its program, and has its names and lists, is one of that program.
 use Rattle.std.proofs.Common.{◌≡◌, ◌<◌, [], length, map, slice_index_or, ◌∙◌, sym, subst}
-use Rattle.rv_tree.specs.Tree.{ProgramTree}
-use Rattle.rv_tree.specs.Places.{Identifier, names}
+use Rattle.rv_tree.specs.{Tree.ProgramTree, Places.Identifier, Places.names}
 use Rattle.rv_types.specs.Instances.{node_of, IsFlow, IsNode}
-use Rattle.rv_types.specs.Lists.{AreVariables, AreColumns}
-use Rattle.rv_types.specs.Variables.{variable_count}
-use Rattle.rv_types.specs.WellFormed.{AreWell}
-use Rattle.rv_meaning.specs.Runs.{observer_place}
-use Rattle.rv_meaning.specs.Givers.{AreDefined}
+use Rattle.rv_types.specs.{Lists.AreVariables, Lists.AreColumns, Variables.variable_count, WellFormed.AreWell}
+use Rattle.rv_meaning.specs.{Runs.observer_place, Givers.AreDefined}
 use Rattle.rv_instances.specs.Weights.{AreLight}
 use Rattle.rv_agreement.specs.Translation.{IsTranslated}
-use Rattle.rv_flat.specs.declared.flat.Flat.{Flat}
-use Rattle.rv_flat.specs.Lists.{variable_of, column_of}
-use Rattle.rv_flat.specs.FlatInstants.{places, system_of}
-use Rattle.rv_flat.specs.FlatOf.{numbers_of, IsFlatOf}
-use Rattle.rv_flat.specs.Inlined.{IsTable}
-use Rattle.rv_flatten.specs.Kinded.{IsKinded}
-use Rattle.rv_flat.specs.Thresholds.{AreThresholds}
-use Rattle.rv_flatten.specs.Readings.{IsRead, AreKinds}
-use Rattle.rv_flatten.proofs.AgreedLaws.{Laws}
-use Rattle.rv_flat.proofs.Inlining.{is_table}
-use Rattle.rv_flatten.proofs.KindedParts.{are_kinded}
-use Rattle.rv_flatten.proofs.NamedParts.{keeps_products}
-use Rattle.rv_flatten.proofs.OnePlace.{one_raw}
-use Rattle.rv_flat.proofs.PlaceNumbers.{row_again}
-use Rattle.rv_flatten.proofs.ReadChecks.{is_checked, is_inlined}
+use Rattle.rv_flat.specs.{declared.flat.Flat.Flat, Lists.variable_of, Lists.column_of, FlatInstants.places, FlatInstants.system_of, FlatOf.numbers_of}
+use Rattle.rv_flat.specs.{FlatOf.IsFlatOf, Inlined.IsTable, Thresholds.AreThresholds}
+use Rattle.rv_flatten.specs.{Kinded.IsKinded, Readings.IsRead, Readings.AreKinds}
 use Rattle.rv_flatten.proofs.ReadInstants.{flow_count, instant_read, row_read, next_read, assertions_read}
-use Rattle.rv_flat.proofs.Running.{within_places}
 use Rattle.rv_flatten.proofs.SymbolicRead.{system_read, symbolic_there, symbolic_back, comparison_there, comparison_only}
-use Rattle.rv_flatten.proofs.Translated.{AreAlike, is_translated}
+use Rattle.rv_flatten.proofs.{AgreedLaws.Laws, KindedParts.are_kinded, NamedParts.keeps_products, OnePlace.one_raw, ReadChecks.is_checked}
+use Rattle.rv_flatten.proofs.{ReadChecks.is_inlined, Translated.AreAlike, Translated.is_translated}
+use Rattle.rv_flat.proofs.{Inlining.is_table, PlaceNumbers.row_again, Running.within_places}
 
 module _ (laws : Laws) (program : ProgramTree) (main : Identifier) (well : AreWell program) (named : IsNode program main) (weights : AreLight program main)
     (defined : AreDefined program main) (f : Flat) where

@@ -1,60 +1,41 @@
 -- A flat system that is read from its program has the instants of the program, and the same states after them.
-use Rattle.std.proofs.Common.{◌≡◌, ℕ, zero, suc, ◌+◌, ◌<◌, ◌≤◌, ◌↔◌, Bool, true, false, ◌||◌, cond, List, [], ◌∷◌, ◌++◌, map, length, get_or, refl}
-use Rattle.std.proofs.Common.{sym, ◌∙◌, ap, subst, arith, Option, Some, IsSome, None as Nothing}
+use Rattle.std.proofs.Common.{◌≡◌, ℕ, zero, suc, ◌+◌, ◌<◌, ◌≤◌, ◌↔◌, Bool, true, false, ◌||◌, cond, List, [], ◌∷◌, ◌++◌, map, length, get_or, refl, sym, ◌∙◌}
+use Rattle.std.proofs.Common.{ap, subst, arith, Option, Some, IsSome, None as Nothing}
 use Rattle.std.proofs.lemmas.List.{length-map, get_or-map, get_or_default}
-use Rattle.std.proofs.lemmas.Option.{none-some, same_Some}
-use Rattle.std.proofs.lemmas.Simd.{map-map}
+use Rattle.std.proofs.{lemmas.Option.none-some, lemmas.Option.same_Some, lemmas.Simd.map-map}
 use Rattle.std.specs.List.{Contains}
 use Rattle.std.specs.FinMap as finite
-use Rattle.rv_base.specs.declared.value.Value.{Value}
-use Rattle.rv_base.specs.declared.value.Value.TheVariants.{Flag}
-use Rattle.rv_tree.specs.Tree.{Tree, AssertionTree, ProgramTree}
+use Rattle.rv_base.specs.{declared.value.Value.Value, declared.value.Value.TheVariants.Flag, Limits.heaviest}
 use Rattle.rv_tree.specs.Places.{Identifier, Sites, flows, is_among, index_of}
-use Rattle.rv_tree.specs.Delays.{Delay, node_delays}
-use Rattle.rv_types.specs.declared.typed.Clock.{Clock}
-use Rattle.rv_types.specs.declared.typed.Clock.TheVariants.{Base}
-use Rattle.rv_types.specs.declared.typed.Kind.{Kind}
-use Rattle.rv_types.specs.declared.typed.Kind.TheVariants as kind
+use Rattle.rv_tree.specs.{Tree.Tree, Tree.AssertionTree, Tree.ProgramTree, Delays.Delay, Delays.node_delays}
 use Rattle.rv_types.specs.Variables.{node_parts, is_arrow}
 use Rattle.rv_types.specs.Instances.{Body, Output, Instance, place, absolute, clock_of, clock_in, clock_of_arguments, output_place, IsInstance, IsFlow, IsNode}
 use Rattle.rv_types.specs.Needs.{Giver, Given, Of, Gives, given, by_equation, by_call}
-use Rattle.rv_types.specs.Lists.{delay_place}
-use Rattle.rv_types.specs.WellFormed.{AreWell}
+use Rattle.rv_types.specs.{declared.typed.Clock.Clock, declared.typed.Clock.TheVariants.Base, declared.typed.Kind.Kind, Lists.delay_place, WellFormed.AreWell}
+use Rattle.rv_types.specs.declared.typed.Kind.TheVariants as kind
 use Rattle.rv_meaning.specs.Meaning.{Cells, is_there, held, is_on, is_true}
-use Rattle.rv_meaning.specs.Runs.{Instant, flat, cell}
-use Rattle.rv_meaning.specs.Givers.{AreDefined, expected}
 use Rattle.rv_meaning.specs.Instants.{State as Brought, is_on_in, now, value_now, right_now, IsInstant, IsNext}
-use Rattle.rv_base.specs.Limits.{heaviest}
+use Rattle.rv_meaning.specs.{Runs.Instant, Runs.flat, Runs.cell, Givers.AreDefined, Givers.expected}
 use Rattle.rv_instances.specs.Weights.{weight, AreLight}
-use Rattle.rv_agreement.specs.Evaluation.{form_value, integers}
-use Rattle.rv_agreement.specs.Evaluation as evaluation
-use Rattle.rv_agreement.specs.Programs.{found_of}
 use Rattle.rv_agreement.specs.Translation.{Numbers, clock_number, tick_number, flat_of, giver_item, IsTranslated}
-use Rattle.rv_agreement.specs.Trees.{FlatTree, Item}
-use Rattle.rv_flat.specs.declared.flat.Flat.{Flat}
-use Rattle.rv_flat.specs.declared.parts.FlatExpr.{FlatExpr}
-use Rattle.rv_flat.specs.declared.parts.FlatForm.TheFolds.{fold_out-FlatExpr}
-use Rattle.rv_flat.specs.declared.state.State.{State}
-use Rattle.rv_flat.specs.Lists.{tick_places}
+use Rattle.rv_agreement.specs.{Evaluation.form_value, Evaluation.integers, Programs.found_of, Trees.FlatTree, Trees.Item}
+use Rattle.rv_agreement.specs.Evaluation as evaluation
 use Rattle.rv_flat.specs.FlatInstants.{Row, nth, is_on_at, value_at, found_at, nth_item, flow_items, memory_items, assertion_trees, places, memory_places}
 use Rattle.rv_flat.specs.FlatInstants.{tick_clocks, system_of, IsFlatInstant, IsFlatNext}
 use Rattle.rv_flat.specs.FlatOf.{numbers_of, flat_state, flat_inputs, row_of, instant_of, IsBroken, IsFlatBroken, no_assertion}
 use Rattle.rv_flat.specs.Inlined.{IsTable, form_inlined, table_of, inlined, tree_among}
-use Rattle.rv_flat.specs.RawTree.{RawTree, RawForm, raw_tree, form_of}
+use Rattle.rv_flat.specs.{declared.flat.Flat.Flat, declared.parts.FlatExpr.FlatExpr, declared.parts.FlatForm.TheFolds.fold_out-FlatExpr}
+use Rattle.rv_flat.specs.{declared.state.State.State, Lists.tick_places, RawTree.RawTree, RawTree.RawForm, RawTree.raw_tree, RawTree.form_of}
 use Rattle.rv_flat.specs.RawTree as raw
 use Rattle.rv_flatten.specs.Readings.{IsRead, presence, assertion_of, no_assumption}
-use Rattle.rv_flatten.proofs.AgreedLaws.{Laws}
-use Rattle.rv_flatten.proofs.NamedParts.{names_in, products_in}
-use Rattle.rv_flat.proofs.TypedParts.{some_is, IsTyped}
 use Rattle.rv_flatten.proofs.Standing.{Stands, body_stands, as_assertion, argument_stands, operand_stands}
-use Rattle.rv_flat.proofs.PlaceNumbers.{made_at, row_agrees, instant_agrees, instant_places}
 use Rattle.rv_flatten.proofs.Translated.{AreAlike, is_translated, memory_is, whole_shown, mapped_at, memory_there}
-use Rattle.rv_flatten.proofs.WellInstances.{typed, is_light}
+use Rattle.rv_flatten.proofs.{AgreedLaws.Laws, NamedParts.names_in, NamedParts.products_in, WellInstances.typed, WellInstances.is_light}
+use Rattle.rv_flat.proofs.PlaceNumbers.{made_at, row_agrees, instant_agrees, instant_places}
+use Rattle.rv_flat.proofs.{TypedParts.some_is, TypedParts.IsTyped, Typing.value_kth}
 use Rattle.rv_agreement.proofs.Meanings.{held_same, on_same}
-use Rattle.rv_flat.proofs.Typing.{value_kth}
-use Rattle.rv_types.proofs.Members.{among_from, index_there}
+use Rattle.rv_types.proofs.{Members.among_from, Members.index_there, ChainLaws.no_flag}
 use Rattle.rv_base.proofs.Lists.{item_at}
-use Rattle.rv_types.proofs.ChainLaws.{no_flag}
 
 -- what a giver makes of an instant
 abbrev pub expected_now : ProgramTree → Brought → (ℕ → Value) → Instant → Giver → Option Value

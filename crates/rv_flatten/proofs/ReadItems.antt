@@ -1,46 +1,27 @@
 -- What is told of givers, memories and assertions of instances, as far as flat items need it.
 use Rattle.std.proofs.Common.{◌≡◌, ℕ, suc, ◌+◌, ◌<◌, ◌≤◌, Bool, true, false, ◌||◌, cond, List, [], ◌∷◌, map, length, get_or, refl, sym, ◌∙◌, ap, subst, arith}
 use Rattle.std.proofs.Common.{length-append, unwrap_or, Some, IsSome}
-use Rattle.std.proofs.lemmas.List.{length-map}
-use Rattle.std.proofs.lemmas.Option.{slice_get_within}
+use Rattle.std.proofs.{lemmas.List.length-map, lemmas.Option.slice_get_within}
 use Rattle.std.specs.List.{Contains}
-use Rattle.rv_tree.specs.Tree.{Tree, NodeTree, ProgramTree}
 use Rattle.rv_tree.specs.Places.{Identifier, Sites, flows as flows_of, is_among, is_same, index_of, site_of}
-use Rattle.rv_tree.specs.Bounded.{most}
-use Rattle.rv_types.specs.declared.typed.Clock.{Clock}
-use Rattle.rv_types.specs.declared.typed.Clock.TheVariants.{Base, On}
-use Rattle.rv_types.specs.Clocks.{pace, pace_of_all}
-use Rattle.rv_types.specs.Kinds.{decl_kinds, kind_in_program, node_among, node_named}
-use Rattle.rv_types.specs.Names.{texts}
-use Rattle.rv_types.specs.Settled.{node_number}
-use Rattle.rv_types.specs.Types.{kind_of}
-use Rattle.rv_types.specs.Scopes.{node_scope, constant_value}
-use Rattle.rv_types.specs.ValueTables.{value_by}
-use Rattle.rv_types.specs.Instances.{CallTree, calls, Right, Body, Output, Instance, clock_taken as taken_clock, clock_of, clock_of_args, node_of}
-use Rattle.rv_types.specs.Instances.{no_node, callee, IsInstance, is_main, is_callee, IsNode}
+use Rattle.rv_tree.specs.{Tree.Tree, Tree.NodeTree, Tree.ProgramTree, Bounded.most}
+use Rattle.rv_types.specs.Instances.{CallTree, calls, Right, Body, Output, Instance, clock_taken as taken_clock, clock_of, clock_of_args, node_of, no_node}
+use Rattle.rv_types.specs.Instances.{callee, IsInstance, is_main, is_callee, IsNode}
 use Rattle.rv_types.specs.Needs.{Given, Of, Gives, by_equation, by_call}
-use Rattle.rv_types.specs.Variables.{node_parts}
-use Rattle.rv_types.specs.WellFormed.{AreWell}
-use Rattle.rv_instances.specs.declared.answer.Instance.{Instance as Numbered}
-use Rattle.rv_instances.specs.declared.givers.BodyOf.{BodyOf}
-use Rattle.rv_instances.specs.declared.givers.OutputOf.{OutputOf}
+use Rattle.rv_types.specs.{declared.typed.Clock.Clock, declared.typed.Clock.TheVariants.Base, declared.typed.Clock.TheVariants.On, Clocks.pace}
+use Rattle.rv_types.specs.{Clocks.pace_of_all, Kinds.decl_kinds, Kinds.kind_in_program, Kinds.node_among, Kinds.node_named, Names.texts, Settled.node_number}
+use Rattle.rv_types.specs.{Types.kind_of, Scopes.node_scope, Scopes.constant_value, ValueTables.value_by, Variables.node_parts, WellFormed.AreWell}
+use Rattle.rv_instances.specs.{declared.answer.Instance.Instance as Numbered, declared.givers.BodyOf.BodyOf, declared.givers.OutputOf.OutputOf}
+use Rattle.rv_instances.specs.{declared.reader.Reader.Reader, Expanded.IsExpanded, Expanded.IsKnown, Expanded.program_of, Expanded.main_of, Layouts.IsLayout}
+use Rattle.rv_instances.specs.{Layouts.IsNumberOf, Layouts.IsWithin, Layouts.node_at, NumberedNeeds.IsReader, NumberedNeeds.IsGiver, NumberedNeeds.node_read}
+use Rattle.rv_instances.specs.{NumberedNeeds.numbers_of, Weights.AreLight}
 use Rattle.rv_instances.specs.declared.givers.Giver.TheVariants as told
-use Rattle.rv_instances.specs.declared.reader.Reader.{Reader}
-use Rattle.rv_instances.specs.Expanded.{IsExpanded, IsKnown, program_of, main_of}
-use Rattle.rv_instances.specs.Layouts.{IsLayout, IsNumberOf, IsWithin, node_at}
-use Rattle.rv_instances.specs.NumberedNeeds.{IsReader, IsGiver, node_read, numbers_of}
-use Rattle.rv_instances.specs.Weights.{AreLight}
-use Rattle.rv_flatten.specs.declared.frame.Frame.{Frame}
-use Rattle.rv_flatten.specs.Frames.{IsFrame, IsNumbering}
-use Rattle.rv_flatten.specs.NodeReaders.{scope_by}
+use Rattle.rv_flatten.specs.{declared.frame.Frame.Frame, Frames.IsFrame, Frames.IsNumbering, NodeReaders.scope_by}
 use Rattle.rv_agreement.specs.Translation.{Numbers}
 use Rattle.rv_flatten.proofs.Standing.{stands_in, body_stands, argument_stands, output_call}
-use Rattle.rv_flatten.proofs.WellInstances.{node_in, formed, typed}
 use Rattle.rv_flatten.proofs.ClockKinds.{IsTrueClock, clock_taken, clock_is_true, paces_are_true}
-use Rattle.rv_flatten.proofs.ReadTables.{clock_known}
-use Rattle.rv_flatten.proofs.MainNames.{is_node}
-use Rattle.rv_meaning.proofs.Acceptable.{suits_taken}
-use Rattle.rv_meaning.proofs.NameLemmas.{same_text}
+use Rattle.rv_flatten.proofs.{WellInstances.node_in, WellInstances.formed, WellInstances.typed, ReadTables.clock_known, MainNames.is_node}
+use Rattle.rv_meaning.proofs.{Acceptable.suits_taken, NameLemmas.same_text}
 use Rattle.rv_types.proofs.ChainLaws.{no_flag}
 
 -- The number of a node that is there.

@@ -1,33 +1,19 @@
 -- What a flat system keeps in its type holds of what is read of a program.
 use Rattle.std.proofs.Common.{◌≡◌, ℕ, true, List, map, length, subst, Option}
-use Rattle.rv_tree.specs.Tree.{ProgramTree}
-use Rattle.rv_tree.specs.Places.{Identifier, Sites}
-use Rattle.rv_types.specs.Instances.{IsNode}
-use Rattle.rv_types.specs.WellFormed.{AreWell}
+use Rattle.rv_tree.specs.{Tree.ProgramTree, Places.Identifier, Places.Sites}
+use Rattle.rv_types.specs.{Instances.IsNode, WellFormed.AreWell}
 use Rattle.rv_instances.specs.Weights.{AreLight}
-use Rattle.rv_agreement.specs.Agreement.{AreApart}
 use Rattle.rv_agreement.specs.Checks.{are_distinct, assertions_fit, clocks_fit, flows_fit, memories_fit, same_flow, same_sites}
-use Rattle.rv_agreement.specs.Translation.{Numbers, IsTranslated}
-use Rattle.rv_agreement.specs.Trees.{System}
-use Rattle.rv_flat.specs.declared.parts.Bit.{Bit}
-use Rattle.rv_flat.specs.declared.parts.FlatExpr.{FlatExpr}
-use Rattle.rv_flat.specs.declared.parts.FlatFlow.{FlatFlow}
-use Rattle.rv_flat.specs.declared.parts.FlatInput.{FlatInput}
-use Rattle.rv_flat.specs.declared.parts.FlatMemory.{FlatMemory}
-use Rattle.rv_flat.specs.Facts.{flow_weights, items_light}
-use Rattle.rv_flat.specs.Inlined.{all_end}
-use Rattle.rv_flatten.specs.Kinded.{IsKinded}
-use Rattle.rv_flatten.specs.Readings.{numbers_of, IsRead, AreKinds}
+use Rattle.rv_agreement.specs.{Agreement.AreApart, Translation.Numbers, Translation.IsTranslated, Trees.System}
 use Rattle.rv_flat.specs.Systems.{assertion_item, flow_item, kept_of, memory_item, memory_places_of, system_from, tick_clocks_of, tick_flows_of}
-use Rattle.rv_flatten.proofs.ApartComparisons.{comparisons_apart}
-use Rattle.rv_flatten.proofs.DistinctPlaces.{distinct_ticks, distinct_memories}
-use Rattle.rv_flatten.proofs.Ending.{memories_end}
-use Rattle.rv_flat.proofs.Inlining.{is_table}
-use Rattle.rv_flatten.proofs.KindedParts.{are_kinded, items_are, places_are}
-use Rattle.rv_flatten.proofs.OnePlace.{one_raw}
+use Rattle.rv_flat.specs.{declared.parts.Bit.Bit, declared.parts.FlatExpr.FlatExpr, declared.parts.FlatFlow.FlatFlow, declared.parts.FlatInput.FlatInput}
+use Rattle.rv_flat.specs.{declared.parts.FlatMemory.FlatMemory, Facts.flow_weights, Facts.items_light, Inlined.all_end}
+use Rattle.rv_flatten.specs.{Kinded.IsKinded, Readings.numbers_of, Readings.IsRead, Readings.AreKinds}
 use Rattle.rv_flatten.proofs.ReadFits.{all_flows_fit, all_memories_fit, all_assertions_fit, all_clocks_fit}
-use Rattle.rv_flatten.proofs.ReadWeights.{all_flows_light, all_memories_light, all_assertions_light}
-use Rattle.rv_flatten.proofs.Translated.{is_translated}
+use Rattle.rv_flatten.proofs.{ApartComparisons.comparisons_apart, DistinctPlaces.distinct_ticks, DistinctPlaces.distinct_memories, Ending.memories_end}
+use Rattle.rv_flatten.proofs.{KindedParts.are_kinded, KindedParts.items_are, KindedParts.places_are, OnePlace.one_raw, ReadWeights.all_flows_light}
+use Rattle.rv_flatten.proofs.{ReadWeights.all_memories_light, ReadWeights.all_assertions_light, Translated.is_translated}
+use Rattle.rv_flat.proofs.Inlining.{is_table}
 
 module _ (program : ProgramTree) (main : Identifier) (well : AreWell program) (named : IsNode program main) (light : AreLight program main)
     (flows : List FlatFlow) (memories : List FlatMemory) (inputs : List FlatInput) (variables : List Bit) (assertions : List FlatExpr)

@@ -1,17 +1,11 @@
 -- The tables of the flows of nodes, and those of instances.
 use Rattle.std.proofs.Common.{◌≡◌, ℕ, ◌<◌, List, map, length, get_or, sym, ◌∙◌, ap, subst, arith, slice_get, Some}
-use Rattle.std.proofs.lemmas.List.{length-map, get_or-map}
-use Rattle.std.proofs.lemmas.Option.{get_or_from_slice_get}
+use Rattle.std.proofs.{lemmas.List.length-map, lemmas.List.get_or-map, lemmas.Option.get_or_from_slice_get}
 use Rattle.rv_tree.specs.Tree.{ProgramTree}
-use Rattle.rv_types.specs.declared.reading.NodeTables.{NodeTables}
-use Rattle.rv_types.specs.declared.reading.ProgramTables.{ProgramTables}
-use Rattle.rv_types.specs.Instances.{no_node}
-use Rattle.rv_types.specs.Scopes.{node_scope}
-use Rattle.rv_types.specs.Types.{Scope}
-use Rattle.rv_instances.specs.declared.answer.Instance.{Instance as Numbered}
-use Rattle.rv_instances.specs.declared.expanded.Expanded.{Expanded}
+use Rattle.rv_types.specs.{declared.reading.NodeTables.NodeTables, declared.reading.ProgramTables.ProgramTables, Instances.no_node, Scopes.node_scope}
+use Rattle.rv_types.specs.{Types.Scope}
 use Rattle.rv_instances.specs.Expanded.{IsKnown, no_instance, program_of, main_of}
-use Rattle.rv_instances.specs.Layouts.{node_at}
+use Rattle.rv_instances.specs.{declared.answer.Instance.Instance as Numbered, declared.expanded.Expanded.Expanded, Layouts.node_at}
 use Rattle.rv_flatten.specs.NodeReaders.{AreOwnTables, scope_by}
 use Rattle.rv_flatten.proofs.InstanceNumbers.{made_of, node_within}
 

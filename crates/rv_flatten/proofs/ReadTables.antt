@@ -1,64 +1,39 @@
 -- What is made of an expression by the tables of a frame is the flat expression of the program.
 use Rattle.std.proofs.Common.{◌≡◌, ℕ, suc, ◌+◌, ◌<◌, min, Bool, true, false, ◌||◌, cond, negsuc, List, [], ◌∷◌, map, length, refl, sym, ◌∙◌, ap, subst, arith}
 use Rattle.std.proofs.Common.{length-append, unwrap_or, Option, Some, IsSome, None as Nothing}
-use Rattle.std.proofs.lemmas.List.{length-map}
-use Rattle.std.proofs.lemmas.Option.{slice_get_within}
+use Rattle.std.proofs.{lemmas.List.length-map, lemmas.Option.slice_get_within}
 use Rattle.std.specs.List.{Contains}
-use Rattle.rv_tree.specs.declared.tree.Op.{Op}
-use Rattle.rv_tree.specs.declared.tree.Op.TheVariants as op
-use Rattle.rv_tree.specs.declared.tree.Expr.{Expr}
-use Rattle.rv_tree.specs.Tree as tree
 use Rattle.rv_tree.specs.Tree.{Tree, Form, Trees, NodeTree, ProgramTree, tree_of, trees}
 use Rattle.rv_tree.specs.Places.{Identifier, Sites, flows as flows_of, is_flow, is_among, is_same, site_of, index_of, memory_site}
-use Rattle.rv_tree.specs.Delays.{node_delays}
-use Rattle.rv_types.specs.declared.typed.Kind.{Kind}
-use Rattle.rv_types.specs.declared.typed.Kind.TheVariants as kind
-use Rattle.rv_types.specs.declared.typed.Clock.{Clock}
-use Rattle.rv_types.specs.declared.typed.Clock.TheVariants.{Base, On}
-use Rattle.rv_types.specs.declared.weighing.Weighed.{Weighed}
-use Rattle.rv_types.specs.declared.fault.Pace.{Pace}
-use Rattle.rv_types.specs.Clocks.{pace}
-use Rattle.rv_types.specs.ToldPaces.{IsTimed, told_pace}
-use Rattle.rv_types.proofs.ToldPaces.{told_is as told_pace_is}
-use Rattle.rv_types.specs.Kinds.{decl_kinds, flow_kind, flow_kinds, kind_in_program}
-use Rattle.rv_types.specs.Types.{kind_in, kind_of, both_are, binary_rule, is_constant}
-use Rattle.rv_types.specs.Constants.{whole_in, value_of, weight_of}
-use Rattle.rv_types.specs.ConstantParts.{constant_part}
-use Rattle.rv_base.specs.Limits.{too_heavy}
-use Rattle.rv_types.specs.Scopes.{node_scope, constant_value}
-use Rattle.rv_types.specs.Names.{texts}
+use Rattle.rv_tree.specs.{declared.tree.Op.Op, declared.tree.Expr.Expr, Delays.node_delays}
+use Rattle.rv_tree.specs.declared.tree.Op.TheVariants as op
+use Rattle.rv_tree.specs.Tree as tree
 use Rattle.rv_types.specs.Instances.{CallTree, calls, Instance, place, absolute, clock_in, taken, output_place, node_of, IsNode, IsArgument, head, tail}
-use Rattle.rv_types.specs.Lists.{AreTicks}
-use Rattle.rv_types.specs.Variables.{node_parts, is_arrow}
-use Rattle.rv_types.specs.WellFormed.{AreWell}
-use Rattle.rv_instances.specs.declared.answer.Instance.{Instance as Numbered}
-use Rattle.rv_instances.specs.Callees.{callee_in}
-use Rattle.rv_instances.specs.Expanded.{program_of, main_of}
+use Rattle.rv_types.specs.{declared.typed.Kind.Kind, declared.typed.Clock.Clock, declared.typed.Clock.TheVariants.Base, declared.typed.Clock.TheVariants.On}
+use Rattle.rv_types.specs.{declared.weighing.Weighed.Weighed, declared.fault.Pace.Pace, Clocks.pace, ToldPaces.IsTimed, ToldPaces.told_pace, Kinds.decl_kinds}
+use Rattle.rv_types.specs.{Kinds.flow_kind, Kinds.flow_kinds, Kinds.kind_in_program, Types.kind_in, Types.kind_of, Types.both_are, Types.binary_rule}
+use Rattle.rv_types.specs.{Types.is_constant, Constants.whole_in, Constants.value_of, Constants.weight_of, ConstantParts.constant_part, Scopes.node_scope}
+use Rattle.rv_types.specs.{Scopes.constant_value, Names.texts, Lists.AreTicks, Variables.node_parts, Variables.is_arrow, WellFormed.AreWell}
+use Rattle.rv_types.specs.declared.typed.Kind.TheVariants as kind
+use Rattle.rv_types.proofs.{ToldPaces.told_is as told_pace_is, Members.index_there, ChainLaws.no_flag}
+use Rattle.rv_base.specs.Limits.{too_heavy}
 use Rattle.rv_instances.specs.Layouts.{Here, IsPlaced, IsClockPlaced, IsHere, all_places}
 use Rattle.rv_instances.specs.NumberedNeeds.{flow_number, clock_number as number_of_clock, clock_of_expression, numbers_of}
-use Rattle.rv_flatten.specs.declared.frame.Frame.{Frame}
-use Rattle.rv_flat.specs.RawTree.{RawTree, Node, RawForm, Constant, Flow, Memory, Ticked, Not, Binary, Scale, If, AtMostOne, When, Current, More, raw_trees}
-use Rattle.rv_agreement.specs.Programs.{spot, operator_place, coefficient}
-use Rattle.rv_flatten.specs.Compared.{is_told_test}
-use Rattle.rv_flatten.specs.Frames.{IsFrame}
+use Rattle.rv_instances.specs.{declared.answer.Instance.Instance as Numbered, Callees.callee_in, Expanded.program_of, Expanded.main_of}
 use Rattle.rv_flatten.specs.Readings.{unplaced, product, operator, flow_at, kept_number, named, raw_of, raw_form, raws_of}
-use Rattle.rv_agreement.specs.Translation.{Numbers, clock_number, tick_number}
 use Rattle.rv_flatten.specs.Tables.{product_read, path_read, operator_place_read, flow_read, clock_read, tick_read, clock_of_read, told_clock_read, kept_read}
 use Rattle.rv_flatten.specs.Tables.{flow_named, named_read, constant_read, output_read, tree_read, form_read, trees_read}
+use Rattle.rv_flatten.specs.{declared.frame.Frame.Frame, Compared.is_told_test, Frames.IsFrame}
+use Rattle.rv_flat.specs.RawTree.{RawTree, Node, RawForm, Constant, Flow, Memory, Ticked, Not, Binary, Scale, If, AtMostOne, When, Current, More, raw_trees}
+use Rattle.rv_agreement.specs.Programs.{spot, operator_place, coefficient}
+use Rattle.rv_agreement.specs.Translation.{Numbers, clock_number, tick_number}
 use Rattle.rv_flatten.proofs.Standing.{Stands, as_child, of_not, of_minus, of_when, of_left, of_right, of_condition, of_first, of_second, of_operand, own_delay}
 use Rattle.rv_flatten.proofs.Standing.{own_current, own_call, stands_in}
-use Rattle.rv_flatten.proofs.PartsStand.{standing, calling, part_is}
+use Rattle.rv_flatten.proofs.{PartsStand.standing, PartsStand.calling, PartsStand.part_is, TimedParts.stands_timed, WellInstances.formed, WellInstances.typed}
+use Rattle.rv_flatten.proofs.{ClockKinds.IsTrueClock, ClockKinds.clock_taken, ClockKinds.pace_is_true, FlowKinds.kinds_many, FlowKinds.signature_is}
+use Rattle.rv_flatten.proofs.{ToldTests.told_is, MainNames.is_node, NamedParts.scaled_product}
 use Rattle.rv_flat.proofs.TypedParts.{some_is, IsTyped, not_typed, minus_typed, when_typed, binary_typed, if_typed, most_typed, call_typed}
-use Rattle.rv_flatten.proofs.TimedParts.{stands_timed}
-use Rattle.rv_flatten.proofs.WellInstances.{formed, typed}
-use Rattle.rv_flatten.proofs.ClockKinds.{IsTrueClock, clock_taken, pace_is_true}
-use Rattle.rv_flatten.proofs.FlowKinds.{kinds_many, signature_is}
-use Rattle.rv_flatten.proofs.ToldTests.{told_is}
-use Rattle.rv_flatten.proofs.MainNames.{is_node}
-use Rattle.rv_flatten.proofs.NamedParts.{scaled_product}
 use Rattle.rv_meaning.proofs.Told.{index_past}
-use Rattle.rv_types.proofs.Members.{index_there}
-use Rattle.rv_types.proofs.ChainLaws.{no_flag}
 
 -- the expressions of a list, each made flat
 pub each_read : (x : Frame) (es : List Expr) → raw_trees (map (λ e. tree_read x (tree_of e)) es) ≡ trees_read x (trees (map tree_of es))

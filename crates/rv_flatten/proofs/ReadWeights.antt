@@ -1,49 +1,35 @@
 -- What is read of a program has the weights of the program, so no part of it is above the limit.
-use Rattle.std.proofs.Common.{◌≡◌, ℕ, zero, suc, ◌+◌, ◌*◌, ◌<◌, ◌≤◌, max, Bool, true, false, ◌||◌, cond, nat_lt, nat_le, pos, negsuc, nat_abs, List, []}
-use Rattle.std.proofs.Common.{◌∷◌, ◌++◌, length, get_or, slice_get, refl, sym, ◌∙◌, ap, subst, arith, unwrap_or, Option, Some}
-use Rattle.std.proofs.lemmas.Bool.Decides.{nat_tests}
-use Rattle.std.proofs.lemmas.Int.{ints}
+use Rattle.std.proofs.Common.{◌≡◌, ℕ, zero, suc, ◌+◌, ◌*◌, ◌<◌, ◌≤◌, max, Bool, true, false, ◌||◌, cond, nat_lt, nat_le, pos, negsuc, nat_abs, List, [], ◌∷◌}
+use Rattle.std.proofs.Common.{◌++◌, length, get_or, slice_get, refl, sym, ◌∙◌, ap, subst, arith, unwrap_or, Option, Some}
 use Rattle.std.proofs.lemmas.List.{length-map, get_or_default, get_or_append_left, get_or_push, length_push}
-use Rattle.std.proofs.lemmas.List.Elements.{Contains-append_left, Contains-append_right, All-contains}
-use Rattle.std.proofs.lemmas.Option.{slice_get_within, get_or_from_slice_get}
+use Rattle.std.proofs.{lemmas.Bool.Decides.nat_tests, lemmas.Int.ints, lemmas.List.Elements.Contains-append_left, lemmas.List.Elements.Contains-append_right}
+use Rattle.std.proofs.{lemmas.List.Elements.All-contains, lemmas.Option.slice_get_within, lemmas.Option.get_or_from_slice_get, lemmas.Bool.and_from}
 use Rattle.std.specs.List.{All, Contains}
-use Rattle.rv_base.specs.declared.value.Value.{Value}
 use Rattle.rv_base.specs.declared.value.Value.TheVariants.{Flag, Label, Whole}
-use Rattle.rv_tree.specs.declared.tree.Op.{Op}
+use Rattle.rv_base.specs.{declared.value.Value.Value, Limits.heaviest}
+use Rattle.rv_tree.specs.Places.{Identifier, Sites, flows as flows_of, is_flow, index_of}
+use Rattle.rv_tree.specs.{declared.tree.Op.Op, Tree.Tree, Tree.Form, Tree.Trees, Tree.ProgramTree}
 use Rattle.rv_tree.specs.declared.tree.Op.TheVariants as op
 use Rattle.rv_tree.specs.Tree as tree
-use Rattle.rv_tree.specs.Tree.{Tree, Form, Trees, ProgramTree}
-use Rattle.rv_tree.specs.Places.{Identifier, Sites, flows as flows_of, is_flow, index_of}
-use Rattle.rv_types.specs.declared.typed.Kind.{Kind}
-use Rattle.rv_types.specs.declared.typed.Kind.TheVariants as kind
-use Rattle.rv_types.specs.declared.typed.Clock.{Clock}
-use Rattle.rv_types.specs.declared.typed.Clock.TheVariants.{Base}
-use Rattle.rv_types.specs.Types.{kind_in, both_are, binary_rule, is_constant}
-use Rattle.rv_types.specs.Constants.{whole_in}
-use Rattle.rv_types.specs.Scopes.{node_scope, constant_value}
 use Rattle.rv_types.specs.Instances.{CallTree, Body, Output, Instance, place, absolute, clock_of, clock_taken as taken_clock, clock_in, clock_of_arguments}
 use Rattle.rv_types.specs.Instances.{output_place, IsInstance, IsFlow, IsNode, IsArgument, head, tail}
 use Rattle.rv_types.specs.Needs.{flow_of, needs, form_needs, needs_of, Giver, Gives, given, by_equation, by_call, IsAmongFirst}
-use Rattle.rv_types.specs.WellFormed.{AreWell}
-use Rattle.rv_base.specs.Limits.{heaviest}
+use Rattle.rv_types.specs.{declared.typed.Kind.Kind, declared.typed.Clock.Clock, declared.typed.Clock.TheVariants.Base, Types.kind_in, Types.both_are}
+use Rattle.rv_types.specs.{Types.binary_rule, Types.is_constant, Constants.whole_in, Scopes.node_scope, Scopes.constant_value, WellFormed.AreWell}
+use Rattle.rv_types.specs.declared.typed.Kind.TheVariants as kind
 use Rattle.rv_instances.specs.Weights.{constant_size, weight, form_weight, weight_of_giver, IsTooWide, AreWeights}
 use Rattle.rv_agreement.specs.Programs.{coefficient, operation}
 use Rattle.rv_agreement.specs.Translation.{Numbers, tick_number, unplaced, flat_of, flat_form, flats_of, giver_item, IsTranslated}
 use Rattle.rv_agreement.specs.Trees.{FlatTree, TreeForm, Constant, Flow, Ticked, Scale, If, Binary, Item, Kept, System, no_item, nth_item, memory_items}
 use Rattle.rv_flat.specs.Facts.{constant_weight, flat_weight, form_flat_weight, is_light, form_is_light, all_light, weights_after, flow_weights, items_light}
-use Rattle.rv_flatten.proofs.ItemClocks.{number_at, number_within}
 use Rattle.rv_flatten.proofs.Standing.{Stands, as_child, of_not, of_minus, of_current, of_when, of_left, of_right, of_condition, of_first, of_second}
 use Rattle.rv_flatten.proofs.Standing.{of_operand, own_call, body_stands, argument_stands, operand_stands, as_assertion, output_call}
-use Rattle.rv_flat.proofs.TypedParts.{some_is, IsTyped, not_typed, minus_typed, current_typed, when_typed, binary_typed, if_typed, most_typed}
-use Rattle.rv_flat.proofs.TypedParts.{call_typed}
-use Rattle.rv_flat.proofs.PlaceNumbers.{its_number}
-use Rattle.rv_flatten.proofs.WellInstances.{typed, is_light as stands_light}
-use Rattle.rv_flatten.proofs.ConstantOperands.{weighs}
-use Rattle.rv_flatten.proofs.ConstantSizes.{value_size}
 use Rattle.rv_flatten.proofs.FlowKinds.{HasFlow, is_flow as flow_there, signature_is, output_flow}
-use Rattle.rv_flatten.proofs.NamedParts.{other_constant, scaled_product}
+use Rattle.rv_flatten.proofs.{ItemClocks.number_at, ItemClocks.number_within, WellInstances.typed, WellInstances.is_light as stands_light}
+use Rattle.rv_flatten.proofs.{ConstantOperands.weighs, ConstantSizes.value_size, NamedParts.other_constant, NamedParts.scaled_product}
+use Rattle.rv_flat.proofs.TypedParts.{some_is, IsTyped, not_typed, minus_typed, current_typed, when_typed, binary_typed, if_typed, most_typed, call_typed}
+use Rattle.rv_flat.proofs.PlaceNumbers.{its_number}
 use Rattle.rv_types.proofs.Members.{among_contains, at_head, in_tail}
-use Rattle.std.proofs.lemmas.Bool.{and_from}
 
 within_told : (m n : ℕ) → m ≤ n → nat_le m n ≡ true
 within_told m n le = grind (arith, nat_tests, le)

@@ -1,18 +1,13 @@
 -- What was sorted by places, and of which only one of each place was kept.
 use Rattle.std.proofs.Common.{◌≡◌, ℕ, zero, suc, ◌<◌, Bool, List, [], ◌∷◌, map, length, sym, ap, subst, arith, get_or}
 use Rattle.std.proofs.lemmas.Cmp.{on_total, on_equiv, nat_list_cmp_total, nat_list_eq_equiv}
-use Rattle.std.specs.Cmp.{IsTotalOrder, IsEquivalence}
-use Rattle.std.specs.Cmp.Lexicographic.{slice_cmp, texts_ties}
-use Rattle.std.specs.List.{AllByRecursion, Contains, dedup}
-use Rattle.std.specs.List.Sorted.{IsPermutation, IsSorted, IsStrictlySortedBy}
 use Rattle.std.proofs.lemmas.List.Kept.{Any-dedup, Contains-from_dedup, IsStrictlySortedBy-dedup}
 use Rattle.std.proofs.lemmas.List.Sorted.{Contains-permutation, IsPermutation-sym}
-use Rattle.std.specs.Ordering.{nat_cmp, eq_by_cmp, is_lt}
-use Rattle.std.specs.declared.cmp.Ordering.{Ordering}
-use Rattle.std.specs.declared.cmp.Ordering.TheVariants.{Less}
+use Rattle.std.specs.{Cmp.IsTotalOrder, Cmp.IsEquivalence, Cmp.Lexicographic.slice_cmp, Cmp.Lexicographic.texts_ties, List.AllByRecursion, List.Contains}
+use Rattle.std.specs.{List.dedup, List.Sorted.IsPermutation, List.Sorted.IsSorted, List.Sorted.IsStrictlySortedBy, Ordering.nat_cmp, Ordering.eq_by_cmp}
+use Rattle.std.specs.{Ordering.is_lt, declared.cmp.Ordering.Ordering, declared.cmp.Ordering.TheVariants.Less}
 use Rattle.rv_tree.specs.Places.{Sites, is_same}
-use Rattle.rv_types.specs.Lists.{AreRising}
-use Rattle.rv_types.specs.Needs.{IsBefore}
+use Rattle.rv_types.specs.{Lists.AreRising, Needs.IsBefore}
 use Rattle.rv_flatten.specs.NodeReaders.{AreSortedBy}
 use Rattle.rv_flat.proofs.Earliest.{before_tested}
 use Rattle.rv_meaning.proofs.NameLemmas.{same_text}

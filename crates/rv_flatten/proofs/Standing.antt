@@ -1,22 +1,18 @@
 -- The expressions that stand in a node: right sides, arguments, assertions, and what stands in these.
 use Rattle.std.proofs.Common.{◌≡◌, inl, inr, ℕ, suc, List, [], ◌∷◌, ◌++◌, length, arith, refl, sym, ◌∙◌, ap, subst, unwrap_or, Option, flat_map}
-use Rattle.std.specs.List.{Contains}
 use Rattle.std.proofs.lemmas.List.Elements.{Contains-append_left, Contains-append_right, Contains-append_cases}
-use Rattle.rv_tree.specs.declared.tree.Name.{Name}
-use Rattle.rv_tree.specs.declared.tree.Op.{Op}
+use Rattle.std.specs.List.{Contains}
 use Rattle.rv_tree.specs.Tree.{Tree, Node, Form, True, False, Number, Named, Not, Minus, Pre, Current, When, Binary, If, AtMostOne, Call, Trees, None, More}
 use Rattle.rv_tree.specs.Tree.{EquationTree, AssertionTree, NodeTree}
-use Rattle.rv_tree.specs.Places.{Identifier}
 use Rattle.rv_tree.specs.Delays.{Delay, delays, form_delays, delays_of_all, delays_in_equations, delays_in_assertions, node_delays}
-use Rattle.rv_types.specs.Names.{texts}
-use Rattle.rv_types.specs.Variables.{parts, form_parts, parts_of_all, node_parts}
+use Rattle.rv_tree.specs.{declared.tree.Name.Name, declared.tree.Op.Op, Places.Identifier}
 use Rattle.rv_types.specs.Instances.{CallTree, calls_in, form_calls, calls_in_all, calls_in_equations, calls_in_assertions, calls, Body, Output, IsRight, alone}
 use Rattle.rv_types.specs.Instances.{in_order, IsArgument, head, tail}
+use Rattle.rv_types.specs.{Names.texts, Variables.parts, Variables.form_parts, Variables.parts_of_all, Variables.node_parts}
 use Rattle.rv_instances.specs.Weights.{weighed_of_several, weighed_under, weighed}
 use Rattle.rv_instances.proofs.CallsInside.{in_argument, in_body}
 use Rattle.rv_meaning.proofs.DelayParts.{argument_within, assertion_within, equation_within}
-use Rattle.rv_types.proofs.Members.{at_head, cons_cases, in_flat_map, in_tail, nothing_in}
-use Rattle.rv_types.proofs.TypedParts.{right_calls}
+use Rattle.rv_types.proofs.{Members.at_head, Members.cons_cases, Members.in_flat_map, Members.in_tail, Members.nothing_in, TypedParts.right_calls}
 
 -- an operand or argument
 pub data IsChild : Tree → Form → Type 0 where

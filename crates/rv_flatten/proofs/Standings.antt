@@ -1,17 +1,13 @@
 -- Where numbers stand among some.
 use Rattle.std.proofs.Common.{◌≡◌, ◌⊎◌, inl, inr, ℕ, zero, suc, ◌+◌, ◌-◌, ◌<◌, ◌≤◌, ◌^◌, List, [], ◌∷◌, map, length, get_or, replicate, set, refl, sym, ◌∙◌, ap}
 use Rattle.std.proofs.Common.{subst, arith, length-set, get_or-set_same, get_or-set_other}
-use Rattle.std.specs.Prelude.{min}
-use Rattle.std.proofs.lemmas.Bool.{cases_order}
-use Rattle.std.proofs.lemmas.List.{get_or_default, get_or-map, length-map, length-replicate}
-use Rattle.std.specs.List.{Contains}
+use Rattle.std.proofs.{lemmas.Bool.cases_order, lemmas.List.get_or_default, lemmas.List.get_or-map, lemmas.List.length-map, lemmas.List.length-replicate}
+use Rattle.std.specs.{Prelude.min, List.Contains}
 use Rattle.rv_tree.specs.Places.{Sites, index_of}
-use Rattle.rv_types.specs.Needs.{IsBefore}
-use Rattle.rv_types.specs.Lists.{AreRising}
+use Rattle.rv_types.specs.{Needs.IsBefore, Lists.AreRising}
 use Rattle.rv_instances.specs.Flowing.{place_at}
 use Rattle.rv_flatten.specs.Positions.{AreNumbersOf, told}
-use Rattle.rv_flat.proofs.Earliest.{not_itself}
-use Rattle.rv_flat.proofs.PlaceNumbers.{its_number}
+use Rattle.rv_flat.proofs.{Earliest.not_itself, PlaceNumbers.its_number}
 use Rattle.rv_types.proofs.Members.{at_head, cons_cases, in_tail, nothing_in}
 
 -- no two elements are equal

@@ -1,12 +1,9 @@
 -- What suits a clock: the parts of what stands on it stand on it too, but for those of `when` and `current`.
 use Rattle.std.proofs.Common.{◌≡◌, ℕ, Bool, true, false, cond, refl}
 use Rattle.rv_tree.specs.Tree.{NodeTree}
-use Rattle.rv_types.specs.declared.typed.Clock.{Clock}
-use Rattle.rv_types.specs.declared.typed.Clock.TheVariants.{On}
-use Rattle.rv_types.specs.declared.fault.Pace.{Pace}
 use Rattle.rv_types.specs.declared.fault.Pace.TheVariants.{Free, At, Mute, Differ}
 use Rattle.rv_types.specs.Clocks.{same_clock, clock_at, when_pace}
-use Rattle.rv_types.specs.WellFormed.{Suits}
+use Rattle.rv_types.specs.{declared.typed.Clock.Clock, declared.typed.Clock.TheVariants.On, declared.fault.Pace.Pace, WellFormed.Suits}
 use Rattle.rv_types.proofs.Paces.{clock_same}
 
 -- the pace of a `when` that keeps the rule

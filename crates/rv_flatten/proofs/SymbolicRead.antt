@@ -1,51 +1,29 @@
 -- A flat system that is read from its program has the program's symbolic instants, and its comparisons on their clocks.
 use Rattle.std.proofs.Common.{◌≡◌, inl, inr, ◌⊎◌, ℕ, suc, ◌+◌, ◌<◌, ◌↔◌, Bool, true, false, cond, List, [], ◌∷◌, map, length, get_or, refl, sym, ◌∙◌, ap, subst}
-use Rattle.std.proofs.Common.{arith, Option, Some, IsSome}
-use Rattle.std.proofs.Common.{None as Nothing}
-use Rattle.std.proofs.lemmas.List.{length-map}
-use Rattle.std.proofs.lemmas.Simd.{map-map}
-use Rattle.std.proofs.Math.Nat.{eq-or-lt_of_le}
-use Rattle.std.proofs.lemmas.Bool.{cases_lt}
+use Rattle.std.proofs.Common.{arith, Option, Some, IsSome, None as Nothing}
+use Rattle.std.proofs.{lemmas.List.length-map, lemmas.Simd.map-map, Math.Nat.eq-or-lt_of_le, lemmas.Bool.cases_lt}
 use Rattle.std.specs.List.{Contains}
-use Rattle.rv_base.specs.declared.value.Value.{Value}
-use Rattle.rv_base.specs.declared.value.Value.TheVariants.{Flag}
-use Rattle.rv_tree.specs.declared.tree.TypeDecl.{TypeDecl}
-use Rattle.rv_tree.specs.Tree.{Tree, ProgramTree}
+use Rattle.rv_base.specs.{declared.value.Value.Value, declared.value.Value.TheVariants.Flag}
 use Rattle.rv_tree.specs.Places.{Identifier, Sites, flows as flows_of, is_same, is_among, index_of}
-use Rattle.rv_tree.specs.Delays.{Delay, node_delays}
-use Rattle.rv_types.specs.declared.typed.Clock.TheVariants.{Base}
-use Rattle.rv_types.specs.Names.{labels_of, texts}
-use Rattle.rv_types.specs.Values.{label_count}
-use Rattle.rv_types.specs.Lists.{MemoryAt, delay_place, memory_at}
+use Rattle.rv_tree.specs.{declared.tree.TypeDecl.TypeDecl, Tree.Tree, Tree.ProgramTree, Delays.Delay, Delays.node_delays}
 use Rattle.rv_types.specs.Instances.{Body, Output, Instance, place, absolute, clock_of, clock_in, clock_of_arguments, IsInstance, IsFlow, IsNode}
-use Rattle.rv_types.specs.Needs.{Giver, Given, Of, Gives}
-use Rattle.rv_types.specs.Variables.{node_parts, is_arrow}
-use Rattle.rv_types.specs.WellFormed.{AreWell}
-use Rattle.rv_meaning.specs.Runs.{observer_place}
-use Rattle.rv_meaning.specs.Givers.{AreDefined, expected}
-use Rattle.rv_meaning.specs.Meaning.{Cells, is_there}
-use Rattle.rv_agreement.specs.Agreement.{IsWell}
-use Rattle.rv_agreement.specs.Evaluation.{IsInstant}
-use Rattle.rv_agreement.specs.ProgramAgreement.{IsSystemOf}
+use Rattle.rv_types.specs.{declared.typed.Clock.TheVariants.Base, Names.labels_of, Names.texts, Values.label_count, Lists.MemoryAt, Lists.delay_place}
+use Rattle.rv_types.specs.{Lists.memory_at, Needs.Giver, Needs.Given, Needs.Of, Needs.Gives, Variables.node_parts, Variables.is_arrow, WellFormed.AreWell}
+use Rattle.rv_meaning.specs.{Runs.observer_place, Givers.AreDefined, Givers.expected, Meaning.Cells, Meaning.is_there}
 use Rattle.rv_agreement.specs.Programs.{label_counts, kinds_of, columns_of, found_by, IsSymbolicOf, Compared, IsComparison}
 use Rattle.rv_agreement.specs.Translation.{Numbers, clock_number, tick_number, giver_item, flat_compared, IsTranslated, IsClockOf}
 use Rattle.rv_agreement.specs.Trees.{System, Item, memory_kinds, memory_places}
 use Rattle.rv_agreement.specs.Valuations.{Valuation, Reading, Comparison, all_comparisons, IsSymbolic, whole_count, width, readings, found_at}
-use Rattle.rv_flat.specs.declared.parts.Bit.{Bit}
-use Rattle.rv_flat.specs.declared.parts.FlatExpr.{FlatExpr}
-use Rattle.rv_flat.specs.declared.parts.FlatFlow.{FlatFlow}
-use Rattle.rv_flat.specs.declared.parts.FlatInput.{FlatInput}
-use Rattle.rv_flat.specs.declared.parts.FlatMemory.{FlatMemory}
-use Rattle.rv_flat.specs.Lists.{tick_places}
-use Rattle.rv_flatten.specs.Readings.{numbers_of, IsRead, AreKinds}
+use Rattle.rv_agreement.specs.{Agreement.IsWell, Evaluation.IsInstant, ProgramAgreement.IsSystemOf}
 use Rattle.rv_flat.specs.Systems.{places_of, memory_places_of, memory_of, kept_of, system_from}
-use Rattle.rv_flatten.proofs.AgreedLaws.{Laws, AreAllFound, AreClocked}
-use Rattle.rv_flatten.proofs.NamedParts.{are_named}
+use Rattle.rv_flat.specs.{declared.parts.Bit.Bit, declared.parts.FlatExpr.FlatExpr, declared.parts.FlatFlow.FlatFlow, declared.parts.FlatInput.FlatInput}
+use Rattle.rv_flat.specs.{declared.parts.FlatMemory.FlatMemory, Lists.tick_places}
+use Rattle.rv_flatten.specs.Readings.{numbers_of, IsRead, AreKinds}
+use Rattle.rv_flatten.proofs.{AgreedLaws.Laws, AgreedLaws.AreAllFound, AgreedLaws.AreClocked, NamedParts.are_named}
 use Rattle.rv_flat.proofs.PlaceNumbers.{made_at, made_past}
 use Rattle.rv_agreement.proofs.Indexed.{indexed}
 use Rattle.rv_meaning.proofs.NameLemmas.{same_text}
-use Rattle.rv_types.proofs.Members.{among_from, at_head, in_map, in_tail, text_itself}
-use Rattle.rv_types.proofs.ChainLaws.{no_flag}
+use Rattle.rv_types.proofs.{Members.among_from, Members.at_head, Members.in_map, Members.in_tail, Members.text_itself, ChainLaws.no_flag}
 
 -- Clocks that are there at the same histories are one.
 

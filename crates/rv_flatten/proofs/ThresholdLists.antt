@@ -1,16 +1,13 @@
 -- The numbers that are gathered of a program are its thresholds.
 use Rattle.std.proofs.Common.{◌≡◌, ◌⊎◌, inl, inr, ℕ, ℤ, pos, ◌+ℤ◌, ◌-ℤ◌, neg_ℤ, List, [], ◌∷◌, ◌++◌, flat_map, refl, sym, subst, arith, Option}
-use Rattle.std.proofs.lemmas.Int.{ints}
 use Rattle.std.proofs.lemmas.List.Elements.{Contains-append_left, Contains-append_right, Contains-append_cases}
-use Rattle.std.proofs.lemmas.List.Sorted.{Contains-permutation, IsPermutation-sym}
-use Rattle.std.specs.List.{Contains}
-use Rattle.std.specs.List.Sorted.{IsPermutation}
+use Rattle.std.proofs.{lemmas.Int.ints, lemmas.List.Sorted.Contains-permutation, lemmas.List.Sorted.IsPermutation-sym}
+use Rattle.std.specs.{List.Contains, List.Sorted.IsPermutation}
 use Rattle.rv_base.specs.declared.value.Value.{Value}
 use Rattle.rv_base.specs.declared.value.Value.TheVariants.{Flag, Label, Whole}
 use Rattle.rv_tree.specs.Tree.{Tree, Node, Form, True, False, Number, Named, Not, Minus, Pre, Current, When, Binary, If, AtMostOne, Call, Trees, None, More}
 use Rattle.rv_tree.specs.Tree.{EquationTree, AssertionTree, ConstantTree, NodeTree, ProgramTree}
-use Rattle.rv_types.specs.Scopes.{constant_values}
-use Rattle.rv_types.specs.Variables.{parts, form_parts, parts_of_all, node_parts}
+use Rattle.rv_types.specs.{Scopes.constant_values, Variables.parts, Variables.form_parts, Variables.parts_of_all, Variables.node_parts}
 use Rattle.rv_flat.specs.Thresholds.{IsNumberOf, in_node, in_constant, constant, beside, IsThreshold, AreThresholds}
 use Rattle.rv_flatten.specs.Literals.{literals, form_literals, literals_of_all, equation_literals, assertion_literals, node_literals, constant_literals}
 use Rattle.rv_flatten.specs.Literals.{program_literals, around, around_literal, around_value, program_numbers, IsDistinctOf}

@@ -1,27 +1,20 @@
 -- What stands in a node that keeps the rules is free or on a clock.
 use Rattle.std.proofs.Common.{◌≡◌, ℕ, List, [], ◌∷◌, length, refl, sym, ap, subst, arith, unwrap_or, Option}
-use Rattle.std.specs.List.{Contains}
 use Rattle.std.proofs.lemmas.List.Elements.{Contains-append_left}
-use Rattle.rv_tree.specs.declared.tree.Name.{Name}
+use Rattle.std.specs.List.{Contains}
 use Rattle.rv_tree.specs.Tree.{Tree, Node, Form, Call, Trees, EquationTree, NodeTree, ProgramTree}
-use Rattle.rv_tree.specs.Places.{site_of}
-use Rattle.rv_types.specs.declared.typed.Clock.{Clock}
-use Rattle.rv_types.specs.declared.typed.Clock.TheVariants.{Base}
-use Rattle.rv_types.specs.declared.fault.Pace.{Pace}
+use Rattle.rv_tree.specs.{declared.tree.Name.Name, Places.site_of}
 use Rattle.rv_types.specs.declared.fault.Pace.TheVariants.{Free, At, Mute, Differ}
 use Rattle.rv_types.specs.Clocks.{seen, meet, pace, pace_of_all}
-use Rattle.rv_types.specs.Names.{texts}
 use Rattle.rv_types.specs.Instances.{CallTree, calls, calls_in, calls_in_all, calls_in_equations, calls_in_assertions, alone, IsArgument, head, tail, clock_of}
 use Rattle.rv_types.specs.Instances.{clock_of_args, taken}
-use Rattle.rv_types.specs.ToldPaces.{IsTimed}
-use Rattle.rv_types.specs.Variables.{parts, parts_of_all}
-use Rattle.rv_types.specs.WellFormed.{Suits, IsWellFormed}
+use Rattle.rv_types.specs.{declared.typed.Clock.Clock, declared.typed.Clock.TheVariants.Base, declared.fault.Pace.Pace, Names.texts, ToldPaces.IsTimed}
+use Rattle.rv_types.specs.{Variables.parts, Variables.parts_of_all, WellFormed.Suits, WellFormed.IsWellFormed}
 use Rattle.rv_types.proofs.ToldPaces.{seen_is, grounded_is, current_is, joined, operands, when_is}
+use Rattle.rv_types.proofs.{Members.at_head, TypedParts.right_calls}
 use Rattle.rv_instances.specs.Weights.{weighed_of_several, weighed_under}
 use Rattle.rv_flatten.proofs.Standing.{Stands, as_right, as_argument, as_assertion, as_child, IsChild, of_not, of_minus, of_pre, of_current, of_when, of_left}
 use Rattle.rv_flatten.proofs.Standing.{of_right, of_condition, of_first, of_second, of_operand, of_argument}
-use Rattle.rv_types.proofs.Members.{at_head}
-use Rattle.rv_types.proofs.TypedParts.{right_calls}
 
 suits_timed : (k : Clock) (p : Pace) → Suits k p → IsTimed p
 suits_timed k Free h = tt

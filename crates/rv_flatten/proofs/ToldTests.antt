@@ -1,23 +1,14 @@
 -- In a program that keeps the rules the heads of left operands tell the comparisons of integers.
-use Rattle.std.proofs.Common.{◌≡◌, Bool, ◌&&◌, cond, List, [], ◌∷◌, ◌++◌, map, refl, sym, ◌∙◌, ap, unwrap_or, Some}
-use Rattle.std.proofs.Common.{None as Nothing}
+use Rattle.std.proofs.Common.{◌≡◌, Bool, ◌&&◌, cond, List, [], ◌∷◌, ◌++◌, map, refl, sym, ◌∙◌, ap, unwrap_or, Some, None as Nothing}
 use Rattle.std.specs.List.{Contains}
-use Rattle.rv_tree.specs.declared.tree.Op.{Op}
-use Rattle.rv_tree.specs.Sites.{is_comparison}
-use Rattle.rv_tree.specs.Tree.{Tree, Node, Binary, NodeTree, ProgramTree}
-use Rattle.rv_types.specs.declared.typed.Kind.{Kind}
-use Rattle.rv_types.specs.declared.typed.Kind.TheVariants as kind
-use Rattle.rv_types.specs.Heads.{head_kind}
-use Rattle.rv_types.specs.Scopes.{node_scope}
-use Rattle.rv_types.specs.Types.{Scope, kind_of}
-use Rattle.rv_types.specs.Variables.{is_integer, node_parts}
+use Rattle.rv_tree.specs.{declared.tree.Op.Op, Sites.is_comparison, Tree.Tree, Tree.Node, Tree.Binary, Tree.NodeTree, Tree.ProgramTree}
 use Rattle.rv_types.specs.WellFormed.{IsWellFormed, IsWellTyped, AreWell}
-use Rattle.rv_types.proofs.HeadKinds.{head_is}
-use Rattle.rv_types.proofs.TypedParts.{left_typed}
+use Rattle.rv_types.specs.{declared.typed.Kind.Kind, Heads.head_kind, Scopes.node_scope, Types.Scope, Types.kind_of, Variables.is_integer, Variables.node_parts}
+use Rattle.rv_types.specs.declared.typed.Kind.TheVariants as kind
+use Rattle.rv_types.proofs.{HeadKinds.head_is, TypedParts.left_typed, Members.at_head, Members.in_tail}
 use Rattle.rv_agreement.specs.Programs.{is_test}
 use Rattle.rv_flatten.specs.Compared.{is_told_test, tests_in, told_tests_in}
 use Rattle.rv_flatten.proofs.ComparedParts.{own_of, node_is}
-use Rattle.rv_types.proofs.Members.{at_head, in_tail}
 use Rattle.rv_base.proofs.Lists.{flat_map_same}
 
 -- the head of a left operand that has a type tells whether integers are compared

@@ -1,41 +1,28 @@
 -- What is made of a program is its flat system, where each `current` shows its memory.
-use Rattle.std.proofs.Common.{◌≡◌, ℕ, suc, ◌<◌, ℤ, negsuc, Bool, true, false, cond, List, [], ◌∷◌, ◌++◌, map, length, get_or, slice_get, refl, sym, ◌∙◌}
-use Rattle.std.proofs.Common.{ap, subst, arith, Option, Some}
-use Rattle.std.proofs.Common.{None as Nothing}
-use Rattle.std.proofs.lemmas.List.{length-map}
-use Rattle.std.proofs.lemmas.Option.{slice_get-map, get_or_from_slice_get}
-use Rattle.std.proofs.lemmas.Simd.{map-map}
-use Rattle.std.specs.List.{Contains}
-use Rattle.std.specs.Option.{option_map}
+use Rattle.std.proofs.Common.{◌≡◌, ℕ, suc, ◌<◌, ℤ, negsuc, Bool, true, false, cond, List, [], ◌∷◌, ◌++◌, map, length, get_or, slice_get, refl, sym, ◌∙◌, ap}
+use Rattle.std.proofs.Common.{subst, arith, Option, Some, None as Nothing}
+use Rattle.std.proofs.{lemmas.List.length-map, lemmas.Option.slice_get-map, lemmas.Option.get_or_from_slice_get, lemmas.Simd.map-map}
+use Rattle.std.specs.{List.Contains, Option.option_map}
 use Rattle.rv_base.specs.declared.value.Value.TheVariants.{Flag}
-use Rattle.rv_tree.specs.declared.tree.Op.{Op}
+use Rattle.rv_tree.specs.Tree.{Tree, Form, Trees, AssertionTree, ProgramTree}
+use Rattle.rv_tree.specs.{declared.tree.Op.Op, Places.Identifier, Places.Sites, Places.is_flow, Places.index_of, Delays.Delay, Delays.node_delays}
 use Rattle.rv_tree.specs.declared.tree.Op.TheVariants as op
 use Rattle.rv_tree.specs.Tree as tree
-use Rattle.rv_tree.specs.Tree.{Tree, Form, Trees, AssertionTree, ProgramTree}
-use Rattle.rv_tree.specs.Places.{Identifier, Sites, is_flow, index_of}
-use Rattle.rv_tree.specs.Delays.{Delay, node_delays}
-use Rattle.rv_types.specs.declared.typed.Clock.{Clock}
-use Rattle.rv_types.specs.declared.typed.Clock.TheVariants.{Base}
-use Rattle.rv_types.specs.Types.{is_constant}
-use Rattle.rv_types.specs.Scopes.{node_scope, constant_value}
 use Rattle.rv_types.specs.Instances.{Body, Output, Instance, place, clock_of, clock_in, clock_of_arguments, IsInstance, IsArgument, head, tail}
 use Rattle.rv_types.specs.Needs.{Giver, Of, Gives, given, by_equation, by_call}
 use Rattle.rv_types.specs.Lists.{AreMemories, IsAny, delay_place, memory_at}
+use Rattle.rv_types.specs.{declared.typed.Clock.Clock, declared.typed.Clock.TheVariants.Base, Types.is_constant, Scopes.node_scope, Scopes.constant_value}
 use Rattle.rv_agreement.specs.Programs.{operator_place, coefficient, operation}
 use Rattle.rv_agreement.specs.Translation.{Numbers, clock_number, tick_number, flat_of, flat_form, flats_of, giver_item, delay_item, IsTranslated}
-use Rattle.rv_agreement.specs.Translation as translation
 use Rattle.rv_agreement.specs.Trees.{FlatTree, TreeForm, Item, System, no_item}
+use Rattle.rv_agreement.specs.Translation as translation
 use Rattle.rv_agreement.specs.Trees as flat
-use Rattle.rv_flat.specs.declared.parts.Bit.{Bit}
-use Rattle.rv_flat.specs.declared.parts.FlatExpr.{FlatExpr}
-use Rattle.rv_flat.specs.declared.parts.FlatFlow.{FlatFlow}
-use Rattle.rv_flat.specs.declared.parts.FlatInput.{FlatInput}
-use Rattle.rv_flat.specs.declared.parts.FlatMemory.{FlatMemory}
-use Rattle.rv_flat.specs.Inlined.{inlined, form_inlined, all_inlined, table_of, IsTable}
 use Rattle.rv_flat.specs.RawTree.{RawTree, Node, RawForm, Constant, Flow, Ticked, If, raw_tree}
+use Rattle.rv_flat.specs.Systems.{memory_places_of, memory_of, flow_item, memory_item, asserted, assertion_item, kept_of, system_from}
+use Rattle.rv_flat.specs.{declared.parts.Bit.Bit, declared.parts.FlatExpr.FlatExpr, declared.parts.FlatFlow.FlatFlow, declared.parts.FlatInput.FlatInput}
+use Rattle.rv_flat.specs.{declared.parts.FlatMemory.FlatMemory, Inlined.inlined, Inlined.form_inlined, Inlined.all_inlined, Inlined.table_of, Inlined.IsTable}
 use Rattle.rv_flatten.specs.Readings.{numbers_of, unplaced, presence, product, operator, raw_of, raw_form, raws_of, RawItem, raw_flow, raw_memory, no_raw}
 use Rattle.rv_flatten.specs.Readings.{raw_giver, raw_delay, assertion_of, no_assumption, IsRead}
-use Rattle.rv_flat.specs.Systems.{memory_places_of, memory_of, flow_item, memory_item, asserted, assertion_item, kept_of, system_from}
 use Rattle.rv_flatten.proofs.Standing.{Stands, as_child, of_not, of_minus, of_current, of_when, of_left, of_right, of_condition, of_first, of_second}
 use Rattle.rv_flatten.proofs.Standing.{of_operand, own_current, body_stands, argument_stands, as_assertion, operand_stands}
 use Rattle.rv_types.proofs.Members.{among_from, in_map, index_there}

@@ -1,48 +1,30 @@
 -- A program has as many diagram variables as are counted, and no fewer.
-use Rattle.std.proofs.Common.{◌≡◌, inl, inr, ℕ, zero, suc, ◌+◌, ◌≤◌, Bool, true, false, ◌&&◌, cond, nat_eq, List, [], ◌∷◌, ◌++◌, map, flat_map, length}
-use Rattle.std.proofs.Common.{refl, sym, ◌∙◌, ap, subst, arith, unwrap_or, append_assoc, length-append, Option, Some}
-use Rattle.std.proofs.Common.{None as Nothing}
-use Rattle.std.proofs.lemmas.Bool.Decides.{nat_tests}
-use Rattle.std.proofs.lemmas.List.{length-map}
-use Rattle.std.proofs.lemmas.List.Elements.{Contains-append_cases}
+use Rattle.std.proofs.Common.{◌≡◌, inl, inr, ℕ, zero, suc, ◌+◌, ◌≤◌, Bool, true, false, ◌&&◌, cond, nat_eq, List, [], ◌∷◌, ◌++◌, map, flat_map, length, refl}
+use Rattle.std.proofs.Common.{sym, ◌∙◌, ap, subst, arith, unwrap_or, append_assoc, length-append, Option, Some, None as Nothing}
+use Rattle.std.proofs.{lemmas.Bool.Decides.nat_tests, lemmas.List.length-map, lemmas.List.Elements.Contains-append_cases, lemmas.Bool.or_parts}
 use Rattle.std.specs.List.{Contains}
-use Rattle.rv_tree.specs.declared.tree.Op.{Op}
+use Rattle.rv_tree.specs.{declared.tree.Op.Op, Delays.Delay, Delays.node_delays, Delays.IsNumbered, Places.Identifier, Places.Sites, Sites.is_comparison}
+use Rattle.rv_tree.specs.{SitedParts.part, Tree.Tree, Tree.Node, Tree.Binary, Tree.NodeTree, Tree.ProgramTree}
 use Rattle.rv_tree.specs.declared.tree.Op.TheVariants as op
-use Rattle.rv_tree.specs.Delays.{Delay, node_delays, IsNumbered}
-use Rattle.rv_tree.specs.Places.{Identifier, Sites}
-use Rattle.rv_tree.specs.Sites.{is_comparison}
-use Rattle.rv_tree.specs.SitedParts.{part}
-use Rattle.rv_tree.specs.Tree.{Tree, Node, Binary}
-use Rattle.rv_tree.specs.Tree.{NodeTree, ProgramTree}
 use Rattle.rv_types.specs.declared.typed.Kind.TheVariants as kind
-use Rattle.rv_types.specs.declared.typed.Clock.TheVariants.{Base}
-use Rattle.rv_types.specs.Kinds.{decl_kinds}
-use Rattle.rv_types.specs.Scopes.{node_scope}
-use Rattle.rv_types.specs.Types.{kind_of}
-use Rattle.rv_types.specs.Values.{operand_kind}
 use Rattle.rv_types.specs.Instances.{CallTree, calls, Instance, callee, unrolled, main_instance, IsInstance, is_main, is_callee, all_instances, clock_in}
 use Rattle.rv_types.specs.Instances.{node_of}
 use Rattle.rv_types.specs.Lists.{AreTicks, AreMemories, AreComparisons, AreVariables, IsAny, MemoryAt, ComparisonAt, MainTick, Tick, with_copies}
 use Rattle.rv_types.specs.Lists.{memory_variables, input_variables, test_variables, sides_of, memory_at}
-use Rattle.rv_types.specs.Variables.{total, is_integer, is_in, memories, memories_beside, node_parts, kind_bits, memory_bits, tests_of}
-use Rattle.rv_types.specs.Variables.{own_tests, order_tests, is_arrow, arrow_clocks, same_place, is_place_in, different, over_instances, ticks, variable_count}
-use Rattle.rv_types.specs.WellFormed.{AreSited}
+use Rattle.rv_types.specs.Variables.{total, is_integer, is_in, memories, memories_beside, node_parts, kind_bits, memory_bits, tests_of, own_tests, order_tests}
+use Rattle.rv_types.specs.Variables.{is_arrow, arrow_clocks, same_place, is_place_in, different, over_instances, ticks, variable_count}
+use Rattle.rv_types.specs.{declared.typed.Clock.TheVariants.Base, Kinds.decl_kinds, Scopes.node_scope, Types.kind_of, Values.operand_kind, WellFormed.AreSited}
 use Rattle.rv_agreement.specs.Programs.{is_test}
 use Rattle.rv_flatten.specs.Compared as compared
-use Rattle.rv_flatten.specs.declared.comparisons.Tested.{Tested}
-use Rattle.rv_flat.specs.declared.parts.Bit.{Bit}
-use Rattle.rv_flatten.specs.Compared.{tests_in}
-use Rattle.rv_flat.specs.Lists.{variable_of}
-use Rattle.rv_flatten.proofs.Apart.{IsApart, apart_told, apart_by, apart_map, apart_flat}
+use Rattle.rv_flatten.specs.{declared.comparisons.Tested.Tested, Compared.tests_in}
+use Rattle.rv_flat.specs.{declared.parts.Bit.Bit, Lists.variable_of}
 use Rattle.rv_flatten.proofs.ComparedParts.{found_test, own_of, node_is, sited_count, own_count, counted_among, is_site, one_at, has_site}
-use Rattle.rv_flatten.proofs.ComparedPlaces.{has_sides}
 use Rattle.rv_flatten.proofs.CountedVariables.{total_joined, total_flat_map, total_map, total_same, around, still_there, length_copies, length_memories}
 use Rattle.rv_flatten.proofs.CountedVariables.{length_inputs, length_tests, ones, own_clocks, site, ticks_few, memories_few, tests_few}
+use Rattle.rv_flatten.proofs.{Apart.IsApart, Apart.apart_told, Apart.apart_by, Apart.apart_map, Apart.apart_flat, ComparedPlaces.has_sides}
 use Rattle.rv_instances.proofs.FlowPlaces.{snoc_parts}
-use Rattle.rv_types.proofs.Members.{at_head, cons_cases, in_tail, nothing_in, of_flat_map}
+use Rattle.rv_types.proofs.{Members.at_head, Members.cons_cases, Members.in_tail, Members.nothing_in, Members.of_flat_map, ChainLaws.no_flag}
 use Rattle.rv_base.proofs.Lists.{from_map, same_next}
-use Rattle.rv_types.proofs.ChainLaws.{no_flag}
-use Rattle.std.proofs.lemmas.Bool.{or_parts}
 
 -- A sum over elements that are told apart, all of which are in a list, is no more than that over the list.
 sum_once : {X K : Type 0} (f : X → ℕ) (key : X → K) (xs ys : List X) → IsApart key xs → ((x : X) → Contains xs x → Contains ys x) → total f xs ≤ total f ys

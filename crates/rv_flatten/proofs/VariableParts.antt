@@ -1,15 +1,11 @@
 -- The diagram variables by the declarations of types, as those of the program, and the ticks among them.
 use Rattle.std.proofs.Common.{◌≡◌, ℕ, suc, ◌+◌, List, [], ◌∷◌, ◌++◌, map, refl, sym, ◌∙◌, ap, append_assoc}
 use Rattle.std.proofs.lemmas.Grind.{flat_map-append}
-use Rattle.rv_tree.specs.Tree.{ProgramTree}
-use Rattle.rv_tree.specs.Places.{Sites}
-use Rattle.rv_tree.specs.declared.tree.TypeDecl.{TypeDecl}
-use Rattle.rv_types.specs.declared.typed.Kind.{Kind}
-use Rattle.rv_types.specs.Lists.{Variable, MainTick, Tick, Kept, Next, Input, MemoryAt, ComparisonAt, bits, with_copies, memory_variables}
-use Rattle.rv_types.specs.Lists.{input_variables, test_variables}
+use Rattle.rv_tree.specs.{Tree.ProgramTree, Places.Sites, declared.tree.TypeDecl.TypeDecl}
+use Rattle.rv_types.specs.{declared.typed.Kind.Kind, Lists.Variable, Lists.MainTick, Lists.Tick, Lists.Kept, Lists.Next, Lists.Input, Lists.MemoryAt}
+use Rattle.rv_types.specs.{Lists.ComparisonAt, Lists.bits, Lists.with_copies, Lists.memory_variables, Lists.input_variables, Lists.test_variables}
 use Rattle.rv_instances.specs.Bits.{bits_of}
-use Rattle.rv_flat.specs.declared.parts.Bit.{Bit}
-use Rattle.rv_flat.specs.Lists.{tick_places, variable_of}
+use Rattle.rv_flat.specs.{declared.parts.Bit.Bit, Lists.tick_places, Lists.variable_of}
 use Rattle.rv_instances.proofs.LabelCodes.{bits_same}
 use Rattle.rv_flat.proofs.TickList.{ticks_told}
 use Rattle.rv_flatten.specs.VariableLists.{kept_variables, given_variables}

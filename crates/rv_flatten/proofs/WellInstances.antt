@@ -1,18 +1,15 @@
 -- The instances of a program that keeps the rules: their nodes are well formed and well typed, and what stands there is light.
 use Rattle.std.proofs.Common.{◌≡◌, inl, inr, ℕ, ◌≤◌, Bool, true, false, cond, nat_lt, List, [], ◌∷◌, refl, ◌∙◌, ap, subst, arith, Option}
-use Rattle.std.proofs.lemmas.Bool.Decides.{nat_tests}
-use Rattle.std.proofs.lemmas.List.Elements.{Contains-append_left, Contains-append_right}
+use Rattle.std.proofs.{lemmas.Bool.Decides.nat_tests, lemmas.List.Elements.Contains-append_left, lemmas.List.Elements.Contains-append_right}
 use Rattle.std.specs.List.{Contains}
-use Rattle.rv_tree.specs.Tree.{Tree, Node, Form, ProgramTree}
-use Rattle.rv_tree.specs.Places.{Identifier, Sites}
+use Rattle.rv_tree.specs.{Tree.Tree, Tree.Node, Tree.Form, Tree.ProgramTree, Places.Identifier, Places.Sites}
 use Rattle.rv_types.specs.Instances.{Instance, IsInstance, is_main, is_callee, IsNode}
 use Rattle.rv_types.specs.WellFormed.{IsWellFormed, IsWellTyped, AreWell}
 use Rattle.rv_base.specs.Limits.{heaviest}
 use Rattle.rv_instances.specs.Weights.{weight, too_wide, weighed, IsTooWide}
 use Rattle.rv_flatten.proofs.Standing.{Stands, stands_weighed}
 use Rattle.rv_meaning.proofs.Acceptable.{named_among, some_among}
-use Rattle.rv_types.proofs.Members.{at_head, cons_cases, nothing_in}
-use Rattle.rv_types.proofs.ChainLaws.{no_flag}
+use Rattle.rv_types.proofs.{Members.at_head, Members.cons_cases, Members.nothing_in, ChainLaws.no_flag}
 
 module _ (program : ProgramTree) (main : Identifier) (well : AreWell program) (named : IsNode program main) where
   -- the node of each instance is one of the nodes

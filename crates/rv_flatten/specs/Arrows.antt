@@ -1,15 +1,11 @@
 -- The clocks on which the `->` of a node stand, in the order in which they are written, and the numbers of their flows in all
 -- instances.
 use Rattle.std.specs.Prelude.{ℕ, zero, suc, ◌+◌, Bool, true, cond, List, [], ◌∷◌, ◌++◌, flat_map, slice_set}
-use Rattle.rv_tree.specs.declared.tree.Op.{Op}
+use Rattle.rv_tree.specs.{declared.tree.Op.Op, Tree.NodeTree, Tree.ProgramTree}
 use Rattle.rv_tree.specs.declared.tree.Op.TheVariants as op
-use Rattle.rv_tree.specs.Tree.{NodeTree, ProgramTree}
 use Rattle.rv_types.specs.declared.typed.Clock.{Clock}
-use Rattle.rv_instances.specs.declared.answer.Instance.{Instance as Numbered}
-use Rattle.rv_instances.specs.declared.layout.Layout.{Layout}
-use Rattle.rv_instances.specs.Layouts.{Here, here_of, node_at}
-use Rattle.rv_instances.specs.NumberedNeeds.{listed, clock_number}
-use Rattle.rv_instances.specs.Timed.{operators_told}
+use Rattle.rv_instances.specs.{declared.answer.Instance.Instance as Numbered, declared.layout.Layout.Layout, Layouts.Here, Layouts.here_of, Layouts.node_at}
+use Rattle.rv_instances.specs.{NumberedNeeds.listed, NumberedNeeds.clock_number, Timed.operators_told}
 
 -- the clock of an operator, where it is a `->`
 abbrev pub arrow_of : Op → Clock → List Clock

@@ -1,37 +1,19 @@
 -- What is found of a program, and what is made of it, before its flat system is put together.
 use Rattle.std.specs.Prelude.{◌≡◌, ℕ, ◌<◌, List, [], map, length, unwrap_or, Some, slice_index_or, slice_get}
 use Rattle.std.specs.List.{Contains}
-use Rattle.rv_tree.specs.Tree.{AssertionTree, ProgramTree}
-use Rattle.rv_tree.specs.Places.{Identifier, Sites, flows}
-use Rattle.rv_tree.specs.Delays.{Delay, node_delays}
-use Rattle.rv_types.specs.declared.typed.Kind.{Kind}
-use Rattle.rv_types.specs.declared.typed.Kind.TheVariants as kind
-use Rattle.rv_types.specs.Kinds.{flow_kind, flow_kinds}
-use Rattle.rv_types.specs.Scopes.{constant_value}
-use Rattle.rv_types.specs.ValueTables.{value_by}
-use Rattle.rv_types.specs.Instances.{Instance, place, IsInstance}
-use Rattle.rv_types.specs.Needs.{Giver, Gives, IsSequence}
+use Rattle.rv_tree.specs.{Tree.AssertionTree, Tree.ProgramTree, Places.Identifier, Places.Sites, Places.flows, Delays.Delay, Delays.node_delays}
 use Rattle.rv_types.specs.Lists.{AreTicks, AreComparisons, delay_place, sites_of}
-use Rattle.rv_instances.specs.declared.expanded.Expanded.{Expanded}
-use Rattle.rv_instances.specs.declared.flows.Flow.{Flow}
+use Rattle.rv_types.specs.{declared.typed.Kind.Kind, Kinds.flow_kind, Kinds.flow_kinds, Scopes.constant_value, ValueTables.value_by, Instances.Instance}
+use Rattle.rv_types.specs.{Instances.place, Instances.IsInstance, Needs.Giver, Needs.Gives, Needs.IsSequence}
+use Rattle.rv_types.specs.declared.typed.Kind.TheVariants as kind
 use Rattle.rv_instances.specs.Expanded.{IsKnown, no_instance, program_of, main_of}
-use Rattle.rv_instances.specs.Flowing.{AreOf, all_flows}
-use Rattle.rv_instances.specs.Givers.{AreGivers}
-use Rattle.rv_instances.specs.Layouts.{IsLayout, IsNumberOf, all_places}
-use Rattle.rv_instances.specs.Weights.{AreLight}
-use Rattle.rv_flatten.specs.declared.found.Found.{Found}
-use Rattle.rv_flatten.specs.declared.given.Given.{Given}
-use Rattle.rv_flat.specs.declared.parts.FlatExpr.{FlatExpr}
-use Rattle.rv_flat.specs.declared.parts.FlatFlow.{FlatFlow}
-use Rattle.rv_flat.specs.declared.parts.FlatMemory.{FlatMemory}
-use Rattle.rv_flat.specs.Facts.{numbers_among}
-use Rattle.rv_flat.specs.RawTree.{RawTree, raw_tree}
-use Rattle.rv_flatten.specs.Frames.{IsNumbering}
+use Rattle.rv_instances.specs.{declared.expanded.Expanded.Expanded, declared.flows.Flow.Flow, Flowing.AreOf, Flowing.all_flows, Givers.AreGivers}
+use Rattle.rv_instances.specs.{Layouts.IsLayout, Layouts.IsNumberOf, Layouts.all_places, Weights.AreLight}
 use Rattle.rv_flatten.specs.Kept.{AreKept, kept_memory, found_comparison}
-use Rattle.rv_flatten.specs.NodeReaders.{AreOwnTables}
-use Rattle.rv_flatten.specs.Positions.{AreNumbersOf}
 use Rattle.rv_flatten.specs.Readings.{raw_flow, raw_memory, raw_giver, raw_delay, assertion_of}
-use Rattle.rv_flat.specs.Systems.{memory_of}
+use Rattle.rv_flatten.specs.{declared.found.Found.Found, declared.given.Given.Given, Frames.IsNumbering, NodeReaders.AreOwnTables, Positions.AreNumbersOf}
+use Rattle.rv_flat.specs.{declared.parts.FlatExpr.FlatExpr, declared.parts.FlatFlow.FlatFlow, declared.parts.FlatMemory.FlatMemory, Facts.numbers_among}
+use Rattle.rv_flat.specs.{RawTree.RawTree, RawTree.raw_tree, Systems.memory_of}
 use Rattle.rv_agreement.specs.Translation.{Numbers}
 
 -- the places of the flows, memories and ticks, by their numbers

@@ -1,19 +1,9 @@
 -- The comparisons of integers in nodes, and those that they are in instances.
 use Rattle.std.specs.Prelude.{ℕ, Bool, ◌&&◌, cond, List, [], ◌∷◌, ◌++◌, map, flat_map, Option, Some, slice_index_or, None as Nothing}
-use Rattle.rv_tree.specs.declared.tree.Op.{Op}
-use Rattle.rv_tree.specs.Tree.{Tree, NodeTree, ProgramTree}
-use Rattle.rv_tree.specs.Places.{Sites}
-use Rattle.rv_tree.specs.Sites.{is_comparison}
-use Rattle.rv_types.specs.Heads.{head_kind}
-use Rattle.rv_types.specs.Lists.{ComparisonAt}
-use Rattle.rv_types.specs.Scopes.{node_scope}
-use Rattle.rv_types.specs.Types.{Scope}
-use Rattle.rv_types.specs.Variables.{is_integer}
+use Rattle.rv_tree.specs.{declared.tree.Op.Op, Tree.Tree, Tree.NodeTree, Tree.ProgramTree, Places.Sites, Sites.is_comparison}
+use Rattle.rv_types.specs.{Heads.head_kind, Lists.ComparisonAt, Scopes.node_scope, Types.Scope, Variables.is_integer}
 use Rattle.rv_agreement.specs.Programs.{is_test}
-use Rattle.rv_instances.specs.declared.answer.Instance.{Instance as Numbered}
-use Rattle.rv_instances.specs.Expanded.{no_instance}
-use Rattle.rv_instances.specs.Layouts.{path_at}
-use Rattle.rv_instances.specs.Timed.{ToldOperator, operators_told}
+use Rattle.rv_instances.specs.{declared.answer.Instance.Instance as Numbered, Expanded.no_instance, Layouts.path_at, Timed.ToldOperator, Timed.operators_told}
 use Rattle.rv_flatten.specs.declared.comparisons.Tested.{Tested}
 
 -- whether an operator with this left operand compares integers, by what the head of the operand tells

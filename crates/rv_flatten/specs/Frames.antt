@@ -1,23 +1,11 @@
 -- What an instance is read with while its expressions are made flat.
-use Rattle.std.specs.Prelude.{◌≡◌, ℕ, ◌+◌, ◌<◌, List, length, Some, slice_index_or}
-use Rattle.std.specs.List.{Contains}
-use Rattle.rv_tree.specs.Tree.{ProgramTree}
-use Rattle.rv_tree.specs.Places.{Identifier, index_of, memory_site}
-use Rattle.rv_tree.specs.Delays.{Delay, node_delays}
-use Rattle.rv_types.specs.Scopes.{node_scope, constant_value}
-use Rattle.rv_types.specs.ValueTables.{value_by}
-use Rattle.rv_types.specs.Instances.{Instance, IsInstance}
-use Rattle.rv_types.specs.Lists.{delay_place}
-use Rattle.rv_instances.specs.declared.answer.Instance.{Instance as Numbered}
-use Rattle.rv_instances.specs.Callees.{callee_in}
-use Rattle.rv_instances.specs.Expanded.{IsKnown, program_of, main_of}
-use Rattle.rv_instances.specs.Flowing.{place_at}
-use Rattle.rv_instances.specs.Layouts.{IsLayout, IsNumberOf, all_places}
-use Rattle.rv_instances.specs.NumberedNeeds.{IsReader, node_read}
-use Rattle.rv_instances.specs.Weights.{AreLight}
-use Rattle.rv_flatten.specs.declared.frame.Frame.{Frame}
-use Rattle.rv_flatten.specs.declared.numbering.Numbering.{Numbering}
-use Rattle.rv_flatten.specs.NodeReaders.{scope_by}
+use Rattle.std.specs.{Prelude.◌≡◌, Prelude.ℕ, Prelude.◌+◌, Prelude.◌<◌, Prelude.List, Prelude.length, Prelude.Some, Prelude.slice_index_or, List.Contains}
+use Rattle.rv_tree.specs.{Tree.ProgramTree, Places.Identifier, Places.index_of, Places.memory_site, Delays.Delay, Delays.node_delays}
+use Rattle.rv_types.specs.{Scopes.node_scope, Scopes.constant_value, ValueTables.value_by, Instances.Instance, Instances.IsInstance, Lists.delay_place}
+use Rattle.rv_instances.specs.{declared.answer.Instance.Instance as Numbered, Callees.callee_in, Expanded.IsKnown, Expanded.program_of, Expanded.main_of}
+use Rattle.rv_instances.specs.{Flowing.place_at, Layouts.IsLayout, Layouts.IsNumberOf, Layouts.all_places, NumberedNeeds.IsReader, NumberedNeeds.node_read}
+use Rattle.rv_instances.specs.{Weights.AreLight}
+use Rattle.rv_flatten.specs.{declared.frame.Frame.Frame, declared.numbering.Numbering.Numbering, NodeReaders.scope_by}
 use Rattle.rv_agreement.specs.Translation.{Numbers}
 
 -- These are the numbers of the flows, ticks and memories at these places.

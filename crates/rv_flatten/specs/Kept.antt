@@ -1,16 +1,9 @@
 -- What is found of memories and comparisons, as those of the program.
-use Rattle.std.specs.Prelude.{◌≡◌, List, map}
-use Rattle.std.specs.List.{Contains}
-use Rattle.rv_tree.specs.Tree.{ProgramTree, tree_of}
-use Rattle.rv_tree.specs.Places.{Identifier}
-use Rattle.rv_tree.specs.Delays.{Delay, node_delays}
-use Rattle.rv_types.specs.Instances.{Instance, IsInstance}
-use Rattle.rv_types.specs.Lists.{IsAny, MemoryAt, ComparisonAt, AreMemories, delay_place}
-use Rattle.rv_instances.specs.declared.answer.Instance.{Instance as Numbered}
-use Rattle.rv_instances.specs.Layouts.{IsNumberOf}
-use Rattle.rv_instances.specs.NumberedNeeds.{clock_of_expression}
-use Rattle.rv_flatten.specs.declared.kept.Kept.{Kept}
-use Rattle.rv_flatten.specs.declared.kept.Comparison.{Comparison}
+use Rattle.std.specs.{Prelude.◌≡◌, Prelude.List, Prelude.map, List.Contains}
+use Rattle.rv_tree.specs.{Tree.ProgramTree, Tree.tree_of, Places.Identifier, Delays.Delay, Delays.node_delays}
+use Rattle.rv_types.specs.{Instances.Instance, Instances.IsInstance, Lists.IsAny, Lists.MemoryAt, Lists.ComparisonAt, Lists.AreMemories, Lists.delay_place}
+use Rattle.rv_instances.specs.{declared.answer.Instance.Instance as Numbered, Layouts.IsNumberOf, NumberedNeeds.clock_of_expression}
+use Rattle.rv_flatten.specs.{declared.kept.Kept.Kept, declared.kept.Comparison.Comparison}
 
 -- a memory by its place and type
 abbrev pub kept_memory : Kept → MemoryAt

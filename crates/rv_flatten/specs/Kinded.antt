@@ -1,13 +1,9 @@
 -- The types in a flat system are those of its program.
-use Rattle.std.specs.Prelude.{◌≡◌, ℕ, ◌<◌, [], map, length, slice_get, slice_index_or}
-use Rattle.std.specs.List.{Contains}
-use Rattle.rv_tree.specs.Tree.{ProgramTree}
-use Rattle.rv_tree.specs.Places.{Identifier, flows as flows_of}
+use Rattle.std.specs.{Prelude.◌≡◌, Prelude.ℕ, Prelude.◌<◌, Prelude.[], Prelude.map, Prelude.length, Prelude.slice_get, Prelude.slice_index_or, List.Contains}
+use Rattle.rv_tree.specs.{Tree.ProgramTree, Places.Identifier, Places.flows as flows_of}
 use Rattle.rv_types.specs.Instances.{Instance, place, node_of, IsInstance}
-use Rattle.rv_types.specs.Kinds.{decl_kinds, flow_kind}
-use Rattle.rv_types.specs.Names.{labels_of, texts}
-use Rattle.rv_agreement.specs.Trees.{System}
-use Rattle.rv_agreement.specs.Translation.{Numbers}
+use Rattle.rv_types.specs.{Kinds.decl_kinds, Kinds.flow_kind, Names.labels_of, Names.texts}
+use Rattle.rv_agreement.specs.{Trees.System, Translation.Numbers}
 
 -- Flows and inputs have the types of their program, and enumerations as many labels.
 pub record IsKinded (program : ProgramTree) (main : Identifier) (numbers : Numbers) (s : System) : Type 0 where

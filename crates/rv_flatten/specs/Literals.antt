@@ -1,14 +1,11 @@
 -- The integers of a program's literals and constants as they are gathered, and what stands beside them.
 use Rattle.std.specs.Prelude.{ℕ, ℤ, pos, ◌+ℤ◌, ◌-ℤ◌, ◌<ℤ◌, neg_ℤ, nat_abs, ◌^◌, ◌<◌, ◌≤◌, Bool, false, cond, List, [], ◌∷◌, ◌++◌, length, slice_index_or}
 use Rattle.std.specs.Prelude.{flat_map}
-use Rattle.std.specs.List.{Contains}
-use Rattle.std.specs.Ordering.{int_eq}
-use Rattle.rv_base.specs.declared.value.Value.{Value}
-use Rattle.rv_base.specs.declared.value.Value.TheVariants.{Whole}
+use Rattle.std.specs.{List.Contains, Ordering.int_eq}
+use Rattle.rv_base.specs.{declared.value.Value.Value, declared.value.Value.TheVariants.Whole}
 use Rattle.rv_tree.specs.Tree.{Tree, Node, Form, True, False, Number, Named, Not, Minus, Pre, Current, When, Binary, If, AtMostOne, Call, Trees, None, More}
 use Rattle.rv_tree.specs.Tree.{EquationTree, AssertionTree, ConstantTree, NodeTree, ProgramTree}
-use Rattle.rv_types.specs.Constants.{whole_in}
-use Rattle.rv_types.specs.Scopes.{constant_values}
+use Rattle.rv_types.specs.{Constants.whole_in, Scopes.constant_values}
 
 abbrev mutual
   -- the literals of an expression

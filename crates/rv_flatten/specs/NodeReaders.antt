@@ -1,15 +1,8 @@
 -- The nodes whose expressions are read, and what is found of all instances, one after the other.
-use Rattle.std.specs.Prelude.{◌≡◌, ℕ, zero, suc, List, [], ◌++◌, map}
-use Rattle.std.specs.List.{Contains}
-use Rattle.rv_tree.specs.Tree.{NodeTree, ProgramTree, node_tree}
-use Rattle.rv_tree.specs.Places.{Sites}
-use Rattle.rv_types.specs.declared.reading.NodeTables.{NodeTables}
-use Rattle.rv_types.specs.declared.reading.ProgramTables.{ProgramTables}
-use Rattle.rv_types.specs.Readings.{view_of}
-use Rattle.rv_types.specs.Scopes.{node_scope}
-use Rattle.rv_types.specs.Tables.{scope_of}
-use Rattle.rv_types.specs.Types.{Scope}
-use Rattle.rv_types.specs.Lists.{AreRising}
+use Rattle.std.specs.{Prelude.◌≡◌, Prelude.ℕ, Prelude.zero, Prelude.suc, Prelude.List, Prelude.[], Prelude.◌++◌, Prelude.map, List.Contains}
+use Rattle.rv_tree.specs.{Tree.NodeTree, Tree.ProgramTree, Tree.node_tree, Places.Sites}
+use Rattle.rv_types.specs.{declared.reading.NodeTables.NodeTables, declared.reading.ProgramTables.ProgramTables, Readings.view_of, Scopes.node_scope}
+use Rattle.rv_types.specs.{Tables.scope_of, Types.Scope, Lists.AreRising}
 use Rattle.rv_flatten.specs.declared.node_reader.NodeReader.{NodeReader}
 
 -- the node

@@ -1,9 +1,7 @@
 -- The numbers of flows along the places of a sequence, and where numbers stand among some.
 use Rattle.std.specs.Prelude.{◌≡◌, ℕ, ◌+◌, ◌-◌, ◌<◌, ◌^◌, min, List, [], ◌∷◌, length, slice_index_or, slice_set}
 use Rattle.rv_tree.specs.Places.{Sites}
-use Rattle.rv_instances.specs.declared.layout.Layout.{Layout}
-use Rattle.rv_instances.specs.Flowing.{place_at}
-use Rattle.rv_instances.specs.Layouts.{callee_or_main, here_of}
+use Rattle.rv_instances.specs.{declared.layout.Layout.Layout, Flowing.place_at, Layouts.callee_or_main, Layouts.here_of}
 
 -- These are the numbers of the places of a sequence, one by one.
 pub record AreNumbersOf (places sequence : List Sites) (numbers : List ℕ) : Type 0 where

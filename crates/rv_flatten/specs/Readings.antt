@@ -1,36 +1,22 @@
 -- How a flat system is read from its program: flows, memories and ticks by their numbers.
 use Rattle.std.specs.Prelude.{◌≡◌, ℕ, ◌+◌, ◌<◌, ℤ, pos, negsuc, Bool, true, false, cond, unwrap_or, List, [], ◌∷◌, ◌++◌, map, length, Option, Some, slice_get}
-use Rattle.std.specs.Prelude.{slice_index_or}
-use Rattle.std.specs.Prelude.{None as Nothing}
+use Rattle.std.specs.Prelude.{slice_index_or, None as Nothing}
 use Rattle.std.specs.List.{Contains}
 use Rattle.rv_base.specs.declared.value.Value.TheVariants.{Flag}
 use Rattle.rv_base.specs.declared.value.Value.TheVariants as value
-use Rattle.rv_tree.specs.declared.tree.Op.{Op}
+use Rattle.rv_tree.specs.Places.{Identifier, Sites, is_flow, index_of, memory_place, flows as flows_of}
+use Rattle.rv_tree.specs.{declared.tree.Op.Op, Tree.Tree, Tree.Form, Tree.Trees, Tree.AssertionTree, Tree.ProgramTree, Delays.Delay, Delays.node_delays}
 use Rattle.rv_tree.specs.declared.tree.Op.TheVariants as op
 use Rattle.rv_tree.specs.Tree as tree
-use Rattle.rv_tree.specs.Tree.{Tree, Form, Trees, AssertionTree, ProgramTree}
-use Rattle.rv_tree.specs.Places.{Identifier, Sites, is_flow, index_of, memory_place}
-use Rattle.rv_tree.specs.Places.{flows as flows_of}
-use Rattle.rv_tree.specs.Delays.{Delay, node_delays}
-use Rattle.rv_types.specs.declared.typed.Clock.TheVariants.{Base}
-use Rattle.rv_types.specs.Kinds.{decl_kinds, flow_kind}
-use Rattle.rv_types.specs.Names.{labels_of, texts}
-use Rattle.rv_types.specs.Types.{is_constant}
-use Rattle.rv_types.specs.Scopes.{node_scope, constant_value}
 use Rattle.rv_types.specs.Instances.{Body, Output, Instance, place, absolute, clock_in, clock_of_arguments, output_place, node_of, IsInstance}
 use Rattle.rv_types.specs.Needs.{Giver, Given, Of, Gives, IsSequence}
-use Rattle.rv_types.specs.Lists.{IsAny, AreMemories, AreTicks, delay_place}
-use Rattle.rv_flat.specs.declared.parts.Bit.{Bit}
-use Rattle.rv_flat.specs.declared.parts.FlatExpr.{FlatExpr}
-use Rattle.rv_flat.specs.declared.parts.FlatFlow.{FlatFlow}
-use Rattle.rv_flat.specs.declared.parts.FlatInput.{FlatInput}
-use Rattle.rv_flat.specs.declared.parts.FlatMemory.{FlatMemory}
+use Rattle.rv_types.specs.{declared.typed.Clock.TheVariants.Base, Kinds.decl_kinds, Kinds.flow_kind, Names.labels_of, Names.texts, Types.is_constant}
+use Rattle.rv_types.specs.{Scopes.node_scope, Scopes.constant_value, Lists.IsAny, Lists.AreMemories, Lists.AreTicks, Lists.delay_place}
 use Rattle.rv_flat.specs.RawTree.{RawTree, Node, RawForm, RawTrees, Constant, Flow, Memory, Ticked, Input, Not, Binary, Scale, If, AtMostOne, When, Current}
 use Rattle.rv_flat.specs.RawTree.{None, More, raw_tree}
-use Rattle.rv_flat.specs.Lists.{tick_places}
-use Rattle.rv_agreement.specs.Programs.{coefficient, operator_place}
-use Rattle.rv_agreement.specs.Translation.{Numbers, clock_number, tick_number}
-use Rattle.rv_flat.specs.Systems.{places_of, memory_places_of, memory_of}
+use Rattle.rv_flat.specs.{declared.parts.Bit.Bit, declared.parts.FlatExpr.FlatExpr, declared.parts.FlatFlow.FlatFlow, declared.parts.FlatInput.FlatInput}
+use Rattle.rv_flat.specs.{declared.parts.FlatMemory.FlatMemory, Lists.tick_places, Systems.places_of, Systems.memory_places_of, Systems.memory_of}
+use Rattle.rv_agreement.specs.{Programs.coefficient, Programs.operator_place, Translation.Numbers, Translation.clock_number, Translation.tick_number}
 
 -- the places of the flows, of the memories, and of the flows of the ticks but the main one, by their numbers
 abbrev pub numbers_of : List FlatFlow → List FlatMemory → List Bit → Numbers

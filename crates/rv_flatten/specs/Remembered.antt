@@ -1,19 +1,10 @@
 -- What the `pre` and `current` of nodes read, and the memories that these are in instances.
 use Rattle.std.specs.Prelude.{ℕ, List, [], ◌∷◌, ◌++◌, map, drop, unwrap_or, slice_index_or}
-use Rattle.rv_tree.specs.Tree.{Tree, NodeTree, ProgramTree, tree_of}
-use Rattle.rv_tree.specs.Places.{Sites, memory_site}
-use Rattle.rv_tree.specs.Delays.{Delay, node_delays}
-use Rattle.rv_types.specs.declared.typed.Clock.{Clock}
-use Rattle.rv_types.specs.declared.typed.Kind.{Kind}
+use Rattle.rv_tree.specs.{Tree.Tree, Tree.NodeTree, Tree.ProgramTree, Tree.tree_of, Places.Sites, Places.memory_site, Delays.Delay, Delays.node_delays}
+use Rattle.rv_types.specs.{declared.typed.Clock.Clock, declared.typed.Kind.Kind, Scopes.node_scope, Types.Scope, Types.kind_of}
 use Rattle.rv_types.specs.declared.typed.Kind.TheVariants as kind
-use Rattle.rv_types.specs.Scopes.{node_scope}
-use Rattle.rv_types.specs.Types.{Scope, kind_of}
-use Rattle.rv_instances.specs.declared.answer.Instance.{Instance as Numbered}
-use Rattle.rv_instances.specs.Expanded.{no_instance}
-use Rattle.rv_instances.specs.Layouts.{path_at}
-use Rattle.rv_instances.specs.Timed.{ToldDelay, delay_told}
-use Rattle.rv_flatten.specs.declared.kept.Kept.{Kept}
-use Rattle.rv_flatten.specs.declared.memories.MemoryRead.{MemoryRead}
+use Rattle.rv_instances.specs.{declared.answer.Instance.Instance as Numbered, Expanded.no_instance, Layouts.path_at, Timed.ToldDelay, Timed.delay_told}
+use Rattle.rv_flatten.specs.{declared.kept.Kept.Kept, declared.memories.MemoryRead.MemoryRead}
 
 -- the site of a memory, the type of what it holds, and an operand that reads it, with its clock
 pub record ReadAt : Type 0 where

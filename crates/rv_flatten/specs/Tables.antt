@@ -2,28 +2,16 @@
 use Rattle.std.specs.Prelude.{ℕ, ◌+◌, pos, negsuc, Bool, true, false, cond, unwrap_or, [], Option, Some, slice_index_or, None as Nothing}
 use Rattle.std.specs.Option.{option_map}
 use Rattle.rv_base.specs.declared.value.Value.TheVariants.{Flag, Whole}
-use Rattle.rv_tree.specs.declared.tree.Op.{Op}
-use Rattle.rv_tree.specs.Tree as tree
-use Rattle.rv_tree.specs.Tree.{Tree, Form, Trees}
 use Rattle.rv_tree.specs.Places.{Identifier, Sites, is_flow, site_of, memory_site}
-use Rattle.rv_types.specs.declared.weighing.Weighed.{Weighed}
-use Rattle.rv_types.specs.Constants.{whole_in}
-use Rattle.rv_types.specs.declared.reading_values.Trues.{Trues}
-use Rattle.rv_types.specs.ConstantParts.{constant_part, trues_over}
-use Rattle.rv_types.specs.Types.{Scope}
-use Rattle.rv_types.specs.Scopes.{node_scope}
-use Rattle.rv_types.specs.ToldPaces.{told_clock}
-use Rattle.rv_types.specs.ValueTables.{value_by}
-use Rattle.rv_instances.specs.Callees.{callee_in}
-use Rattle.rv_instances.specs.Expanded.{program_of}
-use Rattle.rv_instances.specs.Layouts.{path_at}
+use Rattle.rv_tree.specs.{declared.tree.Op.Op, Tree.Tree, Tree.Form, Tree.Trees}
+use Rattle.rv_tree.specs.Tree as tree
+use Rattle.rv_types.specs.{declared.weighing.Weighed.Weighed, Constants.whole_in, declared.reading_values.Trues.Trues, ConstantParts.constant_part}
+use Rattle.rv_types.specs.{ConstantParts.trues_over, Types.Scope, Scopes.node_scope, ToldPaces.told_clock, ValueTables.value_by}
 use Rattle.rv_instances.specs.NumberedNeeds.{flow_number, clock_number, clock_of_expression, node_read, numbers_of}
-use Rattle.rv_flatten.specs.declared.frame.Frame.{Frame}
+use Rattle.rv_instances.specs.{Callees.callee_in, Expanded.program_of, Layouts.path_at}
+use Rattle.rv_flatten.specs.{declared.frame.Frame.Frame, Compared.is_told_test, NodeReaders.scope_by, Readings.unplaced, Readings.operator}
 use Rattle.rv_flat.specs.RawTree.{RawTree, Node, RawForm, RawTrees, Constant, Flow, Memory, Ticked, Not, Scale, If, AtMostOne, When, Current, None, More}
 use Rattle.rv_agreement.specs.Programs.{spot}
-use Rattle.rv_flatten.specs.Compared.{is_told_test}
-use Rattle.rv_flatten.specs.NodeReaders.{scope_by}
-use Rattle.rv_flatten.specs.Readings.{unplaced, operator}
 
 -- a product, by what is known of the operands where they are constant, as one is in each accepted program
 abbrev pub product_read : (a b : Option Weighed) → RawTree → RawTree → RawForm

@@ -1,9 +1,7 @@
 -- The bits of memories and inputs, by the declarations of types, and the column of one of them.
 use Rattle.std.specs.Prelude.{ℕ, ◌+◌, cond, List, [], ◌∷◌, ◌++◌, flat_map}
 use Rattle.rv_tree.specs.declared.tree.TypeDecl.{TypeDecl}
-use Rattle.rv_types.specs.declared.typed.Kind.{Kind}
-use Rattle.rv_types.specs.Lists.{MemoryAt, Variable, Kept, Input, Column, bits}
-use Rattle.rv_types.specs.Variables.{is_integer}
+use Rattle.rv_types.specs.{declared.typed.Kind.Kind, Lists.MemoryAt, Lists.Variable, Lists.Kept, Lists.Input, Lists.Column, Lists.bits, Variables.is_integer}
 use Rattle.rv_instances.specs.Bits.{bits_of}
 
 -- the bits of memories

@@ -1,22 +1,15 @@
 -- The parts of a term as answers to a question.
-use Rattle.std.proofs.Common.{◌≡◌, inl, inr, ℕ, zero, suc, ◌<◌, true, List, [], ◌∷◌, length, refl, sym, ◌∙◌, ap, subst, arith, Some}
-use Rattle.std.proofs.Common.{None as Nothing}
+use Rattle.std.proofs.Common.{◌≡◌, inl, inr, ℕ, zero, suc, ◌<◌, true, List, [], ◌∷◌, length, refl, sym, ◌∙◌, ap, subst, arith, Some, None as Nothing}
+use Rattle.std.proofs.{lemmas.Bool.cases_eq, lemmas.Bool.cases_lt, lemmas.List.length-map}
 use Rattle.std.specs.Prelude.{slice_get}
-use Rattle.std.proofs.lemmas.Bool.{cases_eq, cases_lt}
-use Rattle.std.proofs.lemmas.List.{length-map}
 use Rattle.rv_rows.specs.declared.linear.Form.{Form}
-use Rattle.rv_diagram.specs.declared.Triple.{Triple}
-use Rattle.rv_diagram.specs.Nodes.{Valuation, Diagrams, IsRef, value_of}
-use Rattle.rv_diagram.specs.Several.{ref_at}
-use Rattle.rv_terms.specs.declared.parted.Part.{Part}
-use Rattle.rv_terms.specs.declared.parted.Term.{Term}
-use Rattle.rv_terms.specs.Parts.{part_at, holds, form_at, IsTerm}
+use Rattle.rv_diagram.specs.{declared.Triple.Triple, Nodes.Valuation, Nodes.Diagrams, Nodes.IsRef, Nodes.value_of, Several.ref_at}
+use Rattle.rv_terms.specs.{declared.parted.Part.Part, declared.parted.Term.Term, Parts.part_at, Parts.holds, Parts.form_at, Parts.IsTerm}
 use Rattle.rv_terms.proofs.Classes.{part_iff}
 use Rattle.rv_cases.specs.Conditions.{is_in, AreAnswers}
 use Rattle.rv_flat.specs.declared.flat.Flat.{Flat}
 use Rattle.rv_control.specs.Control.{control_of}
-use Rattle.rv_forms.specs.Choices.{refs_in, forms_in, AreChoices}
-use Rattle.rv_forms.specs.Terms.{columns_of, parts_at, AreUpdatesRead}
+use Rattle.rv_forms.specs.{Choices.refs_in, Choices.forms_in, Choices.AreChoices, Terms.columns_of, Terms.parts_at, Terms.AreUpdatesRead}
 use Rattle.rv_diagram.proofs.Several.{same_truth}
 
 -- the reference of an answer is that of its part

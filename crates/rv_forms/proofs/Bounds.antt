@@ -1,24 +1,16 @@
 -- What bounds say of the sums and multiples of forms.
 use Rattle.std.proofs.Common.{◌≡◌, inl, inr, ℕ, ◌+◌, ◌*◌, ◌^◌, ◌<◌, ◌≤◌, ℤ, pos, ◌+ℤ◌, ◌*ℤ◌, true, List, length, sym, subst, arith}
-use Rattle.std.specs.Prelude.{nat_abs, nat_le}
-use Rattle.std.specs.Int.RustNames.{unsigned_abs}
-use Rattle.std.proofs.Math.Nat.{mul-le-mul_left}
-use Rattle.std.proofs.Math.ListN.{get_or-eq_default}
-use Rattle.std.proofs.lemmas.Bool.{cases_lt, and_parts}
-use Rattle.std.proofs.lemmas.Int.{unsigned_abs-mul}
-use Rattle.std.proofs.lemmas.List.Elements.{All-get_or, All-from_get_or}
+use Rattle.std.proofs.{Math.Nat.mul-le-mul_left, Math.ListN.get_or-eq_default, lemmas.Bool.cases_lt, lemmas.Bool.and_parts, lemmas.Int.unsigned_abs-mul}
+use Rattle.std.proofs.{lemmas.List.Elements.All-get_or, lemmas.List.Elements.All-from_get_or}
+use Rattle.std.specs.{Prelude.nat_abs, Prelude.nat_le, Int.RustNames.unsigned_abs}
 use Rattle.rv_base.specs.Limits.{heaviest}
 use Rattle.rv_tree.specs.Places.{Sites}
-use Rattle.rv_rows.specs.declared.linear.Form.{Form}
-use Rattle.rv_rows.specs.Forms.{number, CanAdd, CanScale, FormWithin}
-use Rattle.rv_diagram.specs.declared.Triple.{Triple}
-use Rattle.rv_diagram.specs.Nodes.{Valuation}
-use Rattle.rv_terms.specs.declared.parted.Part.{Part}
-use Rattle.rv_terms.specs.Parts.{form_at, IsTermOf}
+use Rattle.rv_rows.specs.{declared.linear.Form.Form, Forms.number, Forms.CanAdd, Forms.CanScale, Forms.FormWithin}
+use Rattle.rv_diagram.specs.{declared.Triple.Triple, Nodes.Valuation}
+use Rattle.rv_terms.specs.{declared.parted.Part.Part, Parts.form_at, Parts.IsTermOf}
 use Rattle.rv_terms.proofs.Combining.{form_width}
 use Rattle.rv_agreement.specs.Trees.{FlatTree, Node, TreeForm}
-use Rattle.rv_flat.specs.Facts.{form_flat_weight, is_light, form_is_light}
-use Rattle.rv_flat.specs.Tame.{IsOver}
+use Rattle.rv_flat.specs.{Facts.form_flat_weight, Facts.is_light, Facts.form_is_light, Tame.IsOver}
 use Rattle.rv_control.proofs.Bounded.{IsBounded, looser, same_abs, triangle}
 use Rattle.rv_forms.specs.Terms.{IsWithin}
 

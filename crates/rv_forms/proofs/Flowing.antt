@@ -1,58 +1,33 @@
 -- The terms of the flows in their order, and of the updates.
 use Rattle.std.proofs.Common.{◌≡◌, inl, inr, ℕ, zero, suc, ◌+◌, ◌<◌, ◌≤◌, pos, max, Bool, true, false, cond, List, [], ◌∷◌, ◌++◌, length, map, refl, sym, ◌∙◌}
-use Rattle.std.proofs.Common.{ap, subst, arith, length-append, Option, Some}
-use Rattle.std.proofs.Common.{None as Nothing}
+use Rattle.std.proofs.Common.{ap, subst, arith, length-append, Option, Some, None as Nothing}
+use Rattle.std.proofs.{lemmas.Bool.cases_lt, lemmas.List.length-map}
 use Rattle.std.specs.Prelude.{slice_get, slice_index_or}
-use Rattle.std.proofs.lemmas.Bool.{cases_lt}
-use Rattle.std.proofs.lemmas.List.{length-map}
 use Rattle.rv_base.specs.Limits.{heaviest}
-use Rattle.rv_types.specs.declared.typed.Kind.{Kind}
+use Rattle.rv_types.specs.{declared.typed.Kind.Kind, Variables.is_integer}
 use Rattle.rv_types.specs.declared.typed.Kind.TheVariants as kind
-use Rattle.rv_types.specs.Variables.{is_integer}
-use Rattle.rv_rows.specs.declared.linear.Form.{Form}
-use Rattle.rv_rows.specs.Arithmetic.{constant_form}
-use Rattle.rv_diagram.specs.declared.Triple.{Triple}
-use Rattle.rv_diagram.specs.Nodes.{Valuation, Diagrams}
-use Rattle.rv_terms.specs.declared.parted.Part.{Part}
-use Rattle.rv_terms.specs.declared.parted.Term.{Term}
-use Rattle.rv_terms.specs.Parts.{form_at, IsTermOf}
-use Rattle.rv_agreement.specs.Agreement.{Fits, IsNamed, IsWell, updates}
-use Rattle.rv_agreement.specs.Evaluation.{held, nth}
+use Rattle.rv_rows.specs.{declared.linear.Form.Form, Arithmetic.constant_form}
+use Rattle.rv_diagram.specs.{declared.Triple.Triple, Nodes.Valuation, Nodes.Diagrams}
+use Rattle.rv_terms.specs.{declared.parted.Part.Part, declared.parted.Term.Term, Parts.form_at, Parts.IsTermOf}
 use Rattle.rv_agreement.specs.Trees.{FlatTree, Item, no_item, nth_item, memory_kinds, memory_items, kind_at}
 use Rattle.rv_agreement.specs.Valuations.{Reading, Linear, form_of, whole_count, rank, width, reads_at, read, updated, IsSymbolic}
-use Rattle.rv_flat.specs.declared.flat.Flat.{Flat}
-use Rattle.rv_flat.specs.declared.parts.FlatFlow.{FlatFlow}
-use Rattle.rv_flat.specs.declared.parts.FlatMemory.{FlatMemory}
-use Rattle.rv_flat.specs.Facts.{is_light}
-use Rattle.rv_flat.specs.FlatInstants.{system_of}
-use Rattle.rv_flat.specs.Inlined.{table_of, tree_among}
-use Rattle.rv_flat.specs.Systems.{flow_item, memory_item, kept_of}
-use Rattle.rv_flat.proofs.FlowWeights.{item_light, weight_kth}
-use Rattle.rv_flat.proofs.Inlining.{memory_at}
-use Rattle.rv_flat.proofs.SystemRuns.{kept_items}
-use Rattle.rv_control.specs.Named.{named}
-use Rattle.rv_control.specs.Symbolic.{symbolic}
-use Rattle.rv_control.proofs.Bounded.{IsBounded, zero_bounded}
-use Rattle.rv_control.proofs.Readings.{is_symbolic}
-use Rattle.rv_control.proofs.Weighed.{light_weight}
+use Rattle.rv_agreement.specs.{Agreement.Fits, Agreement.IsNamed, Agreement.IsWell, Agreement.updates, Evaluation.held, Evaluation.nth}
+use Rattle.rv_flat.specs.{declared.flat.Flat.Flat, declared.parts.FlatFlow.FlatFlow, declared.parts.FlatMemory.FlatMemory, Facts.is_light}
+use Rattle.rv_flat.specs.{FlatInstants.system_of, Inlined.table_of, Inlined.tree_among, Systems.flow_item, Systems.memory_item, Systems.kept_of}
+use Rattle.rv_flat.proofs.{FlowWeights.item_light, FlowWeights.weight_kth, Inlining.memory_at, SystemRuns.kept_items}
+use Rattle.rv_control.specs.{Named.named, Symbolic.symbolic}
+use Rattle.rv_control.proofs.{Bounded.IsBounded, Bounded.zero_bounded, Readings.is_symbolic, Weighed.light_weight}
 use Rattle.rv_symbolic.specs.Growing.{Extends}
 use Rattle.rv_symbolic.proofs.Extending.{extends_refl, extends_trans}
-use Rattle.rv_bits.specs.declared.around.FlowRefs.{FlowRefs}
-use Rattle.rv_bits.specs.Shown.{Shows, refs_at, is_there_at, clock_bit, AreFlowRefs}
-use Rattle.rv_bits.proofs.Fitting.{fits_more}
-use Rattle.rv_bits.proofs.Listing.{element_before, element_last}
-use Rattle.rv_forms.specs.declared.over.Wholes.{Wholes}
-use Rattle.rv_agreement.specs.Trees as trees
-use Rattle.rv_forms.specs.Columns.{kind_form, AreColumnTerms, IsAdded, AreUpdatesTo}
+use Rattle.rv_bits.specs.{declared.around.FlowRefs.FlowRefs, Shown.Shows, Shown.refs_at, Shown.is_there_at, Shown.clock_bit, Shown.AreFlowRefs}
+use Rattle.rv_bits.proofs.{Fitting.fits_more, Listing.element_before, Listing.element_last, Flowing.nothing_some}
 use Rattle.rv_forms.specs.Terms.{columns_of, weights_of, weight_in, form_read, flow_read, parts_at, IsWithin, GivesTerm, ReadsAs, AreWholes, IsAfterAs}
 use Rattle.rv_forms.specs.Terms.{IsFlowAs, AreUpdatesRead}
-use Rattle.rv_forms.proofs.Bounds.{form_bounded, term_within, within_more}
-use Rattle.rv_forms.proofs.Kept.{one_kept, wholes_kept}
+use Rattle.rv_forms.specs.{declared.over.Wholes.Wholes, Columns.kind_form, Columns.AreColumnTerms, Columns.IsAdded, Columns.AreUpdatesTo}
+use Rattle.rv_agreement.specs.Trees as trees
 use Rattle.rv_forms.proofs.Ranks.{rank_next, forms_kth, spelled_form, kind_bounded}
-use Rattle.rv_forms.proofs.Showing.{clock_shown}
-use Rattle.rv_bits.proofs.Flowing.{nothing_some}
-use Rattle.rv_base.proofs.Lists.{within_got}
-use Rattle.rv_base.proofs.Options.{some_same}
+use Rattle.rv_forms.proofs.{Bounds.form_bounded, Bounds.term_within, Bounds.within_more, Kept.one_kept, Kept.wholes_kept, Showing.clock_shown}
+use Rattle.rv_base.proofs.{Lists.within_got, Options.some_same}
 
 -- what a list says of what stands at a place of it
 pub mapped : {A B : Type 0} (g : A → B) (xs : List A) (k : ℕ) (x : A) (d : B) → slice_get xs k ≡ Some x → slice_index_or (map g xs) k d ≡ g x

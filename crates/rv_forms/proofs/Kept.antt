@@ -1,25 +1,17 @@
 -- What has been read stays as the store grows.
-use Rattle.std.proofs.Common.{◌≡◌, ℕ, ◌<◌, max, true, false, List, length, sym, ◌∙◌, ap, subst, arith, Option, Some, inl, inr}
-use Rattle.std.proofs.Common.{None as Nothing}
+use Rattle.std.proofs.Common.{◌≡◌, ℕ, ◌<◌, max, true, false, List, length, sym, ◌∙◌, ap, subst, arith, Option, Some, inl, inr, None as Nothing}
+use Rattle.std.proofs.{lemmas.Bool.cases_eq, lemmas.List.get_or-set_same, lemmas.List.get_or-set_other, lemmas.List.length-set}
 use Rattle.std.specs.Prelude.{slice_index_or, slice_set}
-use Rattle.std.proofs.lemmas.Bool.{cases_eq}
-use Rattle.std.proofs.lemmas.List.{get_or-set_same, get_or-set_other, length-set}
 use Rattle.rv_rows.specs.Forms.{FormWithin}
-use Rattle.rv_diagram.specs.declared.Triple.{Triple}
-use Rattle.rv_diagram.specs.Nodes.{Valuation, Diagrams}
-use Rattle.rv_terms.specs.declared.parted.Part.{Part}
-use Rattle.rv_terms.specs.declared.parted.Term.{Term}
-use Rattle.rv_terms.specs.Parts.{form_at, holds, term_width, IsTerm}
+use Rattle.rv_diagram.specs.{declared.Triple.Triple, Nodes.Valuation, Nodes.Diagrams}
+use Rattle.rv_terms.specs.{declared.parted.Part.Part, declared.parted.Term.Term, Parts.form_at, Parts.holds, Parts.term_width, Parts.IsTerm}
 use Rattle.rv_terms.specs.Growing as terms
 use Rattle.rv_terms.proofs.Combining.{form_later, holds_later, term_later}
-use Rattle.rv_agreement.specs.Trees.{FlatTree}
-use Rattle.rv_agreement.specs.Valuations.{Linear}
-use Rattle.rv_flat.specs.declared.flat.Flat.{Flat}
-use Rattle.rv_flat.specs.Inlined.{table_of}
+use Rattle.rv_agreement.specs.{Trees.FlatTree, Valuations.Linear}
+use Rattle.rv_flat.specs.{declared.flat.Flat.Flat, Inlined.table_of}
 use Rattle.rv_symbolic.specs.Growing.{Extends}
 use Rattle.rv_symbolic.proofs.Extending.{extends_trans}
-use Rattle.rv_bits.specs.declared.around.Around.{Around}
-use Rattle.rv_bits.specs.Shown.{AreAfter}
+use Rattle.rv_bits.specs.{declared.around.Around.Around, Shown.AreAfter}
 use Rattle.rv_bits.proofs.Keeping.{around_kept, after_kept}
 use Rattle.rv_forms.specs.declared.over.Wholes.{Wholes}
 use Rattle.rv_forms.specs.Terms.{columns_of, weights_of, weight_in, parts_at, IsWithin, ReadsAs, AreWholes, IsAfterAs, AreKnown, IsReady}

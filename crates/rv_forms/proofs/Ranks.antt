@@ -1,26 +1,18 @@
 -- The columns of memories and inputs, and the updates among the memories.
 use Rattle.std.proofs.Common.{◌≡◌, inl, inr, ℕ, zero, suc, ◌+◌, ◌<◌, ◌≤◌, ◌≢◌, ℤ, pos, Bool, true, false, cond, nat_eq, List, [], ◌∷◌, ◌++◌, length, refl, sym}
 use Rattle.std.proofs.Common.{◌∙◌, ap, subst, arith}
-use Rattle.std.specs.Prelude.{slice_index_or}
 use Rattle.std.proofs.lemmas.Bool.{cases_lt, cases_eq, ne_eqb, eq-eqb}
+use Rattle.std.specs.Prelude.{slice_index_or}
 use Rattle.rv_tree.specs.Places.{Sites}
-use Rattle.rv_types.specs.declared.typed.Kind.{Kind}
+use Rattle.rv_types.specs.{declared.typed.Kind.Kind, Lists.Side, Variables.is_integer}
 use Rattle.rv_types.specs.declared.typed.Kind.TheVariants as kind
-use Rattle.rv_types.specs.Lists.{Side}
-use Rattle.rv_types.specs.Variables.{is_integer}
-use Rattle.rv_rows.specs.declared.linear.Form.{Form}
-use Rattle.rv_rows.specs.Arithmetic.{zeros, unit, constant_form, column_form}
+use Rattle.rv_rows.specs.{declared.linear.Form.Form, Arithmetic.zeros, Arithmetic.unit, Arithmetic.constant_form, Arithmetic.column_form}
 use Rattle.rv_diagram.specs.declared.Triple.{Triple}
-use Rattle.rv_terms.specs.declared.parted.Part.{Part}
-use Rattle.rv_terms.specs.declared.parted.Term.{Term}
-use Rattle.rv_terms.specs.Parts.{IsTermOf}
-use Rattle.rv_agreement.specs.Agreement.{forms_from}
-use Rattle.rv_agreement.specs.Trees.{kind_at}
-use Rattle.rv_agreement.specs.Valuations.{form_of, spelled, whole_count, rank}
+use Rattle.rv_terms.specs.{declared.parted.Part.Part, declared.parted.Term.Term, Parts.IsTermOf}
+use Rattle.rv_agreement.specs.{Agreement.forms_from, Trees.kind_at, Valuations.form_of, Valuations.spelled, Valuations.whole_count, Valuations.rank}
 use Rattle.rv_control.proofs.Bounded.{IsBounded, zero_bounded, column_bounded, length-zeros, length-unit}
 use Rattle.rv_bits.proofs.Listing.{element_before, element_last}
-use Rattle.rv_forms.specs.Columns.{kind_form}
-use Rattle.rv_forms.specs.Terms.{parts_at}
+use Rattle.rv_forms.specs.{Columns.kind_form, Terms.parts_at}
 use Rattle.rv_base.proofs.Truths.{bit_most}
 
 pub rank_zero : (ks : List Kind) → rank ks 0 ≡ 0

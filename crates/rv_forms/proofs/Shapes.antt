@@ -3,18 +3,14 @@ use Rattle.std.proofs.Common.{◌≡◌, ℕ, ◌≤◌, ℤ, sym, ◌∙◌, ap
 use Rattle.rv_tree.specs.declared.tree.Op.{Op}
 use Rattle.rv_agreement.specs.Trees.{FlatTree, Node, TreeForm, FlatTrees, Constant, Flow, Memory, Ticked, Input, Not, Binary, Scale, If, AtMostOne, When}
 use Rattle.rv_agreement.specs.Trees.{Current, None, More}
-use Rattle.rv_flat.specs.declared.parts.FlatExpr.{FlatExpr}
-use Rattle.rv_flat.specs.declared.parts.FlatForm.{FlatForm}
-use Rattle.rv_flat.specs.declared.parts.FlatForm.TheOpen as step
-use Rattle.rv_flat.specs.declared.parts.FlatForm.TheFolds.{fold-FlatForm, fold_out-FlatExpr, fold-roll-FlatForm}
 use Rattle.rv_flat.specs.declared.parts.FlatForm.TheViews.{rolls-Flow, rolls-Input, rolls-Binary, rolls-Scale, rolls-Current}
+use Rattle.rv_flat.specs.{declared.parts.FlatExpr.FlatExpr, declared.parts.FlatForm.FlatForm, declared.parts.FlatForm.TheFolds.fold-FlatForm}
+use Rattle.rv_flat.specs.{declared.parts.FlatForm.TheFolds.fold_out-FlatExpr, declared.parts.FlatForm.TheFolds.fold-roll-FlatForm, Inlined.inlined}
+use Rattle.rv_flat.specs.{Inlined.table_of, RawTree.RawTree, RawTree.RawForm, RawTree.raw_tree, RawTree.form_of, Tame.IsOver, Tame.FormIsOver, Tame.AreOver}
+use Rattle.rv_flat.specs.declared.parts.FlatForm.TheOpen as step
 use Rattle.rv_flat.specs.declared.parts.FlatForm.TheVariants as form
-use Rattle.rv_flat.specs.Inlined.{inlined, table_of}
-use Rattle.rv_flat.specs.RawTree.{RawTree, RawForm, raw_tree, form_of}
 use Rattle.rv_flat.specs.RawTree as raw
-use Rattle.rv_flat.specs.Tame.{IsOver, FormIsOver, AreOver}
-use Rattle.rv_bits.specs.declared.around.Around.{Around}
-use Rattle.rv_bits.specs.Reads.{tree_in}
+use Rattle.rv_bits.specs.{declared.around.Around.Around, Reads.tree_in}
 use Rattle.rv_bits.proofs.Fitting.{named_more}
 
 abbrev raw_form : FlatForm → RawForm

@@ -4,42 +4,29 @@ use Rattle.std.proofs.Common.{None as Nothing}
 use Rattle.std.proofs.lemmas.Bool.{cases_lt}
 use Rattle.rv_base.specs.declared.value.Value.{Value}
 use Rattle.rv_base.specs.declared.value.Value.TheVariants.{Flag, Label, Whole}
-use Rattle.rv_tree.specs.declared.tree.Op.{Op}
+use Rattle.rv_tree.specs.{declared.tree.Op.Op, Places.Sites}
 use Rattle.rv_tree.specs.declared.tree.Op.TheVariants as op
-use Rattle.rv_tree.specs.Places.{Sites}
-use Rattle.rv_types.specs.declared.typed.Kind.{Kind}
+use Rattle.rv_types.specs.{declared.typed.Kind.Kind, Lists.Side}
 use Rattle.rv_types.specs.declared.typed.Kind.TheVariants as kind
-use Rattle.rv_types.specs.Lists.{Side}
 use Rattle.rv_meaning.specs.Meaning.{number as whole_number}
-use Rattle.rv_rows.specs.declared.linear.Form.{Form}
-use Rattle.rv_rows.specs.Arithmetic.{constant_form, form_times}
-use Rattle.rv_diagram.specs.declared.Triple.{Triple}
-use Rattle.rv_diagram.specs.Nodes.{Valuation, Diagrams, value_of}
-use Rattle.rv_diagram.specs.Several.{ref_at}
-use Rattle.rv_terms.specs.declared.parted.Part.{Part}
-use Rattle.rv_terms.specs.Parts.{form_at, IsTermOf}
+use Rattle.rv_rows.specs.{declared.linear.Form.Form, Arithmetic.constant_form, Arithmetic.form_times}
+use Rattle.rv_diagram.specs.{declared.Triple.Triple, Nodes.Valuation, Nodes.Diagrams, Nodes.value_of, Several.ref_at}
+use Rattle.rv_terms.specs.{declared.parted.Part.Part, Parts.form_at, Parts.IsTermOf}
 use Rattle.rv_agreement.specs.Agreement.{Fits, HasKind, IsRule, IsNamed, IsWell}
 use Rattle.rv_agreement.specs.Evaluation.{held, is_on, nth}
 use Rattle.rv_agreement.specs.Trees.{FlatTree, Node, FlatTrees, Constant, Flow, Memory, Ticked, Input, Not, Binary, Scale, If, AtMostOne, When, Current, Item}
 use Rattle.rv_agreement.specs.Trees.{nth_item, memory_items, memory_kinds, kind_at}
 use Rattle.rv_agreement.specs.Valuations.{Reading, Truth, Name, Linear, holds_true, is_linear, form_of, operated, reads_at, read, updated, IsSymbolic}
-use Rattle.rv_flat.specs.declared.flat.Flat.{Flat}
-use Rattle.rv_flat.specs.Facts.{weight_under, flat_weight}
-use Rattle.rv_flat.specs.FlatInstants.{system_of}
-use Rattle.rv_flat.specs.Inlined.{table_of}
+use Rattle.rv_flat.specs.{declared.flat.Flat.Flat, Facts.weight_under, Facts.flat_weight, FlatInstants.system_of, Inlined.table_of}
 use Rattle.rv_control.specs.Named.{named}
 use Rattle.rv_control.proofs.Bounded.{IsBounded, looser, constant_bounded, zero_bounded, sum_bounded, times_bounded, difference_bounded}
 use Rattle.rv_symbolic.proofs.Extending.{extends_refl, extends_trans}
-use Rattle.rv_bits.specs.declared.around.Tables.{Tables}
-use Rattle.rv_bits.specs.declared.around.FlowRefs.{FlowRefs}
-use Rattle.rv_bits.specs.Bits.{bit}
 use Rattle.rv_bits.specs.Shown.{Shows, refs_at, found, is_there_at, clock_bit, AreTables, AreFlowRefs, ReadsTo}
+use Rattle.rv_bits.specs.{declared.around.Tables.Tables, declared.around.FlowRefs.FlowRefs, Bits.bit}
 use Rattle.rv_bits.proofs.Showing.{shows_truth}
-use Rattle.rv_forms.specs.declared.over.Wholes.{Wholes}
-use Rattle.rv_forms.specs.Columns.{gives_whole, combined_form}
 use Rattle.rv_forms.specs.Terms.{columns_of, weights_of, weight_in, form_read, flow_read, parts_at, IsWithin, GivesTerm, ReadsAs, AreWholes, IsAfterRead}
-use Rattle.rv_forms.proofs.Bounds.{form_bounded, term_within}
-use Rattle.rv_forms.proofs.Kept.{form_kept, within_kept}
+use Rattle.rv_forms.specs.{declared.over.Wholes.Wholes, Columns.gives_whole, Columns.combined_form}
+use Rattle.rv_forms.proofs.{Bounds.form_bounded, Bounds.term_within, Kept.form_kept, Kept.within_kept}
 use Rattle.rv_types.proofs.ChainLaws.{no_flag}
 
 -- CONSTANTS

@@ -1,41 +1,26 @@
 -- An expression of each form read into a term, by what its parts were read into.
 use Rattle.std.proofs.Common.{◌≡◌, ℕ, ◌<◌, ◌≤◌, ℤ, pos, true, false, List, length, refl, sym, ◌∙◌, subst, arith, Option, Some, Result, Ok, Err, IfOk, OnOk}
-use Rattle.std.specs.Prelude.{slice_get}
 use Rattle.std.proofs.lemmas.List.{length-map}
-use Rattle.rv_base.specs.declared.value.Value.{Value}
-use Rattle.rv_tree.specs.declared.tree.Op.{Op}
+use Rattle.std.specs.Prelude.{slice_get}
+use Rattle.rv_base.specs.{declared.value.Value.Value, Limits.heaviest}
+use Rattle.rv_tree.specs.{declared.tree.Op.Op, Places.Sites}
 use Rattle.rv_tree.specs.declared.tree.Op.TheVariants as op
-use Rattle.rv_base.specs.Limits.{heaviest}
-use Rattle.rv_tree.specs.Places.{Sites}
 use Rattle.rv_meaning.specs.Meaning.{number as whole_number}
-use Rattle.rv_rows.specs.declared.linear.Form.{Form}
-use Rattle.rv_rows.specs.Arithmetic.{constant_form, form_sum, form_times}
-use Rattle.rv_diagram.specs.declared.Triple.{Triple}
-use Rattle.rv_diagram.specs.Nodes.{Valuation, Diagrams, Grows}
-use Rattle.rv_terms.specs.declared.parted.Part.{Part}
-use Rattle.rv_terms.specs.declared.parted.Term.{Term}
-use Rattle.rv_terms.specs.Parts.{form_at, IsTerm, IsTermOf}
+use Rattle.rv_rows.specs.{declared.linear.Form.Form, Arithmetic.constant_form, Arithmetic.form_sum, Arithmetic.form_times}
+use Rattle.rv_diagram.specs.{declared.Triple.Triple, Nodes.Valuation, Nodes.Diagrams, Nodes.Grows}
+use Rattle.rv_terms.specs.{declared.parted.Part.Part, declared.parted.Term.Term, Parts.form_at, Parts.IsTerm, Parts.IsTermOf}
 use Rattle.rv_agreement.specs.Trees.{FlatTree, Node, Binary, Not, AtMostOne, Ticked}
-use Rattle.rv_flat.specs.declared.parts.FlatExpr.{FlatExpr}
+use Rattle.rv_flat.specs.{declared.parts.FlatExpr.FlatExpr, declared.parts.FlatMemory.FlatMemory, Facts.is_light, FlatInstants.system_of, Systems.flow_item}
+use Rattle.rv_flat.specs.{Tame.IsOver}
 use Rattle.rv_flat.specs.declared.parts.FlatForm.TheVariants as form
-use Rattle.rv_flat.specs.declared.parts.FlatMemory.{FlatMemory}
-use Rattle.rv_flat.specs.Facts.{is_light}
-use Rattle.rv_flat.specs.FlatInstants.{system_of}
-use Rattle.rv_flat.specs.Systems.{flow_item}
-use Rattle.rv_flat.specs.Tame.{IsOver}
 use Rattle.rv_control.proofs.Weighed.{light_weight}
 use Rattle.rv_symbolic.proofs.Extending.{extends_refl, grows_extends}
-use Rattle.rv_bits.specs.declared.around.Around.{Around}
-use Rattle.rv_bits.specs.Reads.{tree_in, trees_in}
+use Rattle.rv_bits.specs.{declared.around.Around.Around, Reads.tree_in, Reads.trees_in}
 use Rattle.rv_bits.proofs.Trees.{tree_constant, tree_memory, tree_ticked, tree_not, tree_most}
-use Rattle.rv_forms.specs.declared.over.Wholes.{Wholes}
-use Rattle.rv_forms.specs.Columns.{gives_whole, combined_form}
 use Rattle.rv_forms.specs.Terms.{columns_of, weights_of, weight_in, parts_at, IsWithin, GivesTerm, ReadsAs, AreWholes, IsReady}
-use Rattle.rv_forms.proofs.Bounds.{within_more}
-use Rattle.rv_forms.proofs.Flowing.{memory_low}
-use Rattle.rv_forms.proofs.Kept.{width_first}
-use Rattle.rv_forms.proofs.Shapes.{tree_flow, tree_input}
+use Rattle.rv_forms.specs.{declared.over.Wholes.Wholes, Columns.gives_whole, Columns.combined_form}
 use Rattle.rv_forms.proofs.Showing.{reads_constant, reads_none, no_tick, no_not, no_most, no_operator, reads_flow, reads_memory, reads_input}
+use Rattle.rv_forms.proofs.{Bounds.within_more, Flowing.memory_low, Kept.width_first, Shapes.tree_flow, Shapes.tree_input}
 use Rattle.rv_base.proofs.Lists.{within_got}
 
 -- a term of the columns of the flat system

@@ -4,8 +4,7 @@ use Rattle.rv_rows.specs.declared.linear.Form.{Form}
 use Rattle.rv_diagram.specs.Nodes.{Valuation, Diagrams}
 use Rattle.rv_terms.specs.declared.parted.Part.{Part}
 use Rattle.rv_proofs.specs.Systems.{System, IsSystem, IsSameValuation}
-use Rattle.rv_cases.specs.Conditions.{is_in, AreAnswers}
-use Rattle.rv_cases.specs.Questions.{AreUpdateAnswers}
+use Rattle.rv_cases.specs.{Conditions.is_in, Conditions.AreAnswers, Questions.AreUpdateAnswers}
 
 -- the references under which the parts hold, and their forms
 abbrev pub refs_in : List Part → List ℕ

@@ -4,16 +4,11 @@ use Rattle.rv_tree.specs.declared.tree.Op.{Op}
 use Rattle.rv_tree.specs.declared.tree.Op.TheVariants as op
 use Rattle.rv_types.specs.declared.typed.Kind.{Kind}
 use Rattle.rv_types.specs.declared.typed.Kind.TheVariants as kind
-use Rattle.rv_rows.specs.declared.linear.Form.{Form}
-use Rattle.rv_rows.specs.Arithmetic.{constant_form, column_form, form_sum, form_difference}
-use Rattle.rv_diagram.specs.declared.Triple.{Triple}
-use Rattle.rv_diagram.specs.Nodes.{Diagrams}
-use Rattle.rv_terms.specs.declared.parted.Term.{Term}
-use Rattle.rv_terms.specs.Parts.{IsTermOf}
-use Rattle.rv_agreement.specs.Trees.{kind_at, memory_kinds}
-use Rattle.rv_agreement.specs.Valuations.{rank}
-use Rattle.rv_flat.specs.declared.flat.Flat.{Flat}
-use Rattle.rv_flat.specs.FlatInstants.{system_of}
+use Rattle.rv_rows.specs.{declared.linear.Form.Form, Arithmetic.constant_form, Arithmetic.column_form, Arithmetic.form_sum, Arithmetic.form_difference}
+use Rattle.rv_diagram.specs.{declared.Triple.Triple, Nodes.Diagrams}
+use Rattle.rv_terms.specs.{declared.parted.Term.Term, Parts.IsTermOf}
+use Rattle.rv_agreement.specs.{Trees.kind_at, Trees.memory_kinds, Valuations.rank}
+use Rattle.rv_flat.specs.{declared.flat.Flat.Flat, FlatInstants.system_of}
 use Rattle.rv_symbolic.specs.Growing.{Extends}
 use Rattle.rv_forms.specs.Terms.{parts_at, IsAfterAs}
 

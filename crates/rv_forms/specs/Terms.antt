@@ -1,28 +1,16 @@
 -- What terms show of the integers of a flat system at each valuation.
-use Rattle.std.specs.Prelude.{◌≡◌, ℕ, ◌<◌, ◌≤◌, max, true, List, [], length, Option, Some, slice_index_or}
-use Rattle.std.specs.Prelude.{None as Nothing}
+use Rattle.std.specs.Prelude.{◌≡◌, ℕ, ◌<◌, ◌≤◌, max, true, List, [], length, Option, Some, slice_index_or, None as Nothing}
 use Rattle.rv_base.specs.Limits.{heaviest}
 use Rattle.rv_types.specs.declared.typed.Kind.TheVariants as kind
-use Rattle.rv_rows.specs.declared.linear.Form.{Form}
-use Rattle.rv_rows.specs.Forms.{FormWithin}
-use Rattle.rv_diagram.specs.declared.Triple.{Triple}
-use Rattle.rv_diagram.specs.Nodes.{Valuation, Diagrams}
-use Rattle.rv_terms.specs.declared.parted.Part.{Part}
-use Rattle.rv_terms.specs.declared.parted.Term.{Term}
-use Rattle.rv_terms.specs.Parts.{form_at, IsTerm, IsTermOf, AreFilled}
-use Rattle.rv_agreement.specs.Agreement.{Fits}
-use Rattle.rv_agreement.specs.Evaluation.{held, nth}
-use Rattle.rv_agreement.specs.Trees.{FlatTree, kind_at, memory_kinds}
+use Rattle.rv_rows.specs.{declared.linear.Form.Form, Forms.FormWithin}
+use Rattle.rv_diagram.specs.{declared.Triple.Triple, Nodes.Valuation, Nodes.Diagrams}
+use Rattle.rv_terms.specs.{declared.parted.Part.Part, declared.parted.Term.Term, Parts.form_at, Parts.IsTerm, Parts.IsTermOf, Parts.AreFilled}
 use Rattle.rv_agreement.specs.Valuations.{Reading, Linear, form_of, width, reads_at, read, updated, IsSymbolic}
-use Rattle.rv_flat.specs.declared.flat.Flat.{Flat}
-use Rattle.rv_flat.specs.Facts.{flat_weight, flow_weights}
-use Rattle.rv_flat.specs.FlatInstants.{system_of}
-use Rattle.rv_flat.specs.Inlined.{table_of}
-use Rattle.rv_control.specs.Control.{control_of}
-use Rattle.rv_control.specs.Named.{named}
+use Rattle.rv_agreement.specs.{Agreement.Fits, Evaluation.held, Evaluation.nth, Trees.FlatTree, Trees.kind_at, Trees.memory_kinds}
+use Rattle.rv_flat.specs.{declared.flat.Flat.Flat, Facts.flat_weight, Facts.flow_weights, FlatInstants.system_of, Inlined.table_of}
+use Rattle.rv_control.specs.{Control.control_of, Named.named}
 use Rattle.rv_symbolic.specs.Growing.{Extends}
-use Rattle.rv_bits.specs.declared.around.Around.{Around}
-use Rattle.rv_bits.specs.Shown.{found, is_there_at, IsAround, AreAfter}
+use Rattle.rv_bits.specs.{declared.around.Around.Around, Shown.found, Shown.is_there_at, Shown.IsAround, Shown.AreAfter}
 use Rattle.rv_forms.specs.declared.over.Wholes.{Wholes}
 
 -- how many columns the forms of a flat system have

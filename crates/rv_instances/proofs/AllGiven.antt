@@ -1,28 +1,17 @@
 -- Of all flows it is told what gives them their values.
 use Rattle.std.proofs.Common.{◌≡◌, ℕ, ◌+◌, ◌<◌, inl, inr, List, [], ◌∷◌, map, length, get_or, Option, Some, sym, ◌∙◌, ap, subst, arith, None as Nothing}
+use Rattle.std.proofs.{lemmas.Bool.cases_eq, lemmas.List.append_assoc}
 use Rattle.std.specs.List.{Contains}
-use Rattle.std.proofs.lemmas.Bool.{cases_eq}
-use Rattle.std.proofs.lemmas.List.{append_assoc}
-use Rattle.rv_tree.specs.Tree.{Tree, NodeTree, ProgramTree}
-use Rattle.rv_tree.specs.Places.{Identifier, site_of}
+use Rattle.rv_tree.specs.{Tree.Tree, Tree.NodeTree, Tree.ProgramTree, Places.Identifier, Places.site_of}
 use Rattle.rv_types.specs.Instances.{CallTree, calls, Right, IsRight, IsArgument, callee, node_of, main_instance, is_main, is_callee}
 use Rattle.rv_types.specs.Needs.{Giver, Gives, by_equation, by_call, IsBefore, given as by_input}
-use Rattle.rv_instances.specs.declared.answer.Instance.{Instance as Numbered}
-use Rattle.rv_instances.specs.declared.givers.Giver.{Giver as Told}
-use Rattle.rv_instances.specs.declared.givers.Giver.TheVariants.{Input}
-use Rattle.rv_instances.specs.Expanded.{IsExpanded}
-use Rattle.rv_instances.specs.Flowing.{AreFlowPlaces, place_at}
-use Rattle.rv_instances.specs.Givers.{AreGivers, StandsFor}
 use Rattle.rv_instances.specs.Giving.{AreGiven, IsGiven, first_of, number_at}
 use Rattle.rv_instances.specs.Layouts.{AreCallees, callee_or_main, node_at, all_places}
-use Rattle.rv_instances.proofs.BaseClocks.{callee_number}
+use Rattle.rv_instances.specs.{declared.answer.Instance.Instance as Numbered, declared.givers.Giver.Giver as Told, declared.givers.Giver.TheVariants.Input}
+use Rattle.rv_instances.specs.{Expanded.IsExpanded, Flowing.AreFlowPlaces, Flowing.place_at, Givers.AreGivers, Givers.StandsFor}
 use Rattle.rv_instances.proofs.ExpandedLaws.{not_itself, number_at as instance_number, main_at, node_in, node_is}
-use Rattle.rv_instances.proofs.FlowPlaces.{are_flow_places}
-use Rattle.rv_instances.proofs.GivenFlows.{site_placed, input_placed}
-use Rattle.rv_instances.proofs.GiverLaws.{flow_giver, flow_site, one_giver}
-use Rattle.rv_instances.proofs.Known.{map_at}
-use Rattle.rv_instances.proofs.LaidFlows.{inputs_among}
-use Rattle.rv_instances.proofs.Lists.{length_map, nat_split}
+use Rattle.rv_instances.proofs.{BaseClocks.callee_number, FlowPlaces.are_flow_places, GivenFlows.site_placed, GivenFlows.input_placed, GiverLaws.flow_giver}
+use Rattle.rv_instances.proofs.{GiverLaws.flow_site, GiverLaws.one_giver, Known.map_at, LaidFlows.inputs_among, Lists.length_map, Lists.nat_split}
 
 module _ (p : ProgramTree) (main : Identifier) (instances : List Numbered) (known : IsExpanded p main instances) where
   pub flow_places : AreFlowPlaces p main (all_places p instances)

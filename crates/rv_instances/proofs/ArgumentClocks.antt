@@ -2,18 +2,13 @@
 use Rattle.std.proofs.Common.{◌≡◌, ℕ, [], ◌++◌}
 use Rattle.std.specs.List.{Contains, flat_map}
 use Rattle.rv_tree.specs.Tree.{Tree, NodeTree, ProgramTree}
-use Rattle.rv_types.specs.declared.typed.Clock.{Clock}
-use Rattle.rv_types.specs.declared.typed.Clock.TheVariants.{Base}
-use Rattle.rv_types.specs.declared.fault.Pace.{Pace}
-use Rattle.rv_types.specs.declared.fault.Pace.TheVariants.{Free, At, Mute, Differ}
-use Rattle.rv_types.specs.Clocks.{clock_at, pace, pace_of_all}
 use Rattle.rv_types.specs.Names.{is_declared, node_names, is_value, names_in_node, name_faults, repeated, decl_names, decls, lefts, undefined_unless, flow_use}
 use Rattle.rv_types.specs.Names.{clock_use, equation_uses, assertion_uses, node_uses}
-use Rattle.rv_types.specs.Instances.{CallTree, calls, taken, clock_of_args}
+use Rattle.rv_types.specs.{declared.typed.Clock.Clock, declared.typed.Clock.TheVariants.Base, declared.fault.Pace.Pace, declared.fault.Pace.TheVariants.Free}
+use Rattle.rv_types.specs.{declared.fault.Pace.TheVariants.At, declared.fault.Pace.TheVariants.Mute, declared.fault.Pace.TheVariants.Differ, Clocks.clock_at}
+use Rattle.rv_types.specs.{Clocks.pace, Clocks.pace_of_all, Instances.CallTree, Instances.calls, Instances.taken, Instances.clock_of_args}
 use Rattle.rv_instances.specs.Flowing.{IsKnownClock, IsKnownPace}
-use Rattle.rv_instances.proofs.Known.{each_nil, parts_named}
-use Rattle.rv_instances.proofs.ClockFlows.{all_known, pace_known, clocks_known}
-use Rattle.rv_instances.proofs.CallsInside.{call_known}
+use Rattle.rv_instances.proofs.{Known.each_nil, Known.parts_named, ClockFlows.all_known, ClockFlows.pace_known, ClockFlows.clocks_known, CallsInside.call_known}
 use Rattle.rv_types.proofs.RightNames.{both_empty}
 
 -- what a known pace takes of a known clock

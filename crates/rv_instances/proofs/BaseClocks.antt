@@ -1,25 +1,17 @@
 -- The numbers of the flows of base clocks.
 use Rattle.std.proofs.Common.{◌≡◌, ℕ, ◌+◌, ◌<◌, ◌≤◌, ◌^◌, ◌⊎◌, inl, inr, List, [], ◌∷◌, ◌++◌, length, get_or, replicate, set, zero, suc, Option, refl, sym, ◌∙◌}
 use Rattle.std.proofs.Common.{ap, subst, arith, None as Nothing, unwrap_or}
+use Rattle.std.proofs.{lemmas.List.get_or-set_other, lemmas.List.get_or-set_same, lemmas.Bool.cases_eq}
 use Rattle.std.specs.List.{Contains}
-use Rattle.std.proofs.lemmas.List.{get_or-set_other, get_or-set_same}
-use Rattle.std.proofs.lemmas.Bool.{cases_eq}
-use Rattle.rv_tree.specs.Bounded.{most}
-use Rattle.rv_tree.specs.Tree.{NodeTree, ProgramTree}
-use Rattle.rv_tree.specs.Places.{Identifier, flows}
-use Rattle.rv_types.specs.declared.typed.Clock.{Clock}
-use Rattle.rv_types.specs.declared.typed.Clock.TheVariants.{Base, On}
+use Rattle.rv_tree.specs.{Bounded.most, Tree.NodeTree, Tree.ProgramTree, Places.Identifier, Places.flows}
 use Rattle.rv_types.specs.Instances.{CallTree, calls, Instance, absolute, clock_of_args, callee, IsInstance, is_main, is_callee}
-use Rattle.rv_instances.specs.declared.answer.Instance.{Instance as Numbered}
-use Rattle.rv_instances.specs.AllInstances.{numbered}
-use Rattle.rv_instances.specs.Expanded.{IsExpanded, no_instance}
-use Rattle.rv_instances.specs.Flowing.{IsKnownClock, flow_count}
+use Rattle.rv_types.specs.{declared.typed.Clock.Clock, declared.typed.Clock.TheVariants.Base, declared.typed.Clock.TheVariants.On}
 use Rattle.rv_instances.specs.Layouts.{path_at, flows_before, number_of, IsWithin, IsClockPlaced, IsBaseOf, AreCallees, callee_or_main, all_places}
-use Rattle.rv_instances.proofs.ArgumentClocks.{arguments_clock_known}
-use Rattle.rv_instances.proofs.Chained.{caller_before}
+use Rattle.rv_instances.specs.{declared.answer.Instance.Instance as Numbered, AllInstances.numbered, Expanded.IsExpanded, Expanded.no_instance}
+use Rattle.rv_instances.specs.{Flowing.IsKnownClock, Flowing.flow_count}
 use Rattle.rv_instances.proofs.ExpandedLaws.{are_paths, instance_at, number_at, node_in, node_is, node_few, path_is, same, same_at}
 use Rattle.rv_instances.proofs.FlowPlaces.{not_empty, snoc_parts, snoc_view}
-use Rattle.rv_instances.proofs.LaidFlows.{few_before, flow_placed}
+use Rattle.rv_instances.proofs.{ArgumentClocks.arguments_clock_known, Chained.caller_before, LaidFlows.few_before, LaidFlows.flow_placed}
 
 module _ (p : ProgramTree) (main : Identifier) (instances : List Numbered) (known : IsExpanded p main instances) where
   -- how many flows an instance has

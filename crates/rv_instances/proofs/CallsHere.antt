@@ -1,19 +1,13 @@
 -- The calls of instances as they are listed.
 use Rattle.std.proofs.Common.{◌≡◌, ℕ, ◌<◌, List, map, length, get_or, slice_get, Some, sym, ◌∙◌, ap, subst}
-use Rattle.std.specs.List.{Contains}
-use Rattle.rv_tree.specs.Tree.{NodeTree, ProgramTree}
-use Rattle.rv_tree.specs.Places.{Identifier}
-use Rattle.rv_types.specs.Instances.{CallTree, calls, Instance, clock_of_args, IsInstance}
-use Rattle.rv_instances.specs.declared.answer.Instance.{Instance as Numbered}
-use Rattle.rv_instances.specs.declared.timed.ClockedCall.{ClockedCall}
-use Rattle.rv_instances.specs.declared.layout.Laid.{Laid}
-use Rattle.rv_instances.specs.AllInstances.{numbered}
-use Rattle.rv_instances.specs.Expanded.{IsExpanded, IsCallOf, ToldCall, told, calls_told, no_instance}
-use Rattle.rv_instances.specs.Layouts.{node_at, laid_at, all_laid}
-use Rattle.rv_instances.proofs.ExpandedLaws.{instance_at, node_is}
-use Rattle.rv_instances.proofs.LaidFlows.{laid_is}
-use Rattle.rv_instances.proofs.ToldCalls.{call_listed, listed_call}
 use Rattle.std.proofs.lemmas.Option.{get_or_from_slice_get}
+use Rattle.std.specs.List.{Contains}
+use Rattle.rv_tree.specs.{Tree.NodeTree, Tree.ProgramTree, Places.Identifier}
+use Rattle.rv_types.specs.Instances.{CallTree, calls, Instance, clock_of_args, IsInstance}
+use Rattle.rv_instances.specs.Expanded.{IsExpanded, IsCallOf, ToldCall, told, calls_told, no_instance}
+use Rattle.rv_instances.specs.{declared.answer.Instance.Instance as Numbered, declared.timed.ClockedCall.ClockedCall, declared.layout.Laid.Laid}
+use Rattle.rv_instances.specs.{AllInstances.numbered, Layouts.node_at, Layouts.laid_at, Layouts.all_laid}
+use Rattle.rv_instances.proofs.{ExpandedLaws.instance_at, ExpandedLaws.node_is, LaidFlows.laid_is, ToldCalls.call_listed, ToldCalls.listed_call}
 
 module _ (p : ProgramTree) (main : Identifier) (instances : List Numbered) (known : IsExpanded p main instances) (m : ℕ) (lt : m < length instances)
     (listed : List ClockedCall) (are : map told listed ≡ calls_told (node_at p instances m)) where

@@ -1,7 +1,7 @@
 -- What is known of the arguments of the calls of a node whose names are known.
 use Rattle.std.proofs.Common.{◌≡◌, ℕ, inl, inr, Bool, List, [], ◌∷◌, ◌++◌, refl, sym, subst, arith, Option, unwrap_or}
-use Rattle.std.specs.List.{Contains, flat_map}
 use Rattle.std.proofs.lemmas.List.Elements.{Contains-append_left, Contains-append_right, Contains-append_cases}
+use Rattle.std.specs.List.{Contains, flat_map}
 use Rattle.rv_tree.specs.Tree.{Tree, Node, Form, True, False, Number, Named, Not, Minus, Pre, Current, When, Binary, If, AtMostOne, Call, Trees, None, More}
 use Rattle.rv_tree.specs.Tree.{EquationTree, AssertionTree, NodeTree, ProgramTree}
 use Rattle.rv_tree.specs.Places.{Identifier, is_flow}
@@ -9,9 +9,7 @@ use Rattle.rv_types.specs.Parts.{faults_of_all}
 use Rattle.rv_types.specs.Names.{is_declared, node_names, is_value, node_uses, equation_uses, assertion_uses, name_faults, use_of, uses, own_uses}
 use Rattle.rv_types.specs.Instances.{CallTree, calls, calls_in, form_calls, calls_in_all, calls_in_equations, calls_in_assertions, IsArgument, head, tail}
 use Rattle.rv_instances.proofs.Known.{each_nil, uses_of}
-use Rattle.rv_types.proofs.Members.{cons_cases, nothing_in}
-use Rattle.rv_types.proofs.RightNames.{both_empty}
-use Rattle.rv_types.proofs.TypedParts.{right_calls}
+use Rattle.rv_types.proofs.{Members.cons_cases, Members.nothing_in, RightNames.both_empty, TypedParts.right_calls}
 
 -- The names in the arguments of a call of an expression of which every name is known.
 module _ (values clocks nodes : Identifier → Bool) where

@@ -1,19 +1,13 @@
 -- The chain of instances from main to the one that a walk over all has come to, and which call gives each.
 use Rattle.std.proofs.Common.{◌≡◌, ℕ, zero, suc, ◌+◌, ◌<◌, ◌≤◌, ◌⊎◌, inl, inr, true, false, ◌&&◌, cond, nat_eq, List, [], ◌∷◌, ◌++◌, length, get_or, take, Some}
 use Rattle.std.proofs.Common.{refl, sym, ◌∙◌, ap, subst, arith, length-append}
-use Rattle.std.proofs.Math.ListN.{get_or-append}
-use Rattle.std.proofs.Math.Seq.{get_or-append_seam, take-append_seam, take-length}
-use Rattle.std.proofs.lemmas.List.{append-nil, take-append-le, length-take-le, get_or-take}
-use Rattle.std.proofs.lemmas.Bool.{cases_eq}
-use Rattle.std.proofs.lemmas.Bool.Decides.{eqb_tells}
+use Rattle.std.proofs.{Math.ListN.get_or-append, Math.Seq.get_or-append_seam, Math.Seq.take-append_seam, Math.Seq.take-length, lemmas.List.append-nil}
+use Rattle.std.proofs.{lemmas.List.take-append-le, lemmas.List.length-take-le, lemmas.List.get_or-take, lemmas.Bool.cases_eq, lemmas.Bool.Decides.eqb_tells}
 use Rattle.rv_tree.specs.Places.{Sites}
 use Rattle.rv_types.specs.Needs.{IsBefore}
-use Rattle.rv_instances.specs.declared.answer.Instance.{Instance as Numbered}
-use Rattle.rv_instances.specs.Callees.{callee_in}
-use Rattle.rv_instances.specs.Layouts.{path_at, ArePaths, AreCallees}
-use Rattle.rv_instances.proofs.Lists.{nat_split}
-use Rattle.rv_instances.proofs.ExpandedLaws.{not_itself, not_both, before_longer}
-use Rattle.rv_instances.proofs.FlowPlaces.{not_empty, snoc_parts, snoc_view}
+use Rattle.rv_instances.specs.{declared.answer.Instance.Instance as Numbered, Callees.callee_in, Layouts.path_at, Layouts.ArePaths, Layouts.AreCallees}
+use Rattle.rv_instances.proofs.{Lists.nat_split, ExpandedLaws.not_itself, ExpandedLaws.not_both, ExpandedLaws.before_longer, FlowPlaces.not_empty}
+use Rattle.rv_instances.proofs.{FlowPlaces.snoc_parts, FlowPlaces.snoc_view}
 
 -- what stands between a place and one that is longer by a site begins with the place
 begins : (q r : Sites) (s : ℕ) → IsBefore q r → IsBefore r (q ++ s ∷ []) → (rest : Sites) × (r ≡ q ++ rest)

@@ -1,24 +1,19 @@
 -- The clocks of flows and expressions stand for no more than the flows of their node.
 use Rattle.std.proofs.Common.{ℕ, ◌+◌, ◌<◌, ◌≤◌, ◌^◌, inl, inr, Bool, true, false, cond, List, [], ◌∷◌, ◌++◌, map, length, get_or, sym, subst, arith, Option}
 use Rattle.std.proofs.Common.{Some, None as Nothing}
+use Rattle.std.proofs.{lemmas.List.get_or_past, lemmas.List.Elements.Contains-get_or, lemmas.List.Elements.Contains-append_cases}
 use Rattle.std.specs.List.{Contains}
-use Rattle.std.proofs.lemmas.List.{get_or_past}
-use Rattle.std.proofs.lemmas.List.Elements.{Contains-get_or, Contains-append_cases}
-use Rattle.rv_tree.specs.declared.tree.Name.{Name}
-use Rattle.rv_tree.specs.declared.tree.Decl.{Decl}
-use Rattle.rv_tree.specs.declared.tree.Op.{Op}
-use Rattle.rv_tree.specs.declared.tree.Op.TheVariants as op
 use Rattle.rv_tree.specs.Tree.{Tree, Node, Form, True, False, Number, Named, Not, Minus, Pre, Current, When, Binary, If, AtMostOne, Call, Trees, None, More}
 use Rattle.rv_tree.specs.Tree.{NodeTree}
 use Rattle.rv_tree.specs.Places.{Identifier, flows, site_of, is_flow, is_same, index_of}
-use Rattle.rv_types.specs.declared.typed.Clock.{Clock}
+use Rattle.rv_tree.specs.{declared.tree.Name.Name, declared.tree.Decl.Decl, declared.tree.Op.Op}
+use Rattle.rv_tree.specs.declared.tree.Op.TheVariants as op
 use Rattle.rv_types.specs.declared.typed.Clock.TheVariants.{Base, On}
-use Rattle.rv_types.specs.declared.fault.Pace.{Pace}
 use Rattle.rv_types.specs.declared.fault.Pace.TheVariants.{Free, At, Mute, Differ}
 use Rattle.rv_types.specs.Clocks.{base_clock, declared_clock, flow_clocks, seen, meet, grounded, same_clock, clock_at, binary_pace, when_pace, current_pace}
 use Rattle.rv_types.specs.Clocks.{pace, form_pace, pace_of_all}
-use Rattle.rv_types.specs.Instances.{taken}
 use Rattle.rv_types.specs.ToldPaces.{first_pace, operator_told, told_pace, form_told, told_pace_of_all}
+use Rattle.rv_types.specs.{declared.typed.Clock.Clock, declared.fault.Pace.Pace, Instances.taken}
 use Rattle.rv_instances.specs.Layouts.{IsWithin}
 use Rattle.rv_instances.proofs.Lists.{nat_split}
 use Rattle.rv_base.proofs.Lists.{from_map}

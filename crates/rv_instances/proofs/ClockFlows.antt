@@ -1,30 +1,21 @@
 -- The clocks of flows and expressions are flows of their node.
 use Rattle.std.proofs.Common.{◌≡◌, ℕ, ◌<◌, inl, inr, Bool, true, false, cond, List, [], ◌++◌, map, length, get_or, refl, sym, subst, Option, Some}
 use Rattle.std.proofs.Common.{None as Nothing}
+use Rattle.std.proofs.{lemmas.List.get_or_past, lemmas.List.Elements.Contains-get_or, lemmas.List.Elements.Contains-append_cases}
 use Rattle.std.specs.List.{Contains, flat_map}
-use Rattle.std.proofs.lemmas.List.{get_or_past}
-use Rattle.std.proofs.lemmas.List.Elements.{Contains-get_or, Contains-append_cases}
-use Rattle.rv_tree.specs.declared.tree.Name.{Name}
-use Rattle.rv_tree.specs.declared.tree.Decl.{Decl}
-use Rattle.rv_types.specs.declared.fault.NameFault.{NameFault}
-use Rattle.rv_tree.specs.declared.tree.Op.{Op}
-use Rattle.rv_tree.specs.declared.tree.Op.TheVariants as op
-use Rattle.rv_tree.specs.Tree.{Tree, Node, Form, True, False, Number, Named, Not, Minus, Pre, Current, When, Binary, If, AtMostOne, Call, Trees, None, More}
-use Rattle.rv_tree.specs.Tree.{NodeTree}
-use Rattle.rv_tree.specs.Places.{Identifier, flows, site_of, is_flow}
-use Rattle.rv_types.specs.declared.typed.Clock.{Clock}
+use Rattle.rv_tree.specs.{declared.tree.Name.Name, declared.tree.Decl.Decl, declared.tree.Op.Op, Tree.Tree, Tree.Node, Tree.Form, Tree.True, Tree.False}
+use Rattle.rv_tree.specs.{Tree.Number, Tree.Named, Tree.Not, Tree.Minus, Tree.Pre, Tree.Current, Tree.When, Tree.Binary, Tree.If, Tree.AtMostOne, Tree.Call}
+use Rattle.rv_tree.specs.{Tree.Trees, Tree.None, Tree.More, Tree.NodeTree, Places.Identifier, Places.flows, Places.site_of, Places.is_flow}
 use Rattle.rv_types.specs.declared.typed.Clock.TheVariants.{Base, On}
-use Rattle.rv_types.specs.declared.fault.Pace.{Pace}
 use Rattle.rv_types.specs.declared.fault.Pace.TheVariants.{Free, At, Mute, Differ}
 use Rattle.rv_types.specs.Clocks.{base_clock, declared_clock, flow_clocks, seen, meet, grounded, same_clock, clock_at, binary_pace, when_pace, current_pace}
 use Rattle.rv_types.specs.Clocks.{pace, form_pace, pace_of_all}
 use Rattle.rv_types.specs.Names.{clock_use, uses, own_uses, use_of, use_at}
-use Rattle.rv_types.specs.Parts.{faults_of_all}
+use Rattle.rv_types.specs.{declared.fault.NameFault.NameFault, declared.typed.Clock.Clock, declared.fault.Pace.Pace, Parts.faults_of_all}
+use Rattle.rv_tree.specs.declared.tree.Op.TheVariants as op
 use Rattle.rv_instances.specs.Flowing.{IsKnownClock, IsKnownPace}
-use Rattle.rv_instances.proofs.Lists.{nat_split}
-use Rattle.rv_instances.proofs.Known.{each_nil}
-use Rattle.rv_types.proofs.Members.{index_there}
-use Rattle.rv_types.proofs.RightNames.{both_empty}
+use Rattle.rv_instances.proofs.{Lists.nat_split, Known.each_nil}
+use Rattle.rv_types.proofs.{Members.index_there, RightNames.both_empty}
 use Rattle.rv_base.proofs.Lists.{from_map}
 
 seen_known : (n : NodeTree) (p : Pace) → IsKnownPace n p → IsKnownPace n (seen p)

@@ -1,25 +1,14 @@
 -- What holds of a program of which all instances are known.
 use Rattle.std.proofs.Common.{◌≡◌, ℕ, ◌<◌, ◌≤◌, inl, inr, true, List, [], ◌∷◌, ◌++◌, length, get_or, refl, sym, ◌∙◌, ap, subst, arith}
+use Rattle.std.proofs.{lemmas.List.get_or_default, lemmas.List.Elements.Contains-get_or, lemmas.Bool.cases_eq}
 use Rattle.std.specs.List.{Contains}
-use Rattle.std.proofs.lemmas.List.{get_or_default}
-use Rattle.std.proofs.lemmas.List.Elements.{Contains-get_or}
-use Rattle.std.proofs.lemmas.Bool.{cases_eq}
-use Rattle.rv_tree.specs.Tree.{NodeTree, ProgramTree}
-use Rattle.rv_tree.specs.Bounded.{most}
-use Rattle.rv_tree.specs.Places.{Identifier, Sites, flows, is_among, index_of}
-use Rattle.rv_types.specs.Names.{name_faults}
-use Rattle.rv_instances.specs.declared.answer.Instance.{Instance as Numbered}
+use Rattle.rv_tree.specs.{Tree.NodeTree, Tree.ProgramTree, Bounded.most, Places.Identifier, Places.Sites, Places.flows, Places.is_among, Places.index_of}
 use Rattle.rv_types.specs.Instances.{calls, Instance, no_node, callee, main_instance, IsInstance, is_main, is_callee}
-use Rattle.rv_types.specs.Needs.{IsBefore}
-use Rattle.rv_instances.specs.AllInstances.{names_of, numbered}
-use Rattle.rv_types.specs.WellFormed.{AreSited}
-use Rattle.rv_instances.specs.Expanded.{IsExpanded, no_instance}
-use Rattle.rv_instances.specs.Flowing.{AreOfNodes}
-use Rattle.rv_instances.specs.Layouts.{node_at, path_at, ArePaths}
-use Rattle.rv_instances.proofs.Lists.{nat_split}
-use Rattle.rv_instances.proofs.Known.{number_of_node}
-use Rattle.rv_instances.proofs.Flowing.{instance_node}
+use Rattle.rv_types.specs.{Names.name_faults, Needs.IsBefore, WellFormed.AreSited}
+use Rattle.rv_instances.specs.{declared.answer.Instance.Instance as Numbered, AllInstances.names_of, AllInstances.numbered, Expanded.IsExpanded}
+use Rattle.rv_instances.specs.{Expanded.no_instance, Flowing.AreOfNodes, Layouts.node_at, Layouts.path_at, Layouts.ArePaths}
 use Rattle.rv_instances.proofs.FlowPlaces.{not_empty, snoc_parts, numbered_node}
+use Rattle.rv_instances.proofs.{Lists.nat_split, Known.number_of_node, Flowing.instance_node}
 use Rattle.rv_types.proofs.CallSites.{one_call}
 
 -- no place stands before itself

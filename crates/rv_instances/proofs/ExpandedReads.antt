@@ -1,18 +1,12 @@
 -- What the parts of an expanded program are, by the numbers of instances.
 use Rattle.std.proofs.Common.{◌≡◌, ℕ, ◌<◌, List, [], map, length, get_or, sym, ◌∙◌, ap, arith, slice_get, Some, refl, ◌∷◌}
+use Rattle.std.proofs.lemmas.Option.{get_or_from_slice_get}
 use Rattle.rv_tree.specs.declared.tree.Node as declared
 use Rattle.rv_tree.specs.Tree.{node_tree, program_tree}
-use Rattle.rv_types.specs.declared.reading_clocks.NodeClocks.{NodeClocks}
-use Rattle.rv_types.specs.Instances.{no_node, name_at}
-use Rattle.rv_instances.specs.declared.answer.Instance.{Instance as Numbered}
-use Rattle.rv_instances.specs.declared.timed.ClockedCall.{ClockedCall}
-use Rattle.rv_instances.specs.declared.expanded.Expanded.{Expanded}
-use Rattle.rv_instances.specs.Expanded.{IsKnown, ToldCall, told, calls_told, no_instance}
-use Rattle.rv_instances.specs.Layouts.{node_at}
-use Rattle.rv_instances.proofs.Lists.{length_map}
-use Rattle.rv_instances.proofs.Known.{map_at}
-use Rattle.rv_instances.proofs.ExpandedLaws.{of_nodes}
-use Rattle.std.proofs.lemmas.Option.{get_or_from_slice_get}
+use Rattle.rv_types.specs.{declared.reading_clocks.NodeClocks.NodeClocks, Instances.no_node, Instances.name_at}
+use Rattle.rv_instances.specs.{declared.answer.Instance.Instance as Numbered, declared.timed.ClockedCall.ClockedCall, declared.expanded.Expanded.Expanded}
+use Rattle.rv_instances.specs.{Expanded.IsKnown, Expanded.ToldCall, Expanded.told, Expanded.calls_told, Expanded.no_instance, Layouts.node_at}
+use Rattle.rv_instances.proofs.{Lists.length_map, Known.map_at, ExpandedLaws.of_nodes}
 
 module _ (x : Expanded) (known : IsKnown x) (m : ℕ) (v : Numbered) (lt : m < length x.instances.now) (is : slice_get x.instances.now m ≡ Some v) where
   in_tree : v.node < length (program_tree x.program.now).nodes

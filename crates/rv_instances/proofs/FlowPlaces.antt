@@ -1,24 +1,16 @@
 -- The numbered flows of all instances have the places of all flows, in order.
 use Rattle.std.proofs.Common.{◌≡◌, ℕ, ◌<◌, ◌≤◌, ◌⊎◌, inl, inr, true, List, [], ◌∷◌, ◌++◌, length, get_or, refl, sym, ◌∙◌, ap, subst, arith}
+use Rattle.std.proofs.{lemmas.List.append_assoc, lemmas.List.get_or_default, lemmas.List.Elements.Contains-get_or}
 use Rattle.std.specs.List.{Contains}
-use Rattle.std.proofs.lemmas.List.{append_assoc, get_or_default}
-use Rattle.std.proofs.lemmas.List.Elements.{Contains-get_or}
-use Rattle.rv_tree.specs.Tree.{NodeTree, ProgramTree}
-use Rattle.rv_tree.specs.Places.{Identifier, Sites, flows, site_of, is_among, index_of}
-use Rattle.rv_types.specs.Names.{name_faults}
-use Rattle.rv_instances.specs.declared.answer.Instance.{Instance as Numbered}
-use Rattle.rv_instances.specs.declared.flows.Flow.{Flow}
+use Rattle.rv_tree.specs.{Tree.NodeTree, Tree.ProgramTree, Places.Identifier, Places.Sites, Places.flows, Places.site_of, Places.is_among, Places.index_of}
 use Rattle.rv_types.specs.Instances.{CallTree, calls, Instance, no_node, node_of, IsInstance, is_main, is_callee, IsFlow}
-use Rattle.rv_types.specs.Needs.{IsBefore}
+use Rattle.rv_types.specs.{Names.name_faults, Needs.IsBefore, WellFormed.AreSited}
 use Rattle.rv_instances.specs.AllInstances.{names_of, AreInstances, numbered}
-use Rattle.rv_types.specs.WellFormed.{AreSited}
 use Rattle.rv_instances.specs.Flowing.{flow_sites, flow_places, place_at, flow_count, all_flows, AreFlowPlaces}
-use Rattle.rv_instances.proofs.Lists.{length_map, beside}
-use Rattle.rv_instances.proofs.Known.{map_at, number_of_node}
-use Rattle.rv_instances.proofs.Flowing.{site_itself, instance_node}
+use Rattle.rv_instances.specs.{declared.answer.Instance.Instance as Numbered, declared.flows.Flow.Flow}
 use Rattle.rv_instances.proofs.FlowTable.{in_flows, of_flows, flows_rise, IsEarlier}
-use Rattle.rv_types.proofs.CallSites.{one_call}
-use Rattle.rv_types.proofs.Members.{in_map}
+use Rattle.rv_instances.proofs.{Lists.length_map, Lists.beside, Known.map_at, Known.number_of_node, Flowing.site_itself, Flowing.instance_node}
+use Rattle.rv_types.proofs.{CallSites.one_call, Members.in_map}
 
 abbrev pub tail_of : List ℕ → List ℕ
 tail_of [] = []

@@ -1,22 +1,16 @@
 -- The flows of all instances, by numbers.
 use Rattle.std.proofs.Common.{◌≡◌, ℕ, zero, suc, ◌+◌, ◌<◌, ◌≤◌, ◌⊎◌, inl, inr, List, [], ◌∷◌, ◌++◌, length, get_or, refl, sym, ◌∙◌, ap, subst, arith, slice_get}
 use Rattle.std.proofs.Common.{Some}
-use Rattle.std.specs.List.{Contains}
 use Rattle.std.proofs.lemmas.List.Elements.{Contains-get_or, Contains-append_left, Contains-append_right, Contains-append_cases}
-use Rattle.std.proofs.lemmas.Bool.{cases_eq}
+use Rattle.std.proofs.{lemmas.Bool.cases_eq, lemmas.Option.get_or_from_slice_get}
+use Rattle.std.specs.List.{Contains}
 use Rattle.rv_tree.specs.declared.tree.Node as declared
-use Rattle.rv_tree.specs.declared.tree.Program.{Program}
-use Rattle.rv_tree.specs.Bounded.{IsBounded, most}
-use Rattle.rv_tree.specs.Places.{flows}
-use Rattle.rv_tree.specs.Tree.{NodeTree, node_tree, program_tree}
-use Rattle.rv_instances.specs.declared.answer.Instance.{Instance as Numbered}
-use Rattle.rv_types.specs.Instances.{no_node}
-use Rattle.rv_instances.specs.declared.flows.Flow.{Flow}
+use Rattle.rv_tree.specs.{declared.tree.Program.Program, Bounded.IsBounded, Bounded.most, Places.flows, Tree.NodeTree, Tree.node_tree, Tree.program_tree}
 use Rattle.rv_instances.specs.Flowing.{flows_below, flows_to, flow_count, AreOfNodes}
-use Rattle.rv_instances.proofs.Lists.{length_map}
-use Rattle.rv_instances.proofs.Known.{map_at}
+use Rattle.rv_instances.specs.{declared.answer.Instance.Instance as Numbered, declared.flows.Flow.Flow}
+use Rattle.rv_types.specs.Instances.{no_node}
+use Rattle.rv_instances.proofs.{Lists.length_map, Known.map_at}
 use Rattle.rv_types.proofs.Members.{cons_cases, in_map, nothing_in}
-use Rattle.std.proofs.lemmas.Option.{get_or_from_slice_get}
 
 pub to_more : (count : ℕ → ℕ) (now new : List Flow) (k c : ℕ) → now ≡ flows_to count k → new ≡ now ++ flows_below k c → c ≡ count k
     → new ≡ flows_to count (k + 1)

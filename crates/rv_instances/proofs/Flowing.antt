@@ -1,22 +1,16 @@
 -- What has a giver is a flow of an instance.
 use Rattle.std.proofs.Common.{◌≡◌, ℕ, ◌<◌, Bool, true, false, List, [], ◌∷◌, ◌++◌, length, get_or, refl, sym, ◌∙◌, ap, subst, arith, length-append}
+use Rattle.std.proofs.{lemmas.List.append_assoc, lemmas.List.map-append, lemmas.List.get_or_default, lemmas.List.Elements.Contains-get_or}
 use Rattle.std.specs.List.{Contains, flat_map}
-use Rattle.std.proofs.lemmas.List.{append_assoc, map-append, get_or_default}
-use Rattle.std.proofs.lemmas.List.Elements.{Contains-get_or}
-use Rattle.rv_tree.specs.declared.tree.Name.{Name}
-use Rattle.rv_tree.specs.declared.tree.Decl.{Decl}
-use Rattle.rv_tree.specs.Tree.{EquationTree, NodeTree, ProgramTree}
 use Rattle.rv_tree.specs.Places.{Identifier, Sites, names, flows, site_of, is_among, is_flow, index_of}
+use Rattle.rv_tree.specs.{declared.tree.Name.Name, declared.tree.Decl.Decl, Tree.EquationTree, Tree.NodeTree, Tree.ProgramTree}
 use Rattle.rv_types.specs.Names.{texts, decls, decl_names, name_faults, equation_uses, node_uses, use_of, use_at}
 use Rattle.rv_types.specs.Instances.{Right, IsRight, alone, in_order, Instance, node_of, no_node, callee, main_instance, IsInstance, is_main, is_callee, IsFlow}
 use Rattle.rv_types.specs.Needs.{Giver, Gives, given, by_equation, by_call}
 use Rattle.rv_instances.specs.AllInstances.{names_of, AreFed}
-use Rattle.rv_instances.proofs.Known.{each_nil, index_itself, called, calls_declared, uses_of, flows_once}
-use Rattle.rv_instances.proofs.Lists.{length_map}
-use Rattle.rv_types.proofs.Members.{among_contains}
-use Rattle.rv_types.proofs.RightNames.{both_empty}
+use Rattle.rv_instances.proofs.{Known.each_nil, Known.index_itself, Known.called, Known.calls_declared, Known.uses_of, Known.flows_once, Lists.length_map}
+use Rattle.rv_types.proofs.{Members.among_contains, RightNames.both_empty, KnownLaws.texts_of}
 use Rattle.rv_base.proofs.Lists.{from_map}
-use Rattle.rv_types.proofs.KnownLaws.{texts_of}
 
 pub flows_texts : (n : NodeTree) → texts (decl_names (decls n)) ≡ flows n
 flows_texts n =

@@ -1,40 +1,25 @@
 -- What is told of the flows of instances.
 use Rattle.std.proofs.Common.{◌≡◌, ℕ, zero, suc, ◌+◌, ◌<◌, inl, inr, true, List, [], ◌∷◌, ◌++◌, map, length, get_or, set, replicate, Option, Some, slice_get}
 use Rattle.std.proofs.Common.{refl, sym, ◌∙◌, ap, subst, arith, zero-add, None as Nothing}
-use Rattle.std.specs.List.{Contains}
 use Rattle.std.proofs.lemmas.List.{get_or-set_other, get_or-set_same, length-set, append_assoc}
-use Rattle.std.proofs.lemmas.List.Elements.{Contains-get_or}
-use Rattle.std.proofs.lemmas.Bool.{cases_eq}
+use Rattle.std.proofs.{lemmas.List.Elements.Contains-get_or, lemmas.Bool.cases_eq, lemmas.Option.get_or_from_slice_get}
+use Rattle.std.specs.List.{Contains}
 use Rattle.rv_base.specs.Limits.{source_limit}
-use Rattle.rv_tree.specs.declared.tree.Equation.{Equation}
-use Rattle.rv_tree.specs.declared.tree.Expr.{Expr}
-use Rattle.rv_tree.specs.declared.tree.Name.{Name}
-use Rattle.rv_tree.specs.Tree.{Tree, EquationTree, NodeTree, ProgramTree, equation_tree, tree_of, trees}
-use Rattle.rv_tree.specs.Places.{Identifier, flows, site_of, is_flow}
-use Rattle.rv_types.specs.Names.{texts}
+use Rattle.rv_tree.specs.{declared.tree.Equation.Equation, declared.tree.Expr.Expr, declared.tree.Name.Name, Tree.Tree, Tree.EquationTree, Tree.NodeTree}
+use Rattle.rv_tree.specs.{Tree.ProgramTree, Tree.equation_tree, Tree.tree_of, Tree.trees, Places.Identifier, Places.flows, Places.site_of, Places.is_flow}
 use Rattle.rv_types.specs.Instances.{Right, IsRight, alone, in_order, IsArgument, head, tail, Instance, place, clock_of, clock_of_arguments, callee}
 use Rattle.rv_types.specs.Instances.{main_instance, node_of, IsInstance, is_main, is_callee}
+use Rattle.rv_types.specs.{Names.texts, Needs.Giver, Needs.Given, Needs.Of, Needs.Gives, Needs.given as by_input, Needs.by_equation, Needs.by_call}
 use Rattle.rv_types.specs.Instances as right
-use Rattle.rv_types.specs.Needs.{Giver, Given, Of, Gives, given as by_input, by_equation, by_call}
-use Rattle.rv_instances.specs.declared.answer.Instance.{Instance as Numbered}
-use Rattle.rv_instances.specs.declared.timed.ClockedCall.{ClockedCall}
-use Rattle.rv_instances.specs.declared.givers.Giver.{Giver as Told}
-use Rattle.rv_instances.specs.declared.givers.Giver.TheVariants.{Input, Body, Output}
-use Rattle.rv_instances.specs.AllInstances.{numbered}
-use Rattle.rv_instances.specs.Expanded.{IsExpanded, IsCallOf, no_instance}
-use Rattle.rv_instances.specs.Flowing.{place_at}
-use Rattle.rv_instances.specs.Givers.{StandsFor}
 use Rattle.rv_instances.specs.Giving.{AreGiven, IsGiven, KeepsGiven, IsGiving, IsBodyOf, IsRightOf, first_of, number_at}
 use Rattle.rv_instances.specs.Layouts.{AreCallees, IsPlaced, IsNumberOf, callee_or_main, node_at, all_places}
-use Rattle.rv_instances.proofs.BaseClocks.{count_is, callee_number}
+use Rattle.rv_instances.specs.{declared.answer.Instance.Instance as Numbered, declared.timed.ClockedCall.ClockedCall, declared.givers.Giver.Giver as Told}
+use Rattle.rv_instances.specs.{declared.givers.Giver.TheVariants.Input, declared.givers.Giver.TheVariants.Body, declared.givers.Giver.TheVariants.Output}
+use Rattle.rv_instances.specs.{AllInstances.numbered, Expanded.IsExpanded, Expanded.IsCallOf, Expanded.no_instance, Flowing.place_at, Givers.StandsFor}
 use Rattle.rv_instances.proofs.ExpandedLaws.{instance_at, main_at, node_in, node_is, node_few, path_is}
-use Rattle.rv_instances.proofs.Flowing.{known_left}
-use Rattle.rv_instances.proofs.Known.{map_at}
-use Rattle.rv_instances.proofs.LaidFlows.{flow_placed, inputs_among}
-use Rattle.rv_instances.proofs.Lists.{length_map}
-use Rattle.rv_instances.proofs.ToldCalls.{element}
+use Rattle.rv_instances.proofs.{BaseClocks.count_is, BaseClocks.callee_number, Flowing.known_left, Known.map_at, LaidFlows.flow_placed, LaidFlows.inputs_among}
+use Rattle.rv_instances.proofs.{Lists.length_map, ToldCalls.element}
 use Rattle.rv_types.proofs.Members.{index_there}
-use Rattle.std.proofs.lemmas.Option.{get_or_from_slice_get}
 
 none_given : (n k : ℕ) (g : Told) → get_or (replicate {A = Option Told} n Nothing) k Nothing ≡ Some g → ⊥
 none_given zero k g e = cc

@@ -1,22 +1,15 @@
 -- Each flow has one giver.
 use Rattle.std.proofs.Common.{◌≡◌, ℕ, ◌<◌, ◌≤◌, inl, inr, List, [], ◌∷◌, ◌++◌, length, get_or, refl, sym, ◌∙◌, ap, subst, arith, length-append}
+use Rattle.std.proofs.{Math.ListN.get_or-append, lemmas.List.append_assoc, lemmas.List.get_or_default}
 use Rattle.std.specs.List.{Contains}
-use Rattle.std.proofs.Math.ListN.{get_or-append}
-use Rattle.std.proofs.lemmas.List.{append_assoc, get_or_default}
-use Rattle.rv_tree.specs.declared.tree.Decl.{Decl}
-use Rattle.rv_tree.specs.Tree.{Tree, Trees, NodeTree, ProgramTree}
 use Rattle.rv_tree.specs.Places.{Identifier, Sites, flows, names, site_of}
-use Rattle.rv_types.specs.WellFormed.{IsWellFormed}
+use Rattle.rv_tree.specs.{declared.tree.Decl.Decl, Tree.Tree, Tree.Trees, Tree.NodeTree, Tree.ProgramTree}
 use Rattle.rv_types.specs.Instances.{CallTree, calls, Right, Body, IsRight, IsArgument, head, tail, Instance, place, clock_of, clock_of_arguments, callee}
 use Rattle.rv_types.specs.Instances.{main_instance, node_of, IsInstance, is_main, is_callee, IsFlow}
-use Rattle.rv_types.specs.Needs.{Giver, Given, Of, Gives, given, by_equation, by_call}
-use Rattle.rv_instances.specs.declared.answer.Instance.{Instance as Numbered}
-use Rattle.rv_instances.specs.Expanded.{IsExpanded}
-use Rattle.rv_instances.proofs.ExpandedLaws.{node_in, same}
-use Rattle.rv_instances.proofs.Flowing.{site_itself}
-use Rattle.rv_instances.proofs.FlowPlaces.{not_empty, snoc_parts}
-use Rattle.rv_instances.proofs.LaidFlows.{inputs_among}
-use Rattle.rv_instances.proofs.Lists.{length_map}
+use Rattle.rv_types.specs.{WellFormed.IsWellFormed, Needs.Giver, Needs.Given, Needs.Of, Needs.Gives, Needs.given, Needs.by_equation, Needs.by_call}
+use Rattle.rv_instances.specs.{declared.answer.Instance.Instance as Numbered, Expanded.IsExpanded}
+use Rattle.rv_instances.proofs.{ExpandedLaws.node_in, ExpandedLaws.same, Flowing.site_itself, FlowPlaces.not_empty, FlowPlaces.snoc_parts}
+use Rattle.rv_instances.proofs.{LaidFlows.inputs_among, Lists.length_map}
 
 -- an argument of a number is one
 pub one_argument : (es : Trees) (j : ℕ) (d e : Tree) → IsArgument es j d → IsArgument es j e → d ≡ e

@@ -1,23 +1,19 @@
 -- What the rules of names give for the nodes of a program.
-use Rattle.std.proofs.Common.{◌≡◌, ℕ, zero, suc, ◌+◌, ◌<◌, inl, inr, Bool, true, false, cond, ◌||◌, List, [], ◌∷◌, ◌++◌, map, length, get_or, refl, sym}
-use Rattle.std.proofs.Common.{◌∙◌, ap, subst, arith, Option, Some, None as Nothing, unwrap_or}
-use Rattle.std.specs.List.{Contains, flat_map}
+use Rattle.std.proofs.Common.{◌≡◌, ℕ, zero, suc, ◌+◌, ◌<◌, inl, inr, Bool, true, false, cond, ◌||◌, List, [], ◌∷◌, ◌++◌, map, length, get_or, refl, sym, ◌∙◌}
+use Rattle.std.proofs.Common.{ap, subst, arith, Option, Some, None as Nothing, unwrap_or}
 use Rattle.std.proofs.lemmas.List.Elements.{Contains-append_cases}
-use Rattle.rv_tree.specs.declared.tree.Name.{Name}
+use Rattle.std.specs.List.{Contains, flat_map}
 use Rattle.rv_tree.specs.Tree.{Tree, Node, Form, True, False, Number, Named, Not, Minus, Pre, Current, When, Binary, If, AtMostOne, Call, Trees, None, More}
 use Rattle.rv_tree.specs.Tree.{EquationTree, AssertionTree, NodeTree, ProgramTree}
-use Rattle.rv_tree.specs.Places.{Identifier, is_same, is_among, is_flow, index_of}
-use Rattle.rv_types.specs.declared.fault.NameFault.TheVariants.{DefinedTwice}
-use Rattle.rv_types.specs.Parts.{faults_of_all}
+use Rattle.rv_tree.specs.{declared.tree.Name.Name, Places.Identifier, Places.is_same, Places.is_among, Places.is_flow, Places.index_of}
 use Rattle.rv_types.specs.Names.{texts, is_declared, node_names, type_names, repeated, repeated_values, alias_use, constant_uses, names_in_node, name_faults}
 use Rattle.rv_types.specs.Names.{decl_names, decls, lefts, undefined_unless, flow_use, clock_use, equation_uses, assertion_uses, node_uses, is_value, use_of}
 use Rattle.rv_types.specs.Names.{use_at, uses, own_uses}
-use Rattle.rv_types.specs.Kinds.{node_among}
 use Rattle.rv_types.specs.Instances.{CallTree, calls, calls_in, form_calls, calls_in_all, calls_in_equations, calls_in_assertions, no_node, node_of}
+use Rattle.rv_types.specs.{declared.fault.NameFault.TheVariants.DefinedTwice, Parts.faults_of_all, Kinds.node_among}
 use Rattle.rv_instances.specs.AllInstances.{names_of}
 use Rattle.rv_instances.proofs.Lists.{length_map}
-use Rattle.rv_types.proofs.Members.{cons_cases, index_there, nothing_in, text_itself}
-use Rattle.rv_types.proofs.RightNames.{both_empty}
+use Rattle.rv_types.proofs.{Members.cons_cases, Members.index_there, Members.nothing_in, Members.text_itself, RightNames.both_empty}
 
 -- a name that is not among some has the number of all
 pub index_past : (xs : List Identifier) (x : Identifier) → is_among xs x ≡ false → index_of xs x ≡ length xs

@@ -1,18 +1,11 @@
 -- How many codes some bits tell apart, and the labels of an enumeration.
 use Rattle.std.proofs.Common.{◌≡◌, ℕ, zero, suc, ◌+◌, ◌-◌, ◌*◌, ◌^◌, ◌<◌, ◌≤◌, cond, List, [], ◌∷◌, length, get_or, refl, sym, ◌∙◌, ap, arith}
-use Rattle.std.proofs.Math.Nat.{pow-suc}
-use Rattle.std.proofs.lemmas.Bool.{le-leb, lt-leb}
+use Rattle.std.proofs.{Math.Nat.pow-suc, lemmas.Bool.le-leb, lemmas.Bool.lt-leb}
 use Rattle.std.specs.List.{Contains}
-use Rattle.rv_tree.specs.Bounded.{IsBounded, most}
-use Rattle.rv_tree.specs.declared.tree.Name.{Name}
-use Rattle.rv_tree.specs.declared.tree.TypeBody.{TypeBody}
-use Rattle.rv_tree.specs.declared.tree.TypeBody.TheVariants.{Alias, Labels}
-use Rattle.rv_tree.specs.declared.tree.TypeDecl.{TypeDecl}
-use Rattle.rv_tree.specs.Tree.{ProgramTree}
-use Rattle.rv_types.specs.declared.typed.Kind.{Kind}
+use Rattle.rv_tree.specs.{Bounded.IsBounded, Bounded.most, declared.tree.Name.Name, declared.tree.TypeBody.TypeBody, declared.tree.TypeBody.TheVariants.Alias}
+use Rattle.rv_tree.specs.{declared.tree.TypeBody.TheVariants.Labels, declared.tree.TypeDecl.TypeDecl, Tree.ProgramTree}
+use Rattle.rv_types.specs.{declared.typed.Kind.Kind, Variables.bits_from, Variables.kind_bits, Values.label_count, Values.labels_at}
 use Rattle.rv_types.specs.declared.typed.Kind.TheVariants as kind
-use Rattle.rv_types.specs.Variables.{bits_from, kind_bits}
-use Rattle.rv_types.specs.Values.{label_count, labels_at}
 use Rattle.rv_instances.specs.Bits.{bits_of}
 
 -- some bits are enough

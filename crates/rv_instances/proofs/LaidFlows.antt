@@ -1,21 +1,12 @@
 -- Where the flows of instances begin.
 use Rattle.std.proofs.Common.{◌≡◌, ℕ, zero, suc, ◌+◌, ◌*◌, ◌<◌, ◌≤◌, inl, inr, List, [], ◌∷◌, ◌++◌, length, get_or, refl, sym, ◌∙◌, ap, subst, arith}
 use Rattle.std.proofs.Common.{length-append}
-use Rattle.std.proofs.Math.ListN.{get_or-append}
-use Rattle.std.proofs.Math.Nat.{suc-mul}
-use Rattle.std.proofs.Math.Seq.{get_or-append_seam}
-use Rattle.std.proofs.lemmas.List.{get_or-append-add}
-use Rattle.std.proofs.lemmas.Bool.{cases_eq}
-use Rattle.rv_tree.specs.declared.tree.Decl.{Decl}
-use Rattle.rv_tree.specs.Tree.{NodeTree, ProgramTree}
-use Rattle.rv_tree.specs.Places.{flows, names}
-use Rattle.rv_instances.specs.declared.answer.Instance.{Instance as Numbered}
-use Rattle.rv_instances.specs.declared.layout.Laid.{Laid}
-use Rattle.rv_instances.specs.declared.flows.Flow.{Flow}
+use Rattle.std.proofs.{Math.ListN.get_or-append, Math.Nat.suc-mul, Math.Seq.get_or-append_seam, lemmas.List.get_or-append-add, lemmas.Bool.cases_eq}
+use Rattle.rv_tree.specs.{declared.tree.Decl.Decl, Tree.NodeTree, Tree.ProgramTree, Places.flows, Places.names}
 use Rattle.rv_instances.specs.Flowing.{flow_count, flow_sites, flows_below, flows_to}
 use Rattle.rv_instances.specs.Layouts.{flows_before, laid_at, all_laid, all_places, path_at, IsPlaced}
-use Rattle.rv_instances.proofs.Known.{map_at}
-use Rattle.rv_instances.proofs.Lists.{length_map}
+use Rattle.rv_instances.specs.{declared.answer.Instance.Instance as Numbered, declared.layout.Laid.Laid, declared.flows.Flow.Flow}
+use Rattle.rv_instances.proofs.{Known.map_at, Lists.length_map}
 
 pub inputs_among : (n : NodeTree) → length n.inputs ≤ length (flows n)
 inputs_among n =

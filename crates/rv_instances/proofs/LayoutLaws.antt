@@ -1,19 +1,13 @@
 -- The numbers of an instance are those of its places.
 use Rattle.std.proofs.Common.{◌≡◌, ℕ, ◌+◌, ◌<◌, List, [], ◌∷◌, ◌++◌, length, get_or, sym, ◌∙◌, ap, subst, arith}
 use Rattle.std.proofs.lemmas.List.{append_assoc}
-use Rattle.rv_tree.specs.Tree.{NodeTree, ProgramTree}
-use Rattle.rv_tree.specs.Places.{Identifier, flows}
+use Rattle.rv_tree.specs.{Tree.NodeTree, Tree.ProgramTree, Places.Identifier, Places.flows}
 use Rattle.rv_types.specs.Instances.{Instance, callee, node_of, IsInstance, is_callee}
-use Rattle.rv_instances.specs.declared.answer.Instance.{Instance as Numbered}
-use Rattle.rv_instances.specs.declared.layout.Laid.{Laid}
-use Rattle.rv_instances.specs.declared.layout.Layout.{Layout}
-use Rattle.rv_instances.specs.AllInstances.{numbered}
-use Rattle.rv_instances.specs.Expanded.{IsExpanded, no_instance}
-use Rattle.rv_instances.specs.Flowing.{flow_count}
 use Rattle.rv_instances.specs.Layouts.{flows_before, laid_at, IsPlaced, IsHere, IsLayout, callee_or_main, here_of, all_places}
-use Rattle.rv_instances.proofs.BaseClocks.{count_is, callee_number}
-use Rattle.rv_instances.proofs.ExpandedLaws.{node_is, path_is}
-use Rattle.rv_instances.proofs.LaidFlows.{laid_is, flow_placed}
+use Rattle.rv_instances.specs.{declared.answer.Instance.Instance as Numbered, declared.layout.Laid.Laid, declared.layout.Layout.Layout, AllInstances.numbered}
+use Rattle.rv_instances.specs.{Expanded.IsExpanded, Expanded.no_instance, Flowing.flow_count}
+use Rattle.rv_instances.proofs.{BaseClocks.count_is, BaseClocks.callee_number, ExpandedLaws.node_is, ExpandedLaws.path_is, LaidFlows.laid_is}
+use Rattle.rv_instances.proofs.{LaidFlows.flow_placed}
 
 module _ (p : ProgramTree) (main : Identifier) (instances : List Numbered) (known : IsExpanded p main instances) (l : Layout)
     (laid_out : IsLayout p main instances l) where

@@ -1,14 +1,12 @@
 -- The places of flows that are listed.
 use Rattle.std.proofs.Common.{◌≡◌, ℕ, ◌+◌, ◌-◌, ◌<◌, List, [], ◌∷◌, ◌++◌, map, length, get_or, take, sym, ◌∙◌, ap, slice_get, Some}
-use Rattle.std.proofs.lemmas.List.{map-append, take_more}
+use Rattle.std.proofs.{lemmas.List.map-append, lemmas.List.take_more, lemmas.Option.get_or_from_slice_get}
 use Rattle.rv_base.specs.declared.value.Place.{Place}
 use Rattle.rv_tree.specs.Places.{Sites}
-use Rattle.rv_instances.specs.declared.answer.Instance.{Instance as Numbered}
-use Rattle.rv_instances.specs.declared.flows.Flow.{Flow}
-use Rattle.rv_types.specs.Lists.{sites_of}
 use Rattle.rv_instances.specs.Flowing.{place_at, flow_sites, flow_places}
+use Rattle.rv_instances.specs.{declared.answer.Instance.Instance as Numbered, declared.flows.Flow.Flow}
+use Rattle.rv_types.specs.Lists.{sites_of}
 use Rattle.rv_instances.proofs.Known.{map_at}
-use Rattle.std.proofs.lemmas.Option.{get_or_from_slice_get}
 
 -- one more place
 pub placed_more : (f : ℕ → Sites) (numbers : List ℕ) (old new : List Place) (i : ℕ) (place : Place) → i < length numbers → sites_of old ≡ map f (take i numbers)

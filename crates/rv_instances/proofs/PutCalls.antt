@@ -1,7 +1,6 @@
 -- An element put into a list of which it is known how it is listed.
 use Rattle.std.proofs.Common.{◌≡◌, ℕ, ◌+◌, ◌<◌, List, ◌∷◌, ◌++◌, map, length, ◌∙◌, ap, arith, slice_set}
-use Rattle.std.proofs.lemmas.List.{length-map, length-append, map-set}
-use Rattle.std.proofs.Math.Seq.{set-append_seam}
+use Rattle.std.proofs.{lemmas.List.length-map, lemmas.List.length-append, lemmas.List.map-set, Math.Seq.set-append_seam}
 
 -- what is put where a list goes on stands there
 pub put_listed : {X Y : Type 0} (f : X → Y) (xs : List X) (before after : List Y) (c : Y) (n : ℕ) (x : X) → n ≡ length before

@@ -1,13 +1,11 @@
 -- The calls of a node as they are listed.
 use Rattle.std.proofs.Common.{◌≡◌, ℕ, ◌<◌, List, [], ◌∷◌, map, length, get_or, sym, ◌∙◌, ap, arith}
-use Rattle.std.specs.List.{Contains}
 use Rattle.std.proofs.lemmas.List.Elements.{Contains-get_or}
+use Rattle.std.specs.List.{Contains}
 use Rattle.rv_tree.specs.Tree.{None, NodeTree}
 use Rattle.rv_types.specs.Instances.{CallTree, calls}
-use Rattle.rv_instances.specs.declared.timed.ClockedCall.{ClockedCall}
-use Rattle.rv_instances.specs.Expanded.{ToldCall, told, call_told, calls_told}
-use Rattle.rv_instances.proofs.Known.{map_at}
-use Rattle.rv_instances.proofs.Lists.{length_map}
+use Rattle.rv_instances.specs.{declared.timed.ClockedCall.ClockedCall, Expanded.ToldCall, Expanded.told, Expanded.call_told, Expanded.calls_told}
+use Rattle.rv_instances.proofs.{Known.map_at, Lists.length_map}
 
 -- an element of a list
 pub element : {X : Type 0} (xs : List X) (j : ℕ) → j < length xs → X

@@ -1,13 +1,9 @@
 -- The instances of a program by the numbers of their nodes.
-use Rattle.std.specs.Prelude.{ℕ, ◌<◌, List, length, slice_index_or, ◌≡◌}
-use Rattle.rv_tree.specs.Tree.{ProgramTree, Tree, NodeTree}
-use Rattle.rv_tree.specs.Places.{Identifier}
-use Rattle.rv_types.specs.Names.{node_names, texts}
+use Rattle.std.specs.{Prelude.ℕ, Prelude.◌<◌, Prelude.List, Prelude.length, Prelude.slice_index_or, Prelude.◌≡◌, List.Contains}
+use Rattle.rv_tree.specs.{Tree.ProgramTree, Tree.Tree, Tree.NodeTree, Places.Identifier}
 use Rattle.rv_types.specs.Instances.{CallTree, calls, IsArgument, node_of, Instance, IsInstance, all_instances}
-use Rattle.std.specs.List.{Contains}
-use Rattle.rv_types.specs.Settled.{node_number}
+use Rattle.rv_types.specs.{Names.node_names, Names.texts, Settled.node_number, Needs.IsBefore}
 use Rattle.rv_instances.specs.declared.answer.Instance.{Instance as Numbered}
-use Rattle.rv_types.specs.Needs.{IsBefore}
 
 -- the names of the nodes of a program
 abbrev pub names_of : ProgramTree → List Identifier

@@ -1,10 +1,8 @@
 -- The bits of types, by the declarations of types.
 use Rattle.std.specs.Prelude.{ℕ, List}
 use Rattle.rv_tree.specs.declared.tree.TypeDecl.{TypeDecl}
-use Rattle.rv_types.specs.declared.typed.Kind.{Kind}
+use Rattle.rv_types.specs.{declared.typed.Kind.Kind, Variables.total, Variables.bits_for, Values.labels_at}
 use Rattle.rv_types.specs.declared.typed.Kind.TheVariants as kind
-use Rattle.rv_types.specs.Variables.{total, bits_for}
-use Rattle.rv_types.specs.Values.{labels_at}
 
 -- the bits of a control memory or input of a type
 abbrev pub bits_of : List TypeDecl → Kind → ℕ

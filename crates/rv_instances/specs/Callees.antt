@@ -1,6 +1,5 @@
 -- Tables of which instance a call of an instance gives, by numbers.
-use Rattle.std.specs.Prelude.{ℕ, ◌&&◌, cond, nat_eq, List, [], ◌∷◌, Option, Some}
-use Rattle.std.specs.Prelude.{None as Nothing}
+use Rattle.std.specs.Prelude.{ℕ, ◌&&◌, cond, nat_eq, List, [], ◌∷◌, Option, Some, None as Nothing}
 
 -- the instance that the call of an instance with a site gives, as the first entry tells it
 abbrev pub callee_in : List ((ℕ × ℕ) × ℕ) → ℕ → ℕ → Option ℕ

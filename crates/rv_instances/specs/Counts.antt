@@ -4,10 +4,8 @@ use Rattle.std.specs.Prelude.{ℕ, ◌+◌, cond, length}
 use Rattle.rv_tree.specs.Tree.{Tree, Node, Form, True, False, Number, Named, Not, Minus, Pre, Current, When, Binary, If, AtMostOne, Call, Trees, None, More}
 use Rattle.rv_tree.specs.Tree.{NodeTree, ProgramTree}
 use Rattle.rv_tree.specs.Places.{Identifier}
-use Rattle.rv_types.specs.Kinds.{decl_kinds}
-use Rattle.rv_types.specs.Values.{operand_kind}
-use Rattle.rv_types.specs.Instances.{all_instances}
 use Rattle.rv_types.specs.Variables.{total, is_integer, memories, over_instances}
+use Rattle.rv_types.specs.{Kinds.decl_kinds, Values.operand_kind, Instances.all_instances}
 
 -- How many expressions stand in one, itself included.
 abbrev mutual

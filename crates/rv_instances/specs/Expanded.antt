@@ -1,17 +1,12 @@
 -- Programs of which all instances are known.
 use Rattle.std.specs.List.{Contains}
 use Rattle.std.specs.Prelude.{◌≡◌, ℕ, ◌≤◌, List, [], map, length, true, slice_index_or}
-use Rattle.rv_tree.specs.Bounded.{IsBounded}
 use Rattle.rv_tree.specs.Tree.{Trees, NodeTree, ProgramTree, tree_of, trees, program_tree}
-use Rattle.rv_tree.specs.Places.{Identifier, is_among}
-use Rattle.rv_types.specs.declared.typed.Clock.{Clock}
-use Rattle.rv_types.specs.Names.{name_faults}
+use Rattle.rv_tree.specs.{Bounded.IsBounded, Places.Identifier, Places.is_among}
 use Rattle.rv_types.specs.Instances.{CallTree, calls, clock_of_args, Instance, IsInstance, name_at}
-use Rattle.rv_types.specs.WellFormed.{AreWell, AreSited}
-use Rattle.rv_instances.specs.declared.answer.Instance.{Instance as Numbered}
-use Rattle.rv_instances.specs.declared.timed.ClockedCall.{ClockedCall}
-use Rattle.rv_instances.specs.declared.expanded.Expanded.{Expanded}
+use Rattle.rv_types.specs.{declared.typed.Clock.Clock, Names.name_faults, WellFormed.AreWell, WellFormed.AreSited}
 use Rattle.rv_instances.specs.AllInstances.{names_of, AreInstances, numbered}
+use Rattle.rv_instances.specs.{declared.answer.Instance.Instance as Numbered, declared.timed.ClockedCall.ClockedCall, declared.expanded.Expanded.Expanded}
 
 -- A program whose names, types and clocks are right, with all its instances in the order of their paths.
 pub record IsExpanded (p : ProgramTree) (main : Identifier) (instances : List Numbered) : Type 0 where

@@ -1,22 +1,10 @@
 -- Which parts of a source fit together.
-use Rattle.std.specs.Prelude.{◌≡◌, ◌≤◌}
-use Rattle.std.specs.List.{Contains}
-use Rattle.rv_tree.specs.declared.tree.TypeDecl.{TypeDecl}
-use Rattle.rv_tree.specs.Tree.{ProgramTree}
-use Rattle.rv_tree.specs.Places.{Identifier}
-use Rattle.rv_tree.specs.SourceTrees.{IsSourceTree}
-use Rattle.rv_types.specs.declared.typed.Typed.{Typed}
-use Rattle.rv_types.specs.Instances.{name_at, node_of}
-use Rattle.rv_types.specs.Lists.{sites_of}
-use Rattle.rv_types.specs.Needs.{IsSequence}
-use Rattle.rv_types.specs.Settled.{IsAnswer}
-use Rattle.rv_types.specs.Values.{label_count}
-use Rattle.rv_types.specs.Variables.{over_instances, variable_count}
-use Rattle.rv_instances.specs.declared.answer.Order.{Order}
-use Rattle.rv_instances.specs.AllInstances.{AreCounted}
+use Rattle.std.specs.{Prelude.◌≡◌, Prelude.◌≤◌, List.Contains}
+use Rattle.rv_tree.specs.{declared.tree.TypeDecl.TypeDecl, Tree.ProgramTree, Places.Identifier, SourceTrees.IsSourceTree}
+use Rattle.rv_types.specs.{declared.typed.Typed.Typed, Instances.name_at, Instances.node_of, Lists.sites_of, Needs.IsSequence, Settled.IsAnswer}
+use Rattle.rv_types.specs.{Values.label_count, Variables.over_instances, Variables.variable_count}
 use Rattle.rv_instances.specs.Counts.{expanded, instance_count, integer_inputs, integer_memories}
-use Rattle.rv_instances.specs.Expanded.{IsExpanded}
-use Rattle.rv_instances.specs.Weights.{AreLight}
+use Rattle.rv_instances.specs.{declared.answer.Order.Order, AllInstances.AreCounted, Expanded.IsExpanded, Weights.AreLight}
 
 -- The quantities of a program are within the limits that a flat system keeps: its instances, their expressions and integer
 -- memories, the integer inputs of main, the labels of each enumeration, and the variables of its decision diagrams.

@@ -1,14 +1,11 @@
 -- What gives each flow its value, by the numbers of flows and instances.
 use Rattle.std.specs.Prelude.{◌≡◌, ℕ, ◌<◌, List, length, Some, slice_index_or}
-use Rattle.rv_tree.specs.Tree.{Node, Call, ProgramTree, tree_of}
-use Rattle.rv_tree.specs.Places.{Identifier}
+use Rattle.rv_tree.specs.{Tree.Node, Tree.Call, Tree.ProgramTree, Tree.tree_of, Places.Identifier}
 use Rattle.rv_types.specs.Instances as right
 use Rattle.rv_types.specs.Needs.{Giver, Given, Of, Gives}
-use Rattle.rv_instances.specs.declared.answer.Instance.{Instance as Numbered}
-use Rattle.rv_instances.specs.declared.givers.Giver.{Giver as Told}
 use Rattle.rv_instances.specs.declared.givers.Giver.TheVariants.{Input, Body, Output}
-use Rattle.rv_instances.specs.Flowing.{place_at}
 use Rattle.rv_instances.specs.Layouts.{IsNumberOf, all_places}
+use Rattle.rv_instances.specs.{declared.answer.Instance.Instance as Numbered, declared.givers.Giver.Giver as Told, Flowing.place_at}
 
 -- What is told is this giver: the same input of main, or the same right side of the same instance on the same clock.
 abbrev pub StandsFor : ProgramTree → List Numbered → Told → Giver → Type 0

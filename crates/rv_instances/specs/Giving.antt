@@ -1,17 +1,11 @@
 -- What is told of the flows of instances while they are gone through.
 use Rattle.std.specs.Prelude.{◌≡◌, ℕ, ◌+◌, ◌⊎◌, Bool, true, false, List, length, Option, Some, slice_index_or, None as Nothing}
-use Rattle.rv_tree.specs.declared.tree.Equation.{Equation}
-use Rattle.rv_tree.specs.declared.tree.Expr.{Expr}
 use Rattle.rv_tree.specs.Tree.{Tree, Node, Call, Trees, EquationTree, ProgramTree}
-use Rattle.rv_tree.specs.Places.{Identifier, site_of}
-use Rattle.rv_types.specs.declared.typed.Clock.{Clock}
-use Rattle.rv_types.specs.Needs.{Giver, Gives}
-use Rattle.rv_instances.specs.declared.answer.Instance.{Instance as Numbered}
-use Rattle.rv_instances.specs.declared.givers.Giver.{Giver as Told}
-use Rattle.rv_instances.specs.declared.givers.Giver.TheVariants.{Input, Body, Output}
-use Rattle.rv_instances.specs.Flowing.{place_at, flow_count}
-use Rattle.rv_instances.specs.Layouts.{node_at, flows_before, all_places}
-use Rattle.rv_instances.specs.Givers.{StandsFor}
+use Rattle.rv_tree.specs.{declared.tree.Equation.Equation, declared.tree.Expr.Expr, Places.Identifier, Places.site_of}
+use Rattle.rv_types.specs.{declared.typed.Clock.Clock, Needs.Giver, Needs.Gives}
+use Rattle.rv_instances.specs.{declared.answer.Instance.Instance as Numbered, declared.givers.Giver.Giver as Told, declared.givers.Giver.TheVariants.Input}
+use Rattle.rv_instances.specs.{declared.givers.Giver.TheVariants.Body, declared.givers.Giver.TheVariants.Output, Flowing.place_at, Flowing.flow_count}
+use Rattle.rv_instances.specs.{Layouts.node_at, Layouts.flows_before, Layouts.all_places, Givers.StandsFor}
 
 -- Of some flows it is told what gives them their value.
 pub record AreGiven (p : ProgramTree) (main : Identifier) (instances : List Numbered) (found : List (Option Told)) : Type 0 where

@@ -1,19 +1,11 @@
 -- How the flows of an instance, of its base clock and of its callees are numbered among the flows of all instances.
 use Rattle.std.specs.Prelude.{◌≡◌, ℕ, zero, suc, ◌+◌, ◌<◌, ◌^◌, List, [], ◌∷◌, ◌++◌, length, unwrap_or, Option, Some, slice_index_or, None as Nothing}
 use Rattle.std.specs.List.{Contains}
-use Rattle.rv_tree.specs.Tree.{NodeTree, ProgramTree}
-use Rattle.rv_tree.specs.Places.{Identifier, Sites, flows}
-use Rattle.rv_types.specs.declared.typed.Clock.{Clock}
-use Rattle.rv_types.specs.declared.typed.Clock.TheVariants.{Base, On}
+use Rattle.rv_tree.specs.{Tree.NodeTree, Tree.ProgramTree, Places.Identifier, Places.Sites, Places.flows}
 use Rattle.rv_types.specs.Instances.{CallTree, calls, Instance, IsInstance, node_of, no_node}
-use Rattle.rv_types.specs.Needs.{IsBefore}
-use Rattle.rv_instances.specs.declared.answer.Instance.{Instance as Numbered}
-use Rattle.rv_instances.specs.declared.layout.Laid.{Laid}
-use Rattle.rv_instances.specs.declared.layout.Layout.{Layout}
-use Rattle.rv_instances.specs.Callees.{callee_in}
-use Rattle.rv_instances.specs.AllInstances.{numbered}
-use Rattle.rv_instances.specs.Expanded.{no_instance}
-use Rattle.rv_instances.specs.Flowing.{place_at, flow_places, flow_count, all_flows}
+use Rattle.rv_types.specs.{declared.typed.Clock.Clock, declared.typed.Clock.TheVariants.Base, declared.typed.Clock.TheVariants.On, Needs.IsBefore}
+use Rattle.rv_instances.specs.{declared.answer.Instance.Instance as Numbered, declared.layout.Laid.Laid, declared.layout.Layout.Layout, Callees.callee_in}
+use Rattle.rv_instances.specs.{AllInstances.numbered, Expanded.no_instance, Flowing.place_at, Flowing.flow_places, Flowing.flow_count, Flowing.all_flows}
 
 -- The numbers of an instance: of its first flow; of the flow of its base clock, none for main's; and, by the site of a
 -- call, of the first flow and of the first output of what is called.

@@ -3,19 +3,12 @@ use Rattle.std.specs.Prelude.{◌≡◌, ℕ, ◌+◌, ◌<◌, ◌^◌, cond, L
 use Rattle.rv_tree.specs.Tree.{Tree, Node, Form, True, False, Number, Named, Not, Minus, Pre, Current, When, Binary, If, AtMostOne, Call, Trees, None, More}
 use Rattle.rv_tree.specs.Tree.{NodeTree, ProgramTree, node_tree, tree_of}
 use Rattle.rv_tree.specs.Places.{Identifier, Sites, flows, is_flow, site_of}
-use Rattle.rv_types.specs.declared.typed.Clock.{Clock}
-use Rattle.rv_types.specs.declared.typed.Clock.TheVariants.{Base}
-use Rattle.rv_types.specs.Clocks.{pace}
-use Rattle.rv_types.specs.Instances.{clock_of, taken}
-use Rattle.rv_types.specs.Needs.{Giver as GiverTree, Gives}
-use Rattle.rv_instances.specs.declared.answer.Instance.{Instance as Numbered}
-use Rattle.rv_instances.specs.declared.givers.Giver.{Giver}
+use Rattle.rv_types.specs.{declared.typed.Clock.Clock, declared.typed.Clock.TheVariants.Base, Clocks.pace, Instances.clock_of, Instances.taken}
+use Rattle.rv_types.specs.{Needs.Giver as GiverTree, Needs.Gives}
 use Rattle.rv_instances.specs.declared.givers.Giver.TheVariants.{Input, Body, Output}
-use Rattle.rv_instances.specs.declared.layout.Layout.{Layout}
-use Rattle.rv_instances.specs.declared.reader.Reader.{Reader}
-use Rattle.rv_instances.specs.Callees.{callee_in}
-use Rattle.rv_instances.specs.Givers.{StandsFor}
 use Rattle.rv_instances.specs.Layouts.{Here, number_of, here_of, node_at}
+use Rattle.rv_instances.specs.{declared.answer.Instance.Instance as Numbered, declared.givers.Giver.Giver, declared.layout.Layout.Layout}
+use Rattle.rv_instances.specs.{declared.reader.Reader.Reader, Callees.callee_in, Givers.StandsFor}
 
 -- a flow, if there is one
 abbrev pub listed : Option ℕ → List ℕ

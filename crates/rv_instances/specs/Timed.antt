@@ -1,17 +1,11 @@
 -- What stands in the expressions of a node, each with its clock: calls, `pre` and `current`, and operators, in the order in which
 -- they are written, each before those in its operands.
 use Rattle.std.specs.Prelude.{ℕ, Option, List, [], ◌∷◌, ◌++◌, map, flat_map}
-use Rattle.rv_tree.specs.declared.tree.Op.{Op}
-use Rattle.rv_tree.specs.Delays.{Delay, node_delays}
 use Rattle.rv_tree.specs.Tree.{Tree, Node, Form, True, False, Number, Named, Not, Minus, Pre, Current, When, Binary, If, AtMostOne, Call, Trees, None, More}
 use Rattle.rv_tree.specs.Tree.{NodeTree, tree_of}
-use Rattle.rv_types.specs.declared.typed.Clock.{Clock}
-use Rattle.rv_types.specs.declared.typed.Clock.TheVariants.{Base}
-use Rattle.rv_types.specs.Clocks.{seen, binary_pace, pace}
-use Rattle.rv_types.specs.Instances.{taken}
-use Rattle.rv_instances.specs.NumberedNeeds.{clock_of_expression}
-use Rattle.rv_instances.specs.declared.timed.ClockedDelay.{ClockedDelay}
-use Rattle.rv_instances.specs.declared.timed.ClockedOperator.{ClockedOperator}
+use Rattle.rv_tree.specs.{declared.tree.Op.Op, Delays.Delay, Delays.node_delays}
+use Rattle.rv_types.specs.{declared.typed.Clock.Clock, declared.typed.Clock.TheVariants.Base, Clocks.seen, Clocks.binary_pace, Clocks.pace, Instances.taken}
+use Rattle.rv_instances.specs.{NumberedNeeds.clock_of_expression, declared.timed.ClockedDelay.ClockedDelay, declared.timed.ClockedOperator.ClockedOperator}
 
 -- a `pre` or `current` by its site and its operand, with the clock of that
 pub record ToldDelay : Type 0 where

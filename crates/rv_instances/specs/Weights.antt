@@ -1,19 +1,14 @@
 -- The weight of an integer expression: a bound on its magnitude in terms of what memories and inputs hold.
 use Rattle.std.specs.Prelude.{◌≡◌, ◌⊎◌, ℕ, ◌+◌, ◌*◌, ◌≤◌, max, cond, nat_lt, nat_abs, List, [], ◌∷◌, ◌++◌, flat_map, unwrap_or, reverse, Option}
 use Rattle.std.specs.List.{Contains}
-use Rattle.rv_tree.specs.declared.tree.Name.{Name}
-use Rattle.rv_tree.specs.declared.tree.Op.{Op}
-use Rattle.rv_tree.specs.declared.tree.Op.TheVariants as op
-use Rattle.rv_base.specs.Limits.{heaviest}
 use Rattle.rv_tree.specs.Tree.{Tree, Node, Form, True, False, Number, Named, Not, Minus, Pre, Current, When, Binary, If, AtMostOne, Call, ConstantTree}
 use Rattle.rv_tree.specs.Tree.{NodeTree, ProgramTree}
-use Rattle.rv_tree.specs.Places.{Identifier, Sites, is_flow}
-use Rattle.rv_types.specs.Types.{is_constant}
-use Rattle.rv_types.specs.Constants.{whole_in, value_of, weight_of}
-use Rattle.rv_types.specs.Scopes.{node_scope, constant_value, constant_value_after}
+use Rattle.rv_tree.specs.{declared.tree.Name.Name, declared.tree.Op.Op, Places.Identifier, Places.Sites, Places.is_flow}
+use Rattle.rv_tree.specs.declared.tree.Op.TheVariants as op
+use Rattle.rv_base.specs.Limits.{heaviest}
 use Rattle.rv_types.specs.Instances.{Right, Body, Output, Instance, place, output_place, IsInstance}
-use Rattle.rv_types.specs.Needs.{Giver, Given, Of, Gives}
-use Rattle.rv_types.specs.Variables.{parts, parts_of_all}
+use Rattle.rv_types.specs.{Types.is_constant, Constants.whole_in, Constants.value_of, Constants.weight_of, Scopes.node_scope, Scopes.constant_value}
+use Rattle.rv_types.specs.{Scopes.constant_value_after, Needs.Giver, Needs.Given, Needs.Of, Needs.Gives, Variables.parts, Variables.parts_of_all}
 
 -- the absolute value of a constant expression of a node
 abbrev pub constant_size : ProgramTree → Tree → ℕ

@@ -1,22 +1,16 @@
 -- Fields and records that are written one after the other.
 use Rattle.std.proofs.Common.{◌≡◌, ◌+◌, ◌^◌, ◌<◌, ◌≤◌, ℕ, Bool, true, false, eqb, List, [], ◌∷◌, ◌++◌, length, map, take, get_or, refl, sym, ap, ◌∙◌, subst}
 use Rattle.std.proofs.Common.{arith, append_assoc}
-use Rattle.std.specs.Prelude.{Option, Some, Result, Ok, Err, ⊤, OnOk, flat_map, slice_get}
-use Rattle.std.proofs.lemmas.Bool.{eqb-true, eqb-false}
 use Rattle.std.proofs.lemmas.List.{append-nil, take_more, take_all}
-use Rattle.std.proofs.lemmas.Option.{slice_get_within, get_or_from_slice_get}
-use Rattle.csv.specs.Records.{Row, fields_of, partial_of}
-use Rattle.csv.specs.declared.writer.Writer.{Writer}
-use Rattle.rv_diagram.specs.Nodes.{node_at}
-use Rattle.rv_diagram.specs.declared.Triple.{Triple}
+use Rattle.std.proofs.{lemmas.Bool.eqb-true, lemmas.Bool.eqb-false, lemmas.Option.slice_get_within, lemmas.Option.get_or_from_slice_get}
+use Rattle.std.specs.Prelude.{Option, Some, Result, Ok, Err, ⊤, OnOk, flat_map, slice_get}
+use Rattle.csv.specs.{Records.Row, Records.fields_of, Records.partial_of, declared.writer.Writer.Writer}
+use Rattle.rv_diagram.specs.{Nodes.node_at, declared.Triple.Triple}
 use Rattle.rv_flat.specs.declared.flat.Flat.{Flat}
 use Rattle.rv_control.specs.Control.{control_of}
-use Rattle.rv_proofs.specs.Ranges.{IsInRange}
-use Rattle.rv_proofs.specs.declared.certificate.Certificate.{Certificate}
-use Rattle.rv_invfile.specs.Rules.{Fields}
-use Rattle.rv_invfile.specs.Writes.{Adds}
-use Rattle.rv_invariant.specs.Certificates.{FitsCertificate, IsWithoutLoops}
-use Rattle.rv_invariant.specs.Writes.{AllHeld, HasFields, Extends}
+use Rattle.rv_proofs.specs.{Ranges.IsInRange, declared.certificate.Certificate.Certificate}
+use Rattle.rv_invfile.specs.{Rules.Fields, Writes.Adds}
+use Rattle.rv_invariant.specs.{Certificates.FitsCertificate, Certificates.IsWithoutLoops, Writes.AllHeld, Writes.HasFields, Writes.Extends}
 
 -- ---- What a list gives, element by element.
 module _ {A B : Type 0} (one : A → List B) (all : List A → List B) (nil : all [] ≡ []) (cons : (x : A) (xs : List A) → all (x ∷ xs) ≡ one x ++ all xs) where

@@ -1,18 +1,12 @@
 -- The texts of numbers that are not too great, and of children.
 use Rattle.std.proofs.Common.{◌≡◌, ◌+◌, ◌-◌, ◌^◌, ◌<◌, ◌≤◌, ℕ, Bool, true, false, List, length, refl, sym, ap, ◌∙◌, arith}
+use Rattle.std.proofs.lemmas.Bool.{ltb-false, false_from_ne_true}
 use Rattle.std.specs.Prelude.{◌&&◌, ◌||◌, nat_lt, decimal}
-use Rattle.std.proofs.lemmas.Bool.{ltb-false}
-use Rattle.rv_diagram.specs.Nodes.{node_at}
-use Rattle.rv_diagram.specs.declared.Triple.{Triple}
-use Rattle.rv_invfile.specs.Rules.{Fields}
-use Rattle.rv_invfile.specs.Forms.{field}
-use Rattle.rv_invfile.specs.Texts.{natural}
+use Rattle.rv_diagram.specs.{Nodes.node_at, declared.Triple.Triple}
+use Rattle.rv_invfile.specs.{Rules.Fields, Forms.field, Texts.natural}
 use Rattle.rv_invfile.proofs.Decimals.{natural-is}
-use Rattle.rv_invariant.specs.Groups.{upto}
-use Rattle.rv_invariant.specs.Pieces.{is_below, is_child, triple_at, variable_at}
-use Rattle.rv_invariant.proofs.Spelling.{below-told, below-right}
-use Rattle.rv_invariant.proofs.Upto.{upto-at}
-use Rattle.std.proofs.lemmas.Bool.{false_from_ne_true}
+use Rattle.rv_invariant.specs.{Groups.upto, Pieces.is_below, Pieces.is_child, Pieces.triple_at, Pieces.variable_at}
+use Rattle.rv_invariant.proofs.{Spelling.below-told, Spelling.below-right, Upto.upto-at}
 
 module _ (limit : ℕ) (text : List ℕ) (n : ℕ) (is : text ≡ decimal n) (small : n < 2 ^ 64) where
   pub too-great : limit ≤ n → is_below limit text ≡ false

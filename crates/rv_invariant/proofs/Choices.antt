@@ -2,16 +2,12 @@
 use Rattle.std.proofs.Common.{◌≡◌, ◌+◌, ℕ, zero, suc, Bool, true, false, cond, List, [], ◌∷◌, ◌++◌, refl, sym, ap, ◌∙◌, subst, inl, inr}
 use Rattle.std.specs.Prelude.{◌⊎◌, Option, Some, None, Result, Ok, Err, is_some}
 use Rattle.rv_proofs.specs.declared.certificate.Certificate.{Certificate}
-use Rattle.rv_invfile.specs.declared.fault.Why.{Why}
+use Rattle.rv_invfile.specs.{declared.fault.Why.Why, declared.fault.FileFault.FileFault, Rules.Fields, Rules.Form, Rules.Rule, Rules.await, Rules.form_of}
+use Rattle.rv_invfile.specs.{Rules.fault_in, Rules.fault_by, Rules.is_plain, Readers.Ahead, Readers.◌>>=◌, Readers.Reading, Readers.Reads, Readers.judged}
+use Rattle.rv_invfile.specs.{Readers.run, Readers.take_in, Parts.bind, Parts.either, Parts.turns, Parts.sees, Parts.sees_in, Ahead.first, Ahead.here}
 use Rattle.rv_invfile.specs.declared.fault.Why.TheVariants as why
-use Rattle.rv_invfile.specs.declared.fault.FileFault.{FileFault}
 use Rattle.rv_invfile.specs.declared.fault.FileFault.TheVariants as fault
-use Rattle.rv_invfile.specs.Rules.{Fields, Form, Rule, await, form_of, fault_in, fault_by, is_plain}
-use Rattle.rv_invfile.specs.Readers.{Ahead, ◌>>=◌, Reading, Reads, judged, run, take_in}
-use Rattle.rv_invfile.specs.Parts.{bind, either, turns, sees, sees_in}
-use Rattle.rv_invfile.specs.Ahead.{first, here}
-use Rattle.rv_invfile.proofs.Bound.{run_bind, bind_ok, bind_err}
-use Rattle.rv_invfile.proofs.OneRecord.{stops, stops_with, forgets}
+use Rattle.rv_invfile.proofs.{Bound.run_bind, Bound.bind_ok, Bound.bind_err, OneRecord.stops, OneRecord.stops_with, OneRecord.forgets}
 use Rattle.rv_invariant.specs.Continues.{Known, Then, Waits, AllWait, Continues}
 
 pub form-left : (fs gs : List Form) (r : Fields) (f : Form) → form_of fs r ≡ Some f → form_of (fs ++ gs) r ≡ Some f

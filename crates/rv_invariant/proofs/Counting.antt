@@ -1,18 +1,12 @@
 -- The numbers of a flat system, counted.
 use Rattle.std.proofs.Common.{◌≡◌, ◌+◌, ◌≤◌, ℕ, Bool, true, false, cond, List, [], ◌∷◌, length, map, refl, sym, ◌∙◌, arith}
+use Rattle.std.proofs.{lemmas.List.length-map, lemmas.List.Sums.count_by-le-length, lemmas.List.Recursion.is_count_by}
 use Rattle.std.specs.List.{count_by}
-use Rattle.std.proofs.lemmas.List.{length-map}
-use Rattle.std.proofs.lemmas.List.Sums.{count_by-le-length}
-use Rattle.std.proofs.lemmas.List.Recursion.{is_count_by}
 use Rattle.rv_types.specs.Variables.{is_integer}
 use Rattle.rv_agreement.specs.Valuations.{whole_count}
-use Rattle.rv_flat.specs.Facts.{integers}
-use Rattle.rv_flat.specs.Lists.{variable_of}
-use Rattle.rv_flat.specs.Systems.{kept_of}
-use Rattle.rv_flat.specs.declared.flat.Flat.{Flat}
-use Rattle.rv_flat.specs.declared.parts.Bit.{Bit}
+use Rattle.rv_flat.specs.{Facts.integers, Lists.variable_of, Systems.kept_of, declared.flat.Flat.Flat, declared.parts.Bit.Bit}
+use Rattle.rv_flat.specs.{declared.parts.FlatMemory.FlatMemory}
 use Rattle.rv_flat.specs.declared.parts.Bit.TheVariants as bit
-use Rattle.rv_flat.specs.declared.parts.FlatMemory.{FlatMemory}
 use Rattle.rv_control.specs.Control.{order_tests, state_bits}
 use Rattle.rv_invariant.specs.Shapes.{is_next, is_test, shape}
 

@@ -1,61 +1,41 @@
 -- A certificate that has the counts and ranges of a document is read from the records that are written for it.
 use Rattle.std.proofs.Common.{◌≡◌, ◌+◌, ◌%◌, ◌^◌, ◌<◌, ◌≤◌, ℕ, zero, suc, Bool, true, false, cond, List, [], ◌∷◌, ◌++◌, length, map, refl, sym, ap, ◌∙◌, subst}
 use Rattle.std.proofs.Common.{arith, append_assoc, eqb}
-use Rattle.std.specs.Prelude.{◌&&◌, ◌-◌, option_map, nat_eq, nat_le, Option, Some, None, is_some, slice_get, replicate, codes, decimal, flat_map, ⊤}
-use Rattle.std.specs.Str.{bytes_eq}
-use Rattle.std.specs.List.{AllByRecursion, list_all}
 use Rattle.std.proofs.lemmas.Bool.{eqb-true, eqb-false}
 use Rattle.std.proofs.lemmas.List.{append-nil, length_push, get_or-set_same, get_or-set_other, length-set, length-map, length-replicate}
+use Rattle.std.specs.Prelude.{◌&&◌, ◌-◌, option_map, nat_eq, nat_le, Option, Some, None, is_some, slice_get, replicate, codes, decimal, flat_map, ⊤}
+use Rattle.std.specs.{Str.bytes_eq, List.AllByRecursion, List.list_all}
 use Rattle.rv_diagram.specs.declared.frozen.Frozen.{Frozen}
-use Rattle.rv_rows.specs.declared.linear.Row.{Row}
-use Rattle.rv_rows.specs.declared.farkas.Multipliers.{Multipliers}
-use Rattle.rv_flat.specs.declared.flat.Flat.{Flat}
-use Rattle.rv_flat.specs.declared.parts.Bit.{Bit}
+use Rattle.rv_rows.specs.{declared.linear.Row.Row, declared.farkas.Multipliers.Multipliers}
+use Rattle.rv_flat.specs.{declared.flat.Flat.Flat, declared.parts.Bit.Bit, declared.parts.Column.Column, declared.parts.FlatInput.FlatInput}
+use Rattle.rv_flat.specs.{declared.parts.Side.Side, Lists.variable_of}
 use Rattle.rv_flat.specs.declared.parts.Bit.TheVariants as bit
-use Rattle.rv_flat.specs.declared.parts.Column.{Column}
 use Rattle.rv_flat.specs.declared.parts.Column.TheVariants as column
-use Rattle.rv_flat.specs.declared.parts.FlatInput.{FlatInput}
-use Rattle.rv_flat.specs.declared.parts.Side.{Side}
 use Rattle.rv_flat.specs.declared.parts.Side.TheVariants as side
-use Rattle.rv_flat.specs.Lists.{variable_of}
 use Rattle.rv_tree.specs.Words.{is_name}
-use Rattle.rv_proofs.specs.declared.certificate.Certificate.{Certificate}
-use Rattle.rv_proofs.specs.declared.certificate.Location.{Location}
-use Rattle.rv_proofs.specs.declared.certificate.Entry.{Entry}
-use Rattle.rv_proofs.specs.declared.certificate.EntryKind.{EntryKind}
 use Rattle.rv_proofs.specs.declared.certificate.EntryKind.TheVariants.{Dead, Go, Loop}
+use Rattle.rv_proofs.specs.{declared.certificate.Certificate.Certificate, declared.certificate.Location.Location, declared.certificate.Entry.Entry}
+use Rattle.rv_proofs.specs.{declared.certificate.EntryKind.EntryKind}
 use Rattle.rv_invfile.specs.declared.fault.Why.TheVariants as why
 use Rattle.rv_invfile.specs.Rules.{Fields, Form, Rule, done, await, form_of, fault_in, fault_by, is_plain, IsDocument}
-use Rattle.rv_invfile.specs.Parts.{bind, times, either, turns}
-use Rattle.rv_invfile.specs.Forms.{word_of, counts, exactly, names}
-use Rattle.rv_invfile.specs.Spells.{Spells}
-use Rattle.rv_invfile.specs.Texts.{dotted}
-use Rattle.rv_invfile.specs.Told.{IsTold}
-use Rattle.rv_invfile.proofs.Decimals.{natural-is}
+use Rattle.rv_invfile.specs.{Parts.bind, Parts.times, Parts.either, Parts.turns, Forms.word_of, Forms.counts, Forms.exactly, Forms.names, Spells.Spells}
+use Rattle.rv_invfile.specs.{Texts.dotted, Told.IsTold}
 use Rattle.rv_invfile.proofs.ReadBack.{is_plain_text, decimal-plain, dotted-plain, name-plain, pair-plain, exactly-right, names-right, lists-right}
 use Rattle.rv_invfile.proofs.ReadBack.{counts-right}
-use Rattle.rv_invfile.proofs.Spelled.{parts-bind, spells-document}
-use Rattle.rv_invariant.specs.declared.counts.Shape.{Shape}
-use Rattle.rv_invariant.specs.declared.fronts.Front.{Front}
-use Rattle.rv_invariant.specs.declared.fronts.Lists.{Lists}
+use Rattle.rv_invfile.proofs.{Decimals.natural-is, Spelled.parts-bind, Spelled.spells-document, Written.number-is}
 use Rattle.rv_invariant.specs.Continues.{Known, Then}
 use Rattle.rv_invariant.specs.Naming.{bit_text, bit_texts, column_text, column_texts, name_at, side_text}
-use Rattle.rv_invariant.specs.Groups.{is_grouped}
-use Rattle.rv_invariant.specs.Shapes.{shape}
 use Rattle.rv_invariant.specs.Pieces.{a_diagram, a_list, a_proof, by_form, by_record, diagram_record, list_records, multipliers_of}
 use Rattle.rv_invariant.specs.Certificates.{known_at, learn, low_of, high_of, after_entry, row_lists, after_proofs, after_lists, after_control, front_rule}
 use Rattle.rv_invariant.specs.Certificates.{going, reach_rule, go_entry, dead_entry, go_rule, entry_rule, entry_forms, entries_rule, location_of, after_front}
 use Rattle.rv_invariant.specs.Certificates.{location_rule, locations_rule, first_record, last_record, kind_records, entry_records, location_records}
 use Rattle.rv_invariant.specs.Certificates.{cases_records, certificate_records, bits_rule, columns_rule, head_rule, all_locations, certificate_rule}
-use Rattle.rv_invariant.proofs.Choices.{form-left, form-right}
-use Rattle.rv_invariant.proofs.Going.{entries-none, entries-suc, locations-none, locations-suc}
-use Rattle.rv_invariant.proofs.Counting.{few-tests, tests-count}
+use Rattle.rv_invariant.specs.{declared.counts.Shape.Shape, declared.fronts.Front.Front, declared.fronts.Lists.Lists, Groups.is_grouped, Shapes.shape}
 use Rattle.rv_invariant.proofs.Knowing.{Tells, Sound, Follows, KindFits, EntryFits, LocationFits, AllLocated, row_records, row-records-more, front_records}
 use Rattle.rv_invariant.proofs.Knowing.{front-records-more}
-use Rattle.rv_invariant.proofs.Ranging.{SetFits, KeptRow, ProofFits}
-use Rattle.rv_invariant.proofs.Spelling.{below-right, times-right}
-use Rattle.rv_invariant.proofs.Standing.{by-kind, diagram-right, proof-right, list-right}
-use Rattle.rv_invfile.proofs.Written.{number-is}
+use Rattle.rv_invariant.proofs.{Choices.form-left, Choices.form-right, Going.entries-none, Going.entries-suc, Going.locations-none, Going.locations-suc}
+use Rattle.rv_invariant.proofs.{Counting.few-tests, Counting.tests-count, Ranging.SetFits, Ranging.KeptRow, Ranging.ProofFits, Spelling.below-right}
+use Rattle.rv_invariant.proofs.{Spelling.times-right, Standing.by-kind, Standing.diagram-right, Standing.proof-right, Standing.list-right}
 use Rattle.rv_base.proofs.Truths.{both_of}
 
 -- ---- Turns.

@@ -1,40 +1,28 @@
 -- A certificate that has a document has the counts and ranges of one.
 use Rattle.std.proofs.Common.{◌++◌, ◌≡◌, ◌+◌, ◌*◌, ◌/◌, ◌%◌, ◌^◌, ◌<◌, ◌≤◌, ℕ, zero, suc, Bool, true, false, List, [], ◌∷◌, length, get_or, refl, sym, ap, ◌∙◌}
 use Rattle.std.proofs.Common.{subst, arith}
+use Rattle.std.proofs.lemmas.Bool.{eqb-true, leb-true, ltb-true, ltb-false}
+use Rattle.std.proofs.{lemmas.List.length-replicate, lemmas.List.get_or-replicate, lemmas.List.get_or_past, lemmas.Option.slice_get-get_or}
 use Rattle.std.specs.Prelude.{flat_map, decimal, ◌||◌, nat_eq, nat_le, nat_lt, pos, Option, Some, None, slice_get, replicate, codes}
 use Rattle.std.specs.List.{All, AllByRecursion}
-use Rattle.std.proofs.lemmas.Bool.{eqb-true, leb-true, ltb-true, ltb-false}
-use Rattle.std.proofs.lemmas.List.{length-replicate, get_or-replicate, get_or_past}
-use Rattle.std.proofs.lemmas.Option.{slice_get-get_or}
-use Rattle.rv_diagram.specs.Nodes.{node_at}
-use Rattle.rv_diagram.specs.declared.frozen.Frozen.{Frozen}
-use Rattle.rv_rows.specs.declared.linear.Row.{Row}
-use Rattle.rv_rows.specs.declared.farkas.Multipliers.{Multipliers}
+use Rattle.rv_diagram.specs.{Nodes.node_at, declared.frozen.Frozen.Frozen}
+use Rattle.rv_rows.specs.{declared.linear.Row.Row, declared.farkas.Multipliers.Multipliers}
 use Rattle.rv_flat.specs.declared.flat.Flat.{Flat}
 use Rattle.rv_control.specs.Control.{control_of}
-use Rattle.rv_proofs.specs.Systems.{System, IsState}
 use Rattle.rv_proofs.specs.Scopes.{Implication, refutation, after, each, implications, rows_into}
 use Rattle.rv_proofs.specs.Counts.{IsLoopKind, HasLoop, HasKindCounts, HasLocationCounts, HasFree}
 use Rattle.rv_proofs.specs.Ranges.{AreKept, IsRecord, HasDivisor, IsControlSet, IsCondition, IsLocationInRange}
-use Rattle.rv_proofs.specs.declared.certificate.Certificate.{Certificate}
-use Rattle.rv_proofs.specs.declared.certificate.Location.{Location}
-use Rattle.rv_proofs.specs.declared.certificate.Entry.{Entry}
-use Rattle.rv_proofs.specs.declared.certificate.EntryKind.{EntryKind}
 use Rattle.rv_proofs.specs.declared.certificate.EntryKind.TheVariants.{Dead, Go, Loop}
-use Rattle.rv_invfile.specs.Rules.{Fields, IsDocument}
-use Rattle.rv_invfile.specs.Parts.{bind}
-use Rattle.rv_invfile.specs.Forms.{exactly, names, counts}
-use Rattle.rv_invfile.specs.Spells.{Spells}
+use Rattle.rv_proofs.specs.{Systems.System, Systems.IsState, declared.certificate.Certificate.Certificate, declared.certificate.Location.Location}
+use Rattle.rv_proofs.specs.{declared.certificate.Entry.Entry, declared.certificate.EntryKind.EntryKind}
+use Rattle.rv_invfile.specs.{Rules.Fields, Rules.IsDocument, Parts.bind, Forms.exactly, Forms.names, Forms.counts, Spells.Spells}
 use Rattle.rv_invfile.proofs.Spelled.{document-spells, bind-parts}
 use Rattle.rv_invfile.proofs.Written.{counts-written, exactly-written, names-written, lists-written, number-is}
-use Rattle.rv_invariant.specs.Continues.{Known}
-use Rattle.rv_invariant.specs.Shapes.{shape, shape_of, is_state}
-use Rattle.rv_invariant.specs.Naming.{bit_texts, column_texts}
 use Rattle.rv_invariant.specs.Certificates.{first_record, last_record, location_records, certificate_records, IsPlainLocation, FitsCertificate, bits_rule}
 use Rattle.rv_invariant.specs.Certificates.{columns_rule, head_rule, all_locations, certificate_rule}
+use Rattle.rv_invariant.specs.{Continues.Known, Shapes.shape, Shapes.shape_of, Shapes.is_state, Naming.bit_texts, Naming.column_texts}
 use Rattle.rv_invariant.proofs.Knowing.{KindFits, EntryFits, LocationFits, AllLocated, Sound, all-located, all-map}
-use Rattle.rv_invariant.proofs.Ranging.{SetFits, KeptRow, ProofFits, is-record}
-use Rattle.rv_invariant.proofs.Spelling.{all-of}
+use Rattle.rv_invariant.proofs.{Ranging.SetFits, Ranging.KeptRow, Ranging.ProofFits, Ranging.is-record, Spelling.all-of}
 use Rattle.rv_base.proofs.Truths.{both_of}
 
 all-at : {A : Type 0} (P : A → Type 0) (xs : List A) (j : ℕ) (x : A) → AllByRecursion P xs → slice_get xs j ≡ Some x → P x

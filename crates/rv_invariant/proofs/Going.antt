@@ -1,29 +1,21 @@
 -- Entries and locations, one after the other.
 use Rattle.std.proofs.Common.{◌≡◌, ◌+◌, ◌-◌, ℕ, zero, suc, Bool, true, false, cond, List, [], ◌∷◌, ◌++◌, length, refl, sym, ap, ◌∙◌, arith}
+use Rattle.std.proofs.lemmas.Bool.{false_from_ne_true}
 use Rattle.std.specs.Prelude.{◌&&◌, ◌≤◌, Option, Some, None, Ok, Err, replicate, codes, nat_eq, slice_get, ⊤}
 use Rattle.std.specs.Str.{bytes_eq}
-use Rattle.rv_proofs.specs.declared.certificate.Certificate.{Certificate}
-use Rattle.rv_proofs.specs.declared.certificate.Entry.{Entry}
-use Rattle.rv_proofs.specs.declared.certificate.Location.{Location}
+use Rattle.rv_proofs.specs.{declared.certificate.Certificate.Certificate, declared.certificate.Entry.Entry, declared.certificate.Location.Location}
 use Rattle.rv_diagram.specs.declared.frozen.Frozen.{Frozen}
-use Rattle.rv_invfile.specs.declared.fault.FileFault.{FileFault}
+use Rattle.rv_invfile.specs.{declared.fault.FileFault.FileFault, Rules.Fields, Rules.Form, Rules.Rule, Rules.done, Rules.await, Rules.fault_in, Rules.fault_by}
+use Rattle.rv_invfile.specs.{Rules.is_plain, Readers.Ahead, Readers.◌>>=◌, Readers.Reading, Readers.Reads, Readers.judged, Readers.run, Readers.take_in}
+use Rattle.rv_invfile.specs.{Ahead.first, Ahead.here, Forms.field, Forms.fixed, Forms.word_of, Forms.exactly, Texts.natural, Texts.same_fields, Parts.bind}
 use Rattle.rv_invfile.specs.declared.fault.Why.TheVariants as why
-use Rattle.rv_invfile.specs.Rules.{Fields, Form, Rule, done, await, fault_in, fault_by, is_plain}
-use Rattle.rv_invfile.specs.Readers.{Ahead, ◌>>=◌, Reading, Reads, judged, run, take_in}
-use Rattle.rv_invfile.specs.Ahead.{first, here}
-use Rattle.rv_invfile.specs.Forms.{field, fixed, word_of, exactly}
-use Rattle.rv_invfile.specs.Texts.{natural, same_fields}
-use Rattle.rv_invfile.specs.Parts.{bind}
-use Rattle.rv_invfile.proofs.Decimals.{bytes-same}
-use Rattle.rv_invariant.specs.declared.counts.Shape.{Shape}
-use Rattle.rv_invariant.proofs.Choices.{chain-ok, chain-stops, then-here}
+use Rattle.rv_invfile.proofs.{Decimals.bytes-same, Bound.bind_ok}
 use Rattle.rv_invariant.specs.Continues.{Known, Then, Waits, AllWait}
-use Rattle.rv_invfile.proofs.Bound.{bind_ok}
-use Rattle.rv_invariant.specs.Pieces.{a_diagram, a_proof}
 use Rattle.rv_invariant.specs.Certificates.{a_target, reach_rule, known_at, go_entry, dead_entry, entries_rule, entry_rule, entry_forms, going, go_rule}
 use Rattle.rv_invariant.specs.Certificates.{dead_rule, whole_go, whole_dead, location_rule, locations_rule, last_record}
+use Rattle.rv_invariant.specs.{declared.counts.Shape.Shape, Pieces.a_diagram, Pieces.a_proof}
+use Rattle.rv_invariant.proofs.Choices.{chain-ok, chain-stops, then-here}
 use Rattle.rv_base.proofs.Truths.{and_first}
-use Rattle.std.proofs.lemmas.Bool.{false_from_ne_true}
 
 module _ (s : Shape) (n state : ℕ) where
   pub entries-none : (before : List Entry) (next : Then (List Entry)) (known : Known) → entries_rule s n state zero before next known ≡ next before known

@@ -1,17 +1,12 @@
 -- Records of groups of fields: which field is the first wrong one.
 use Rattle.std.proofs.Common.{◌≡◌, ◌+◌, ◌-◌, ◌*◌, ◌/◌, ◌%◌, ◌<◌, ◌≤◌, ℕ, zero, suc, Bool, true, false, cond, List, [], ◌∷◌, length, refl, sym, ap, ◌∙◌, arith}
-use Rattle.std.specs.Prelude.{◌&&◌, ◌||◌, nat_eq, nat_le, nat_lt, Some, None, Err}
-use Rattle.std.specs.Str.{bytes_eq}
 use Rattle.std.proofs.lemmas.Bool.{eqb-true, leb-true, ltb-true, ltb-false, ne_eqb}
-use Rattle.rv_invfile.specs.declared.fault.FileFault.{FileFault}
-use Rattle.rv_invfile.specs.declared.fault.FileFault.TheVariants as fault
+use Rattle.std.specs.{Prelude.◌&&◌, Prelude.◌||◌, Prelude.nat_eq, Prelude.nat_le, Prelude.nat_lt, Prelude.Some, Prelude.None, Prelude.Err, Str.bytes_eq}
 use Rattle.rv_invfile.specs.Rules.{Fields, Form, done, await, first_bad, is_plain}
-use Rattle.rv_invfile.specs.Readers.{Ahead, ◌>>=◌, Reading, Reads, run}
-use Rattle.rv_invfile.proofs.OneRecord.{bad_field}
-use Rattle.rv_invfile.specs.Ahead.{here, first, kind_fault, kind_fault_in, ReadsFields}
-use Rattle.rv_invfile.specs.Forms.{word_of}
-use Rattle.rv_invfile.proofs.Decimals.{bytes-same}
-use Rattle.rv_invfile.proofs.Instants.{none-bad, one-bad}
+use Rattle.rv_invfile.specs.{declared.fault.FileFault.FileFault, Readers.Ahead, Readers.◌>>=◌, Readers.Reading, Readers.Reads, Readers.run, Ahead.here}
+use Rattle.rv_invfile.specs.{Ahead.first, Ahead.kind_fault, Ahead.kind_fault_in, Ahead.ReadsFields, Forms.word_of}
+use Rattle.rv_invfile.specs.declared.fault.FileFault.TheVariants as fault
+use Rattle.rv_invfile.proofs.{OneRecord.bad_field, Decimals.bytes-same, Instants.none-bad, Instants.one-bad}
 use Rattle.rv_invariant.specs.Groups.{is_grouped, grouped, groups_right, in_group}
 use Rattle.rv_invariant.specs.Judging.{IsFirstWrong, AreRight, ReadsGroup, ReadsGroups}
 use Rattle.rv_base.proofs.Truths.{both_of}

@@ -1,40 +1,29 @@
 -- What is known of entry rows as records are read, and that what is read is in range with it.
 use Rattle.std.proofs.Common.{append_assoc, ◌≡◌, ◌+◌, ◌^◌, ◌<◌, ◌≤◌, ℕ, zero, suc, Bool, true, false, cond, List, [], ◌∷◌, ◌++◌, length, refl, sym, ap, ◌∙◌}
 use Rattle.std.proofs.Common.{subst, arith, inl, inr, eqb}
-use Rattle.std.specs.Prelude.{◌&&◌, nat_eq, map, flat_map, decimal, ◌⊎◌, Option, Some, None, slice_get, codes, is_some}
-use Rattle.std.specs.Str.{bytes_eq}
-use Rattle.std.specs.List.{AllByRecursion}
 use Rattle.std.proofs.lemmas.Bool.{eqb-true, eqb-false}
 use Rattle.std.proofs.lemmas.List.{get_or-set_same, get_or-set_other, length-set, length_push, append-nil}
-use Rattle.rv_rows.specs.declared.linear.Row.{Row}
-use Rattle.rv_rows.specs.declared.farkas.Multipliers.{Multipliers}
-use Rattle.rv_proofs.specs.declared.certificate.Certificate.{Certificate}
-use Rattle.rv_proofs.specs.declared.certificate.Location.{Location}
-use Rattle.rv_proofs.specs.declared.certificate.Entry.{Entry}
-use Rattle.rv_proofs.specs.declared.certificate.EntryKind.{EntryKind}
+use Rattle.std.specs.Prelude.{◌&&◌, nat_eq, map, flat_map, decimal, ◌⊎◌, Option, Some, None, slice_get, codes, is_some}
+use Rattle.std.specs.{Str.bytes_eq, List.AllByRecursion}
+use Rattle.rv_rows.specs.{declared.linear.Row.Row, declared.farkas.Multipliers.Multipliers}
 use Rattle.rv_proofs.specs.declared.certificate.EntryKind.TheVariants.{Dead, Go, Loop}
+use Rattle.rv_proofs.specs.{declared.certificate.Certificate.Certificate, declared.certificate.Location.Location, declared.certificate.Entry.Entry}
+use Rattle.rv_proofs.specs.{declared.certificate.EntryKind.EntryKind}
 use Rattle.rv_invfile.specs.declared.fault.Why.TheVariants as why
 use Rattle.rv_invfile.specs.Rules.{Fields, Form, Rule, done, await, form_of, fault_in, fault_by, is_plain}
-use Rattle.rv_invfile.specs.Parts.{bind, times, either, turns}
 use Rattle.rv_invfile.specs.Forms.{field, fixed, word_of, counts, exactly}
-use Rattle.rv_invfile.specs.Spells.{Spells}
-use Rattle.rv_invfile.specs.Texts.{natural, same_fields}
-use Rattle.rv_invfile.proofs.SameFields.{row-same}
-use Rattle.rv_invfile.proofs.Spelled.{bind-parts}
+use Rattle.rv_invfile.specs.{Parts.bind, Parts.times, Parts.either, Parts.turns, Spells.Spells, Texts.natural, Texts.same_fields}
 use Rattle.rv_invfile.proofs.Written.{right-record, counts-written, exactly-written, worded, number-is, two-fields}
-use Rattle.rv_invariant.specs.declared.counts.Shape.{Shape}
-use Rattle.rv_invariant.specs.declared.fronts.Front.{Front}
-use Rattle.rv_invariant.specs.declared.fronts.Lists.{Lists}
-use Rattle.rv_invariant.specs.Continues.{Known, Then}
+use Rattle.rv_invfile.proofs.{SameFields.row-same, Spelled.bind-parts}
 use Rattle.rv_invariant.specs.Pieces.{a_diagram, a_list, a_proof, a_row, by_form, by_record, diagram_record, list_records, multipliers_of, row_record}
 use Rattle.rv_invariant.specs.Certificates.{known_at, learn, low_of, high_of, after_entry, row_lists, after_proofs, after_lists, after_control, front_rule}
 use Rattle.rv_invariant.specs.Certificates.{going, reach_rule, go_entry, dead_entry, go_rule, dead_rule, entry_rule, entry_forms, entries_rule, location_of}
 use Rattle.rv_invariant.specs.Certificates.{after_front, location_rule, locations_rule, last_record, entry_records, location_records, cases_records}
-use Rattle.rv_invariant.proofs.Choices.{form-left, form-right}
+use Rattle.rv_invariant.specs.{declared.counts.Shape.Shape, declared.fronts.Front.Front, declared.fronts.Lists.Lists, Continues.Known, Continues.Then}
 use Rattle.rv_invariant.proofs.Going.{entries-none, entries-suc, locations-none, locations-suc, not-dead, go-form}
 use Rattle.rv_invariant.proofs.Recorded.{diagram-written, proof-written, row-written}
 use Rattle.rv_invariant.proofs.Ranging.{SetFits, KeptRow, ProofFits, diagram-fits, list-fits, proof-fits, row-fits, times-all}
-use Rattle.rv_invariant.proofs.Spelling.{below-told, times-written}
+use Rattle.rv_invariant.proofs.{Choices.form-left, Choices.form-right, Spelling.below-told, Spelling.times-written}
 
 -- ---- What stands before the entries.
 pub record FrontFits (s : Shape) (low high : ℕ) (front : Front) : Type 0 where

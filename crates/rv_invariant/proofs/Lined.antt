@@ -1,33 +1,21 @@
 -- The texts of a certificate have no byte that a writer of records sets apart, so each record is written as its line.
 use Rattle.std.proofs.Common.{◌≡◌, ◌<◌, ℕ, zero, suc, true, false, List, [], ◌∷◌, ◌++◌, length, map, refl, ap, ◌∙◌, arith}
-use Rattle.std.specs.Prelude.{◌||◌, ⊤, ℤ, codes, decimal, flat_map, if◌then◌else◌}
-use Rattle.std.specs.Fmt.{signed_decimal}
-use Rattle.std.specs.List.{list_all, list_any}
 use Rattle.std.proofs.lemmas.List.Folds.{list_any-append}
+use Rattle.std.specs.Prelude.{◌||◌, ⊤, ℤ, codes, decimal, flat_map, if◌then◌else◌}
+use Rattle.std.specs.{Fmt.signed_decimal, List.list_all, List.list_any}
 use Rattle.csv.specs.Writing.{default_writer, field_text, fields_text, needs_byte, by_style, quoted, row_text}
 use Rattle.csv.specs.declared.writer.QuoteStyle.TheVariants as style
 use Rattle.csv.proofs.RoundTrip.{rows_text}
-use Rattle.rv_flat.specs.declared.flat.Flat.{Flat}
-use Rattle.rv_flat.specs.declared.parts.Bit.{Bit}
+use Rattle.rv_flat.specs.{declared.flat.Flat.Flat, declared.parts.Bit.Bit, declared.parts.Column.Column, declared.parts.FlatInput.FlatInput}
 use Rattle.rv_flat.specs.declared.parts.Bit.TheVariants as bit
-use Rattle.rv_flat.specs.declared.parts.Column.{Column}
 use Rattle.rv_flat.specs.declared.parts.Column.TheVariants as column
-use Rattle.rv_flat.specs.declared.parts.FlatInput.{FlatInput}
 use Rattle.rv_flat.specs.declared.parts.Side.TheVariants as side
 use Rattle.rv_tree.specs.Words.{is_name}
-use Rattle.rv_rows.specs.declared.linear.Row.{Row}
-use Rattle.rv_rows.specs.declared.farkas.Weight.{Weight}
-use Rattle.rv_rows.specs.declared.farkas.Multipliers.{Multipliers}
-use Rattle.rv_diagram.specs.declared.Triple.{Triple}
-use Rattle.rv_diagram.specs.declared.frozen.Frozen.{Frozen}
-use Rattle.rv_proofs.specs.declared.certificate.Certificate.{Certificate}
-use Rattle.rv_proofs.specs.declared.certificate.Location.{Location}
-use Rattle.rv_proofs.specs.declared.certificate.EntryKind.{EntryKind}
+use Rattle.rv_rows.specs.{declared.linear.Row.Row, declared.farkas.Weight.Weight, declared.farkas.Multipliers.Multipliers}
+use Rattle.rv_diagram.specs.{declared.Triple.Triple, declared.frozen.Frozen.Frozen}
 use Rattle.rv_proofs.specs.declared.certificate.EntryKind.TheVariants.{Dead, Go, Loop}
-use Rattle.rv_invfile.specs.Rules.{Fields}
-use Rattle.rv_invfile.specs.Texts.{dotted}
-use Rattle.rv_invfile.specs.Told.{IsTold}
-use Rattle.rv_invfile.specs.Writes.{line, lines, more_fields, wide}
+use Rattle.rv_proofs.specs.{declared.certificate.Certificate.Certificate, declared.certificate.Location.Location, declared.certificate.EntryKind.EntryKind}
+use Rattle.rv_invfile.specs.{Rules.Fields, Texts.dotted, Told.IsTold, Writes.line, Writes.lines, Writes.more_fields, Writes.wide}
 use Rattle.rv_invfile.proofs.Lines.{wide-rows}
 use Rattle.rv_invfile.proofs.Sound.{name-sound, decimal-sound, dotted-sound, signed-sound, sound-quiet, not-blank}
 use Rattle.rv_invariant.specs.Naming.{name_at, bit_text, column_text, bit_texts, column_texts}

@@ -1,35 +1,24 @@
 -- A certificate that has the counts and ranges of a document has, location by location, what the rule of documents asks for.
 use Rattle.std.proofs.Common.{◌≡◌, ◌+◌, ◌*◌, ◌/◌, ◌%◌, ◌^◌, ◌<◌, ◌≤◌, ℕ, zero, suc, Bool, true, false, List, [], ◌∷◌, length, map, refl, sym, ap, ◌∙◌, subst}
 use Rattle.std.proofs.Common.{arith}
+use Rattle.std.proofs.lemmas.Bool.{lt-ltb, eq-eqb, eqb-false, leb-false}
+use Rattle.std.proofs.{lemmas.List.length-map, lemmas.Option.slice_get_within}
 use Rattle.std.specs.Prelude.{◌&&◌, ◌||◌, nat_eq, nat_le, pos, ◌≤ℤ◌, Option, Some, None, slice_get, option_map}
 use Rattle.std.specs.List.{AllByRecursion}
-use Rattle.std.proofs.lemmas.Bool.{lt-ltb, eq-eqb, eqb-false, leb-false}
-use Rattle.std.proofs.lemmas.List.{length-map}
-use Rattle.std.proofs.lemmas.Option.{slice_get_within}
-use Rattle.rv_diagram.specs.Nodes.{node_at}
-use Rattle.rv_diagram.specs.declared.frozen.Frozen.{Frozen}
-use Rattle.rv_rows.specs.declared.linear.Row.{Row}
-use Rattle.rv_rows.specs.declared.farkas.Multipliers.{Multipliers}
+use Rattle.rv_diagram.specs.{Nodes.node_at, declared.frozen.Frozen.Frozen}
+use Rattle.rv_rows.specs.{declared.linear.Row.Row, declared.farkas.Multipliers.Multipliers}
 use Rattle.rv_flat.specs.declared.flat.Flat.{Flat}
 use Rattle.rv_control.specs.Control.{control_of}
-use Rattle.rv_proofs.specs.Systems.{System, IsState}
 use Rattle.rv_proofs.specs.Scopes.{Implication, after, each, implications, rows_into}
-use Rattle.rv_proofs.specs.Counts.{IsLoopKind, HasKindCounts}
 use Rattle.rv_proofs.specs.Ranges.{IsRecord, HasDivisor, IsControlSet, IsCondition}
-use Rattle.rv_proofs.specs.declared.certificate.Certificate.{Certificate}
-use Rattle.rv_proofs.specs.declared.certificate.Location.{Location}
-use Rattle.rv_proofs.specs.declared.certificate.Entry.{Entry}
-use Rattle.rv_proofs.specs.declared.certificate.EntryKind.{EntryKind}
 use Rattle.rv_proofs.specs.declared.certificate.EntryKind.TheVariants.{Dead, Go, Loop}
-use Rattle.rv_invfile.specs.Rules.{IsDocument}
-use Rattle.rv_invfile.specs.Told.{IsTold}
+use Rattle.rv_proofs.specs.{Systems.System, Systems.IsState, Counts.IsLoopKind, Counts.HasKindCounts, declared.certificate.Certificate.Certificate}
+use Rattle.rv_proofs.specs.{declared.certificate.Location.Location, declared.certificate.Entry.Entry, declared.certificate.EntryKind.EntryKind}
+use Rattle.rv_invfile.specs.{Rules.IsDocument, Told.IsTold}
 use Rattle.rv_invariant.specs.Shapes.{shape, shape_of, is_state}
 use Rattle.rv_invariant.specs.Certificates.{known_at, certificate_records, certificate_rule, FitsCertificate, IsHeld}
-use Rattle.rv_invariant.proofs.Documented.{document-right}
-use Rattle.rv_invariant.proofs.Knowing.{KindFits, EntryFits, LocationFits, AllLocated, all-map}
-use Rattle.rv_invariant.proofs.Ranging.{SetFits, KeptRow, ProofFits}
-use Rattle.rv_invariant.proofs.Spelling.{each-of}
-use Rattle.rv_invariant.proofs.Standing.{positive-is, at-most}
+use Rattle.rv_invariant.proofs.{Documented.document-right, Knowing.KindFits, Knowing.EntryFits, Knowing.LocationFits, Knowing.AllLocated, Knowing.all-map}
+use Rattle.rv_invariant.proofs.{Ranging.SetFits, Ranging.KeptRow, Ranging.ProofFits, Spelling.each-of, Standing.positive-is, Standing.at-most}
 use Rattle.rv_invfile.proofs.Written.{number-is}
 
 -- ---- How many entry rows there are.

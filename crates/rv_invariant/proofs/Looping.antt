@@ -1,12 +1,10 @@
 -- Loops over the groups of a record: what was read so far, and that it was right.
 use Rattle.std.proofs.Common.{◌≡◌, ◌+◌, ◌*◌, ◌<◌, ℕ, zero, suc, Bool, true, false, List, [], ◌∷◌, ◌++◌, length, map, take, sym, ap, ◌∙◌, subst, arith}
-use Rattle.std.specs.Prelude.{Some, slice_get}
 use Rattle.std.proofs.lemmas.List.{length_push, map-append}
+use Rattle.std.specs.Prelude.{Some, slice_get}
 use Rattle.rv_invfile.specs.Rules.{Fields}
-use Rattle.rv_invariant.specs.Groups.{upto}
-use Rattle.rv_invariant.specs.Judging.{AreRight, IsWrong}
-use Rattle.rv_invariant.proofs.Grouping.{right-more, of-one, of-two}
-use Rattle.rv_invariant.proofs.Upto.{upto-more}
+use Rattle.rv_invariant.specs.{Groups.upto, Judging.AreRight, Judging.IsWrong}
+use Rattle.rv_invariant.proofs.{Grouping.right-more, Grouping.of-one, Grouping.of-two, Upto.upto-more}
 
 pub pushed-length : {A : Type 0} (xs new : List A) (x : A) → new ≡ xs ++ x ∷ [] → length new ≡ length xs + 1
 pushed-length xs new x e = ap length e ∙ length_push xs x

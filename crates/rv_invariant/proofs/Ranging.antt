@@ -1,41 +1,21 @@
 -- What single records of a certificate say is in range.
 use Rattle.std.proofs.Common.{◌≡◌, ◌+◌, ◌-◌, ◌*◌, ◌^◌, ◌<◌, ◌≤◌, ℕ, zero, suc, Bool, true, false, List, length, refl, sym, ap, ◌∙◌, subst, arith, eqb}
-use Rattle.std.specs.Prelude.{◌&&◌, ◌||◌, nat_le, nat_lt, pos, ◌≤ℤ◌, Some, slice_get, codes}
-use Rattle.std.specs.Str.{bytes_eq}
-use Rattle.std.specs.Fmt.{signed_decimal}
-use Rattle.std.specs.Int.RustNames.{unsigned_abs}
-use Rattle.std.specs.List.{All, AllByRecursion}
 use Rattle.std.proofs.lemmas.Bool.{eqb-true, eqb-false, leb-true, ltb-true, ltb-false}
-use Rattle.std.proofs.lemmas.Int.{ints}
-use Rattle.std.proofs.lemmas.Option.{slice_get_within, get_or_from_slice_get}
-use Rattle.rv_diagram.specs.Nodes.{node_at, IsFrom, IsOrderedOver}
-use Rattle.rv_diagram.specs.declared.Triple.{Triple}
-use Rattle.rv_diagram.specs.declared.frozen.Frozen.{Frozen}
-use Rattle.rv_rows.specs.Tight.{Fits}
-use Rattle.rv_rows.specs.declared.linear.Row.{Row}
-use Rattle.rv_rows.specs.declared.farkas.Weight.{Weight}
-use Rattle.rv_rows.specs.declared.farkas.Multipliers.{Multipliers}
+use Rattle.std.proofs.{lemmas.Int.ints, lemmas.Option.slice_get_within, lemmas.Option.get_or_from_slice_get}
+use Rattle.std.specs.Prelude.{◌&&◌, ◌||◌, nat_le, nat_lt, pos, ◌≤ℤ◌, Some, slice_get, codes}
+use Rattle.std.specs.{Str.bytes_eq, Fmt.signed_decimal, Int.RustNames.unsigned_abs, List.All, List.AllByRecursion}
+use Rattle.rv_diagram.specs.{Nodes.node_at, Nodes.IsFrom, Nodes.IsOrderedOver, declared.Triple.Triple, declared.frozen.Frozen.Frozen}
+use Rattle.rv_rows.specs.{Tight.Fits, declared.linear.Row.Row, declared.farkas.Weight.Weight, declared.farkas.Multipliers.Multipliers}
 use Rattle.rv_proofs.specs.Ranges.{IsRecord}
-use Rattle.rv_invfile.specs.Rules.{Fields, Rule}
-use Rattle.rv_invfile.specs.Parts.{times}
-use Rattle.rv_invfile.specs.Forms.{field, counts}
-use Rattle.rv_invfile.specs.Spells.{Spells}
-use Rattle.rv_invfile.specs.Texts.{natural, whole}
-use Rattle.rv_invfile.proofs.Decimals.{natural-told}
-use Rattle.rv_invfile.proofs.Loops.{times_more, times_none}
-use Rattle.rv_invfile.proofs.Spelled.{bind-parts}
+use Rattle.rv_invfile.specs.{Rules.Fields, Rules.Rule, Parts.times, Forms.field, Forms.counts, Spells.Spells, Texts.natural, Texts.whole}
 use Rattle.rv_invfile.proofs.Written.{Right, single, worded, counts-written, list-first}
-use Rattle.rv_invariant.specs.declared.counts.Shape.{Shape}
-use Rattle.rv_invariant.specs.Certificates.{IsHeld}
-use Rattle.rv_invariant.specs.Groups.{grouped, group_count, upto}
-use Rattle.rv_invariant.specs.Shapes.{may_stand}
+use Rattle.rv_invfile.proofs.{Decimals.natural-told, Loops.times_more, Loops.times_none, Spelled.bind-parts}
 use Rattle.rv_invariant.specs.Pieces.{a_diagram, a_list, a_proof, a_row, by_form, coefficient_at, diagram, frozen_of, is_below, is_child, is_divisor}
 use Rattle.rv_invariant.specs.Pieces.{is_node_field, is_pair_field, is_root, is_within, least_at, multipliers_of, row_form, row_of, triple_at, variable_at}
 use Rattle.rv_invariant.specs.Pieces.{weight_at}
+use Rattle.rv_invariant.specs.{declared.counts.Shape.Shape, Certificates.IsHeld, Groups.grouped, Groups.group_count, Groups.upto, Shapes.may_stand}
 use Rattle.rv_invariant.proofs.Grouping.{Width, two, three, grouped-is, at-group}
-use Rattle.rv_invariant.proofs.Rowing.{number-test}
-use Rattle.rv_invariant.proofs.Spelling.{below-told}
-use Rattle.rv_invariant.proofs.Upto.{upto-at, upto-length}
+use Rattle.rv_invariant.proofs.{Rowing.number-test, Spelling.below-told, Upto.upto-at, Upto.upto-length}
 use Rattle.rv_base.proofs.Truths.{both_of}
 
 -- ---- The fields of a record of groups.

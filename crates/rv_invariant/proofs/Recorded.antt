@@ -1,28 +1,17 @@
 -- Single records of a certificate are what they are written as.
 use Rattle.std.proofs.Common.{◌≡◌, ◌+◌, ◌-◌, ◌*◌, ◌^◌, ◌<◌, ℕ, zero, suc, Bool, true, List, [], ◌∷◌, length, map, get_or, refl, sym, ap, ◌∙◌, arith}
 use Rattle.std.specs.Prelude.{◌&&◌, ◌||◌, nat_le, nat_lt, ℤ, codes, decimal, flat_map}
-use Rattle.std.specs.Str.{bytes_eq}
-use Rattle.std.specs.Fmt.{signed_decimal}
-use Rattle.std.specs.Int.RustNames.{unsigned_abs}
+use Rattle.std.specs.{Str.bytes_eq, Fmt.signed_decimal, Int.RustNames.unsigned_abs}
 use Rattle.rv_diagram.specs.declared.frozen.Frozen.{Frozen}
-use Rattle.rv_rows.specs.declared.linear.Row.{Row}
-use Rattle.rv_rows.specs.declared.farkas.Multipliers.{Multipliers}
-use Rattle.rv_invfile.specs.Rules.{Fields}
-use Rattle.rv_invfile.specs.Forms.{field}
-use Rattle.rv_invfile.specs.Spells.{Spells}
-use Rattle.rv_invfile.specs.Texts.{natural, whole}
-use Rattle.rv_invfile.proofs.Decimals.{natural-told, bytes-same}
-use Rattle.rv_invfile.proofs.Written.{Right, single, worded}
-use Rattle.rv_invariant.specs.declared.counts.Shape.{Shape}
-use Rattle.rv_invariant.specs.Groups.{grouped, group_count, upto}
-use Rattle.rv_invariant.specs.Shapes.{may_stand}
+use Rattle.rv_rows.specs.{declared.linear.Row.Row, declared.farkas.Multipliers.Multipliers}
+use Rattle.rv_invfile.specs.{Rules.Fields, Forms.field, Spells.Spells, Texts.natural, Texts.whole}
+use Rattle.rv_invfile.proofs.{Decimals.natural-told, Decimals.bytes-same, Written.Right, Written.single, Written.worded}
 use Rattle.rv_invariant.specs.Pieces.{a_diagram, a_proof, a_row, by_form, coefficient_at, diagram, diagram_record, by_record, row_record, frozen_of, is_below}
 use Rattle.rv_invariant.specs.Pieces.{is_child, is_divisor, is_node_field, is_pair_field, is_root, is_within, least_at, multipliers_of, row_form, row_of}
 use Rattle.rv_invariant.specs.Pieces.{triple_at, triple_texts, variable_at, weight_at, weight_texts}
-use Rattle.rv_invariant.proofs.Grouping.{Width, two, three, grouped-is}
-use Rattle.rv_invariant.proofs.Ranging.{head-right, group-right}
-use Rattle.rv_invariant.proofs.Rowing.{number-test}
+use Rattle.rv_invariant.specs.{declared.counts.Shape.Shape, Groups.grouped, Groups.group_count, Groups.upto, Shapes.may_stand}
 use Rattle.rv_invariant.proofs.Spelling.{Grows, grows-two, grows-three, wide-triple, wide-weight, same-record, below-told}
+use Rattle.rv_invariant.proofs.{Grouping.Width, Grouping.two, Grouping.three, Grouping.grouped-is, Ranging.head-right, Ranging.group-right, Rowing.number-test}
 use Rattle.rv_base.proofs.Truths.{both_of}
 
 child-text : (r : Fields) (k : ℕ) (text : List ℕ) → is_child r k text ≡ true → text ≡ decimal (natural text)

@@ -1,18 +1,12 @@
 -- The fields of a row.
 use Rattle.std.proofs.Common.{◌≡◌, ◌+◌, ◌^◌, ◌<◌, ◌≤◌, ◌∙◌, ℕ, zero, suc, true, false, cond, List, length, refl, arith, ap, subst, below_more}
-use Rattle.std.specs.Prelude.{◌||◌, nat_eq, nat_le, ℤ, Some, None, FitsSigned}
-use Rattle.std.specs.Fmt.{signed_decimal}
-use Rattle.std.specs.Int.{w128}
-use Rattle.std.specs.Int.RustNames.{unsigned_abs}
-use Rattle.std.specs.Str.{bytes_eq}
 use Rattle.std.proofs.lemmas.Bool.{leb-true, ne_eqb}
+use Rattle.std.specs.Prelude.{◌||◌, nat_eq, nat_le, ℤ, Some, None, FitsSigned}
+use Rattle.std.specs.{Fmt.signed_decimal, Int.w128, Int.RustNames.unsigned_abs, Str.bytes_eq}
 use Rattle.rv_rows.proofs.IntLemmas.{fits_below}
-use Rattle.rv_invfile.specs.Rules.{Fields, first_bad}
-use Rattle.rv_invfile.specs.Forms.{field}
-use Rattle.rv_invfile.specs.Texts.{whole}
+use Rattle.rv_invfile.specs.{Rules.Fields, Rules.first_bad, Forms.field, Texts.whole}
 use Rattle.rv_invfile.proofs.Instants.{none-bad, one-bad}
-use Rattle.rv_invariant.specs.Groups.{upto}
-use Rattle.rv_invariant.specs.Pieces.{coefficient_at, is_row_field, is_within, row_of}
+use Rattle.rv_invariant.specs.{Groups.upto, Pieces.coefficient_at, Pieces.is_row_field, Pieces.is_within, Pieces.row_of}
 use Rattle.rv_base.proofs.Truths.{both_of}
 
 module _ (r : Fields) where

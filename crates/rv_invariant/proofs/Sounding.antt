@@ -1,24 +1,17 @@
 -- The records of a certificate, written as a file, are read as them.
 use Rattle.std.proofs.Common.{◌≡◌, ◌<◌, ℕ, List, [], ◌∷◌, ◌++◌, length, map, refl, ap, ◌∙◌, arith}
 use Rattle.std.specs.Prelude.{codes, decimal, flat_map}
-use Rattle.csv.specs.Reading.{strip_bom}
-use Rattle.csv.specs.Writing.{fields_text, is_blank}
+use Rattle.csv.specs.{Reading.strip_bom, Writing.fields_text, Writing.is_blank}
 use Rattle.csv.proofs.RoundTrip.{rows_text}
 use Rattle.rv_flat.specs.declared.flat.Flat.{Flat}
-use Rattle.rv_rows.specs.declared.linear.Row.{Row}
-use Rattle.rv_rows.specs.declared.farkas.Multipliers.{Multipliers}
+use Rattle.rv_rows.specs.{declared.linear.Row.Row, declared.farkas.Multipliers.Multipliers}
 use Rattle.rv_diagram.specs.declared.frozen.Frozen.{Frozen}
-use Rattle.rv_proofs.specs.declared.certificate.Certificate.{Certificate}
-use Rattle.rv_proofs.specs.declared.certificate.Location.{Location}
-use Rattle.rv_proofs.specs.declared.certificate.EntryKind.{EntryKind}
 use Rattle.rv_proofs.specs.declared.certificate.EntryKind.TheVariants.{Dead, Go, Loop}
-use Rattle.rv_invfile.specs.Csv.{records_of}
-use Rattle.rv_invfile.specs.Rules.{Fields}
-use Rattle.rv_invfile.specs.Writes.{wide}
+use Rattle.rv_proofs.specs.{declared.certificate.Certificate.Certificate, declared.certificate.Location.Location, declared.certificate.EntryKind.EntryKind}
+use Rattle.rv_invfile.specs.{Csv.records_of, Rules.Fields, Writes.wide}
 use Rattle.rv_invfile.proofs.Lines.{HaveFields, wide-rows, written-read}
-use Rattle.rv_invariant.specs.Naming.{bit_texts, column_texts}
-use Rattle.rv_invariant.specs.Pieces.{by_record, list_records, row_record}
 use Rattle.rv_invariant.specs.Certificates.{first_record, last_record, kind_records, entry_records, cases_records, location_records, certificate_records}
+use Rattle.rv_invariant.specs.{Naming.bit_texts, Naming.column_texts, Pieces.by_record, Pieces.list_records, Pieces.row_record}
 
 fields-joined : (a b : List Fields) → HaveFields a → HaveFields b → HaveFields (a ++ b)
 fields-joined [] b h k = k

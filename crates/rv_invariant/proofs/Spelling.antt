@@ -1,25 +1,15 @@
 -- Records of groups of fields, and the lists of things that they spell.
 use Rattle.std.proofs.Common.{◌≡◌, ◌+◌, ◌-◌, ◌*◌, ◌^◌, ◌<◌, ◌≤◌, ℕ, zero, suc, true, List, [], ◌∷◌, ◌++◌, length, map, get_or, refl, sym, ap, ◌∙◌, subst, arith}
-use Rattle.std.specs.Prelude.{◌&&◌, flat_map, nat_lt, decimal}
-use Rattle.std.specs.Str.{bytes_eq}
-use Rattle.std.specs.List.{All, AllByRecursion}
 use Rattle.std.proofs.lemmas.Bool.{ltb-true, lt-ltb}
 use Rattle.std.proofs.lemmas.List.{get_or_append_left, get_or-append_right, length-append, ext_get_or, append-nil}
-use Rattle.rv_invfile.specs.Rules.{Fields, Rule, done}
-use Rattle.rv_invfile.specs.Parts.{bind, times}
-use Rattle.rv_invfile.specs.Forms.{field}
-use Rattle.rv_invfile.specs.Spells.{Spells}
-use Rattle.rv_invfile.specs.Texts.{natural}
+use Rattle.std.specs.{Prelude.◌&&◌, Prelude.flat_map, Prelude.nat_lt, Prelude.decimal, Str.bytes_eq, List.All, List.AllByRecursion}
+use Rattle.rv_invfile.specs.{Rules.Fields, Rules.Rule, Rules.done, Parts.bind, Parts.times, Forms.field, Spells.Spells, Texts.natural}
 use Rattle.rv_invfile.proofs.Decimals.{bytes-same, same-bytes, natural-is}
-use Rattle.rv_invfile.proofs.Loops.{times_more, times_none}
-use Rattle.rv_invfile.proofs.Spelled.{parts-bind}
-use Rattle.rv_invfile.proofs.Written.{list-first}
-use Rattle.rv_invariant.specs.Groups.{upto}
+use Rattle.rv_invfile.proofs.{Loops.times_more, Loops.times_none, Spelled.parts-bind, Written.list-first}
+use Rattle.rv_invariant.specs.{Groups.upto, Pieces.is_below, Pieces.triple_texts, Pieces.weight_texts}
 use Rattle.rv_diagram.specs.declared.Triple.{Triple}
 use Rattle.rv_rows.specs.declared.farkas.Weight.{Weight}
-use Rattle.rv_invariant.specs.Pieces.{is_below, triple_texts, weight_texts}
-use Rattle.rv_invariant.proofs.Grouping.{Width}
-use Rattle.rv_invariant.proofs.Upto.{upto-at, upto-length}
+use Rattle.rv_invariant.proofs.{Grouping.Width, Upto.upto-at, Upto.upto-length}
 use Rattle.rv_base.proofs.Truths.{both_of}
 
 -- what a number below a limit tells

@@ -1,42 +1,23 @@
 -- What single records of a certificate are written as is read as them.
 use Rattle.std.proofs.Common.{◌≡◌, ◌+◌, ◌-◌, ◌*◌, ◌/◌, ◌%◌, ◌^◌, ◌<◌, ◌≤◌, ℕ, zero, suc, Bool, true, false, List, [], ◌∷◌, ◌++◌, length, map, get_or, refl, sym}
 use Rattle.std.proofs.Common.{ap, ◌∙◌, subst, arith}
-use Rattle.std.specs.Prelude.{◌&&◌, ◌||◌, nat_eq, nat_le, nat_lt, ℤ, pos, negsuc, ◌≤ℤ◌, codes, decimal, flat_map}
-use Rattle.std.specs.Str.{bytes_eq}
-use Rattle.std.specs.Fmt.{signed_decimal}
-use Rattle.std.specs.Int.RustNames.{unsigned_abs}
-use Rattle.std.specs.List.{AllByRecursion}
 use Rattle.std.proofs.lemmas.Bool.{le-leb, lt-ltb, eq-eqb, ltb-false}
-use Rattle.std.proofs.lemmas.Int.{ints}
-use Rattle.std.proofs.lemmas.List.{length-map, get_or-map}
-use Rattle.std.proofs.lemmas.Option.{slice_get-get_or}
-use Rattle.rv_diagram.specs.Nodes.{node_at, IsFrom}
-use Rattle.rv_diagram.specs.declared.Triple.{Triple}
-use Rattle.rv_diagram.specs.declared.frozen.Frozen.{Frozen}
-use Rattle.rv_rows.specs.declared.linear.Row.{Row}
-use Rattle.rv_rows.specs.declared.farkas.Weight.{Weight}
-use Rattle.rv_rows.specs.declared.farkas.Multipliers.{Multipliers}
-use Rattle.rv_invfile.specs.Rules.{Fields, is_plain}
-use Rattle.rv_invfile.specs.Parts.{times}
-use Rattle.rv_invfile.specs.Forms.{field, word_of, counts}
-use Rattle.rv_invfile.specs.Spells.{Spells}
+use Rattle.std.proofs.{lemmas.Int.ints, lemmas.List.length-map, lemmas.List.get_or-map, lemmas.Option.slice_get-get_or}
+use Rattle.std.specs.Prelude.{◌&&◌, ◌||◌, nat_eq, nat_le, nat_lt, ℤ, pos, negsuc, ◌≤ℤ◌, codes, decimal, flat_map}
+use Rattle.std.specs.{Str.bytes_eq, Fmt.signed_decimal, Int.RustNames.unsigned_abs, List.AllByRecursion}
+use Rattle.rv_diagram.specs.{Nodes.node_at, Nodes.IsFrom, declared.Triple.Triple, declared.frozen.Frozen.Frozen}
+use Rattle.rv_rows.specs.{declared.linear.Row.Row, declared.farkas.Weight.Weight, declared.farkas.Multipliers.Multipliers}
 use Rattle.rv_invfile.specs.Texts.{natural, whole, least, greatest}
-use Rattle.rv_invfile.proofs.Decimals.{natural-is, same-bytes, within}
+use Rattle.rv_invfile.specs.{Rules.Fields, Rules.is_plain, Parts.times, Forms.field, Forms.word_of, Forms.counts, Spells.Spells}
 use Rattle.rv_invfile.proofs.ReadBack.{right-spells, is_plain_text, decimal-plain, signed-plain, pair-plain, whole-is, counts-right}
-use Rattle.rv_invfile.proofs.Spelled.{parts-bind}
-use Rattle.rv_invfile.proofs.Written.{Right}
-use Rattle.rv_invariant.specs.declared.counts.Shape.{Shape}
-use Rattle.rv_invariant.specs.Groups.{grouped, group_count, is_grouped}
-use Rattle.rv_invariant.specs.Judging.{AreRight}
-use Rattle.rv_invariant.specs.Shapes.{may_stand}
+use Rattle.rv_invfile.proofs.{Decimals.natural-is, Decimals.same-bytes, Decimals.within, Spelled.parts-bind, Written.Right}
 use Rattle.rv_invariant.specs.Pieces.{a_diagram, a_list, a_proof, a_row, by_form, coefficient_at, diagram, diagram_record, by_record, row_record, list_records}
 use Rattle.rv_invariant.specs.Pieces.{frozen_of, is_below, is_child, is_divisor, is_node_field, is_pair_field, is_root, is_row_field, is_within, least_at}
 use Rattle.rv_invariant.specs.Pieces.{multipliers_of, row_form, row_of, triple_at, triple_texts, variable_at, weight_at, weight_texts}
+use Rattle.rv_invariant.specs.{declared.counts.Shape.Shape, Groups.grouped, Groups.group_count, Groups.is_grouped, Judging.AreRight, Shapes.may_stand}
 use Rattle.rv_invariant.proofs.Grouping.{Width, two, three, all-right, of-two, of-three}
-use Rattle.rv_invariant.proofs.Ranging.{SetFits, KeptRow, ProofFits}
-use Rattle.rv_invariant.proofs.Rowing.{number-test}
 use Rattle.rv_invariant.proofs.Spelling.{grows-two, grows-three, wide-triple, wide-weight, field-at, record-length, below-right, times-right}
-use Rattle.rv_invariant.proofs.Upto.{upto-is}
+use Rattle.rv_invariant.proofs.{Ranging.SetFits, Ranging.KeptRow, Ranging.ProofFits, Rowing.number-test, Upto.upto-is}
 use Rattle.rv_base.proofs.Truths.{both_of}
 
 -- ---- Plain texts.

@@ -4,30 +4,18 @@
 use Rattle.std.specs.Prelude.{◌≡◌, ◌+◌, ◌<◌, ◌^◌, ℕ, zero, suc, true, false, cond, nat_eq, List, [], ◌∷◌, ◌++◌, length, map, flat_map, get_or, replicate}
 use Rattle.std.specs.Prelude.{slice_get, slice_set, codes, decimal, Option, Some, None, ⊤}
 use Rattle.std.specs.Str.{bytes_eq}
-use Rattle.rv_diagram.specs.Nodes.{node_at}
-use Rattle.rv_diagram.specs.declared.frozen.Frozen.{Frozen}
-use Rattle.rv_rows.specs.declared.linear.Row.{Row}
-use Rattle.rv_rows.specs.declared.farkas.Multipliers.{Multipliers}
-use Rattle.rv_proofs.specs.Counts.{HasLoop}
-use Rattle.rv_proofs.specs.Ranges.{IsInRange}
-use Rattle.rv_proofs.specs.declared.certificate.Certificate.{Certificate}
-use Rattle.rv_proofs.specs.declared.certificate.Location.{Location}
-use Rattle.rv_proofs.specs.declared.certificate.Entry.{Entry}
-use Rattle.rv_proofs.specs.declared.certificate.EntryKind.{EntryKind}
+use Rattle.rv_diagram.specs.{Nodes.node_at, declared.frozen.Frozen.Frozen}
+use Rattle.rv_rows.specs.{declared.linear.Row.Row, declared.farkas.Multipliers.Multipliers}
 use Rattle.rv_proofs.specs.declared.certificate.EntryKind.TheVariants.{Dead, Go, Loop}
+use Rattle.rv_proofs.specs.{Counts.HasLoop, Ranges.IsInRange, declared.certificate.Certificate.Certificate, declared.certificate.Location.Location}
+use Rattle.rv_proofs.specs.{declared.certificate.Entry.Entry, declared.certificate.EntryKind.EntryKind}
 use Rattle.rv_flat.specs.declared.flat.Flat.{Flat}
 use Rattle.rv_control.specs.Control.{control_of}
-use Rattle.rv_invfile.specs.Rules.{Fields, Form, Rule, done, await}
-use Rattle.rv_invfile.specs.Parts.{bind, times, turns}
 use Rattle.rv_invfile.specs.Forms.{field, fixed, is_worded, word_of, exactly, names, lists, counts}
-use Rattle.rv_invfile.specs.Texts.{natural}
-use Rattle.rv_invariant.specs.declared.counts.Shape.{Shape}
-use Rattle.rv_invariant.specs.declared.fronts.Front.{Front}
-use Rattle.rv_invariant.specs.declared.fronts.Lists.{Lists}
-use Rattle.rv_invariant.specs.Continues.{Known, Then}
-use Rattle.rv_invariant.specs.Naming.{bit_texts, column_texts}
-use Rattle.rv_invariant.specs.Shapes.{shape}
+use Rattle.rv_invfile.specs.{Rules.Fields, Rules.Form, Rules.Rule, Rules.done, Rules.await, Parts.bind, Parts.times, Parts.turns, Texts.natural}
 use Rattle.rv_invariant.specs.Pieces.{a_diagram, a_list, a_proof, is_below, diagram_record, by_record, list_records}
+use Rattle.rv_invariant.specs.{declared.counts.Shape.Shape, declared.fronts.Front.Front, declared.fronts.Lists.Lists, Continues.Known, Continues.Then}
+use Rattle.rv_invariant.specs.{Naming.bit_texts, Naming.column_texts, Shapes.shape}
 
 -- ---- How a certificate is written.
 abbrev pub first_record : Fields

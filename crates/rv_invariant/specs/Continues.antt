@@ -1,10 +1,8 @@
 -- What a part reads whose end is told by what follows it.
 use Rattle.std.specs.Prelude.{◌≡◌, ◌⊎◌, ℕ, List, Option, Result, Ok, Err}
 use Rattle.rv_proofs.specs.declared.certificate.Certificate.{Certificate}
-use Rattle.rv_invfile.specs.declared.fault.FileFault.{FileFault}
+use Rattle.rv_invfile.specs.{declared.fault.FileFault.FileFault, Rules.Fields, Rules.Form, Rules.Rule, Rules.await, Readers.Ahead, Readers.Reading, Readers.run}
 use Rattle.rv_invfile.specs.declared.fault.FileFault.TheVariants as fault
-use Rattle.rv_invfile.specs.Rules.{Fields, Form, Rule, await}
-use Rattle.rv_invfile.specs.Readers.{Ahead, Reading, run}
 
 -- What is known of the numbers of entry rows of locations, by the records so far.
 abbrev pub Known : Type 0

@@ -1,8 +1,7 @@
 -- Records that have a word, one field, and then groups of as many fields each.
 use Rattle.std.specs.Prelude.{◌-◌, ◌/◌, ◌%◌, ◌&&◌, ◌||◌, ℕ, zero, suc, Bool, true, cond, nat_eq, nat_le, List, [], ◌∷◌, ◌++◌, length}
 use Rattle.std.specs.Str.{bytes_eq}
-use Rattle.rv_invfile.specs.Rules.{Fields, Form}
-use Rattle.rv_invfile.specs.Forms.{word_of}
+use Rattle.rv_invfile.specs.{Rules.Fields, Rules.Form, Forms.word_of}
 
 -- the word, and whole groups
 abbrev pub is_grouped : List ℕ → ℕ → Fields → Bool

@@ -1,10 +1,7 @@
 -- What is read of one group of fields, and of all groups of a record: their values, or the first field that is wrong.
 use Rattle.std.specs.Prelude.{◌≡◌, ◌+◌, ◌*◌, ◌<◌, ℕ, Bool, true, false, Result, Ok, Err, ⊤}
-use Rattle.rv_invfile.specs.declared.fault.FileFault.{FileFault}
+use Rattle.rv_invfile.specs.{declared.fault.FileFault.FileFault, Rules.Fields, Readers.Ahead, Ahead.here}
 use Rattle.rv_invfile.specs.declared.fault.FileFault.TheVariants as fault
-use Rattle.rv_invfile.specs.Rules.{Fields}
-use Rattle.rv_invfile.specs.Readers.{Ahead}
-use Rattle.rv_invfile.specs.Ahead.{here}
 
 -- This field of group k is the first wrong one of the group.
 pub record IsWrong (width : ℕ) (right : ℕ → Bool) (k i : ℕ) : Type 0 where

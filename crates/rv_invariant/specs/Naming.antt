@@ -1,12 +1,9 @@
 -- The texts by which documents name the diagram variables and columns of a flat system.
 use Rattle.std.specs.Prelude.{ℕ, List, [], ◌++◌, map, codes, decimal, slice_get, Option, Some, None}
-use Rattle.rv_flat.specs.declared.flat.Flat.{Flat}
-use Rattle.rv_flat.specs.declared.parts.Bit.{Bit}
+use Rattle.rv_flat.specs.{declared.flat.Flat.Flat, declared.parts.Bit.Bit, declared.parts.Column.Column, declared.parts.FlatInput.FlatInput}
+use Rattle.rv_flat.specs.{declared.parts.Side.Side}
 use Rattle.rv_flat.specs.declared.parts.Bit.TheVariants as bit
-use Rattle.rv_flat.specs.declared.parts.Column.{Column}
 use Rattle.rv_flat.specs.declared.parts.Column.TheVariants as column
-use Rattle.rv_flat.specs.declared.parts.FlatInput.{FlatInput}
-use Rattle.rv_flat.specs.declared.parts.Side.{Side}
 use Rattle.rv_flat.specs.declared.parts.Side.TheVariants as side
 use Rattle.rv_invfile.specs.Texts.{dotted}
 

@@ -1,21 +1,12 @@
 -- The single records of a certificate: diagrams, rows and multipliers.
 use Rattle.std.specs.Prelude.{◌+◌, ◌-◌, ◌*◌, ◌^◌, ◌&&◌, ◌||◌, ℕ, zero, suc, Bool, true, cond, nat_eq, nat_le, nat_lt, ℤ, pos, List, [], ◌∷◌, length, map}
 use Rattle.std.specs.Prelude.{flat_map, codes, decimal}
-use Rattle.std.specs.Str.{bytes_eq}
-use Rattle.std.specs.Fmt.{signed_decimal}
-use Rattle.std.specs.Int.RustNames.{unsigned_abs}
-use Rattle.rv_diagram.specs.declared.Triple.{Triple}
-use Rattle.rv_diagram.specs.declared.frozen.Frozen.{Frozen}
-use Rattle.rv_rows.specs.declared.linear.Row.{Row}
-use Rattle.rv_rows.specs.declared.farkas.Weight.{Weight}
-use Rattle.rv_rows.specs.declared.farkas.Multipliers.{Multipliers}
+use Rattle.std.specs.{Str.bytes_eq, Fmt.signed_decimal, Int.RustNames.unsigned_abs}
+use Rattle.rv_diagram.specs.{declared.Triple.Triple, declared.frozen.Frozen.Frozen}
+use Rattle.rv_rows.specs.{declared.linear.Row.Row, declared.farkas.Weight.Weight, declared.farkas.Multipliers.Multipliers}
 use Rattle.rv_invfile.specs.Rules.{Fields, Form, Rule, done, await}
-use Rattle.rv_invfile.specs.Parts.{bind, times}
-use Rattle.rv_invfile.specs.Forms.{field, is_worded, counts}
-use Rattle.rv_invfile.specs.Texts.{natural, is_natural, whole}
-use Rattle.rv_invariant.specs.declared.counts.Shape.{Shape}
-use Rattle.rv_invariant.specs.Shapes.{may_stand}
-use Rattle.rv_invariant.specs.Groups.{grouped, group_count, upto}
+use Rattle.rv_invfile.specs.{Parts.bind, Parts.times, Forms.field, Forms.is_worded, Forms.counts, Texts.natural, Texts.is_natural, Texts.whole}
+use Rattle.rv_invariant.specs.{declared.counts.Shape.Shape, Shapes.may_stand, Groups.grouped, Groups.group_count, Groups.upto}
 
 -- The text of a number below a limit. What is told by such numbers is held in 32 bits.
 abbrev pub is_below : ℕ → List ℕ → Bool

@@ -1,8 +1,7 @@
 -- The numbers of a system by which the ranges of its certificates go.
 use Rattle.std.specs.Prelude.{◌*◌, ◌%◌, ◌&&◌, ◌||◌, ℕ, Bool, true, false, cond, nat_eq, nat_le, nat_lt}
 use Rattle.rv_proofs.specs.Systems.{System}
-use Rattle.rv_flat.specs.declared.flat.Flat.{Flat}
-use Rattle.rv_flat.specs.declared.parts.Bit.{Bit}
+use Rattle.rv_flat.specs.{declared.flat.Flat.Flat, declared.parts.Bit.Bit}
 use Rattle.rv_flat.specs.declared.parts.Bit.TheVariants as bit
 use Rattle.rv_control.specs.Control.{control_of}
 use Rattle.rv_invariant.specs.declared.counts.Shape.{Shape}

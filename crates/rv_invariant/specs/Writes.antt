@@ -1,10 +1,8 @@
 -- What a writer of certificates knows of the records that it makes, and of the diagrams that it has written.
 use Rattle.std.specs.Prelude.{◌≡◌, ◌<◌, ◌^◌, ◌++◌, ℕ, List, [], length, Some, slice_get}
 use Rattle.csv.specs.Records.{Row, fields_of, partial_of}
-use Rattle.rv_diagram.specs.Nodes.{node_at}
-use Rattle.rv_diagram.specs.declared.Triple.{Triple}
-use Rattle.rv_proofs.specs.declared.certificate.Location.{Location}
-use Rattle.rv_proofs.specs.declared.certificate.Entry.{Entry}
+use Rattle.rv_diagram.specs.{Nodes.node_at, declared.Triple.Triple}
+use Rattle.rv_proofs.specs.{declared.certificate.Location.Location, declared.certificate.Entry.Entry}
 use Rattle.rv_invfile.specs.Rules.{Fields}
 use Rattle.rv_invariant.specs.Certificates.{IsHeld}
 

@@ -1,19 +1,15 @@
 -- Records that are written one after the other.
 use Rattle.std.proofs.Common.{◌≡◌, ◌+◌, ◌<◌, ◌≤◌, ℕ, zero, suc, List, [], ◌∷◌, ◌++◌, length, map, drop, get_or, refl, sym, ap, ◌∙◌, subst, arith, append_assoc}
 use Rattle.std.proofs.Common.{add-one}
-use Rattle.std.specs.Prelude.{Option, Some, None, Result, Ok, Err, ⊤, OnOk, slice_get}
 use Rattle.std.proofs.lemmas.List.{append-nil}
-use Rattle.csv.specs.declared.writer.Writer.{Writer}
-use Rattle.csv.specs.Writing.{row_text}
-use Rattle.rv_base.specs.declared.value.Value.{Value}
+use Rattle.std.specs.Prelude.{Option, Some, None, Result, Ok, Err, ⊤, OnOk, slice_get}
 use Rattle.std.specs.List.{AllByRecursion}
+use Rattle.csv.specs.{declared.writer.Writer.Writer, Writing.row_text}
+use Rattle.rv_base.specs.declared.value.Value.{Value}
 use Rattle.rv_types.specs.declared.typed.Kind.{Kind}
-use Rattle.rv_flat.specs.declared.parts.FlatInput.{FlatInput}
-use Rattle.rv_flat.specs.declared.parts.FlatMemory.{FlatMemory}
-use Rattle.rv_invfile.specs.Rules.{Fields}
-use Rattle.rv_invfile.specs.Texts.{Labels, label_at, value_text}
-use Rattle.rv_invfile.specs.Traces.{start_record, start_records, value_texts, HaveKinds}
-use Rattle.rv_invfile.specs.Writes.{IsWriting, any_width, wide, Adds}
+use Rattle.rv_flat.specs.{declared.parts.FlatInput.FlatInput, declared.parts.FlatMemory.FlatMemory}
+use Rattle.rv_invfile.specs.{Rules.Fields, Texts.Labels, Texts.label_at, Texts.value_text, Traces.start_record, Traces.start_records, Traces.value_texts}
+use Rattle.rv_invfile.specs.{Traces.HaveKinds, Writes.IsWriting, Writes.any_width, Writes.wide, Writes.Adds}
 
 pub wide-joined : (a b : List Fields) → wide (a ++ b) ≡ wide a ++ wide b
 unfolding wide

@@ -1,12 +1,9 @@
 -- What an answer says of the records.
 use Rattle.std.proofs.Common.{◌≡◌, List, inl, inr, refl, subst}
 use Rattle.std.specs.Prelude.{Result, Ok, Err}
-use Rattle.rv_invfile.specs.declared.fault.FileFault.{FileFault}
+use Rattle.rv_invfile.specs.{declared.fault.FileFault.FileFault, Rules.Fields, Rules.Rule, Rules.IsDocument, Faults.IsFirstFault, Readers.Gives, Readers.whole}
+use Rattle.rv_invfile.specs.{Tells.Tells, Tells.Finds, Tells.Explains}
 use Rattle.rv_invfile.specs.declared.fault.FileFault.TheVariants as fault
-use Rattle.rv_invfile.specs.Rules.{Fields, Rule, IsDocument}
-use Rattle.rv_invfile.specs.Faults.{IsFirstFault}
-use Rattle.rv_invfile.specs.Readers.{Gives, whole}
-use Rattle.rv_invfile.specs.Tells.{Tells, Finds, Explains}
 use Rattle.rv_invfile.proofs.Exact.{whole_tells, reads-document}
 
 module _ {A : Type 0} (rule : Rule A) (rs : List Fields) where

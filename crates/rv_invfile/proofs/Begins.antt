@@ -2,11 +2,9 @@
 use Rattle.std.proofs.Common.{◌≡◌, ℕ, zero, suc, List, [], ◌∷◌, ◌++◌, refl, sym, ap, ◌∙◌, subst, append_assoc}
 use Rattle.std.specs.Prelude.{None, ◌↔◌}
 use Rattle.rv_invfile.specs.Rules.{Fields, Rule, done, await, awaited, fault_in, after, fault_after, HasNoFault}
-use Rattle.rv_invfile.specs.Parts.{bind, each, times}
-use Rattle.rv_invfile.specs.Spells.{IsAlive, BeginsDocument}
-use Rattle.rv_invfile.proofs.Exact.{none-first, none-more, first-right, rest-right}
-use Rattle.rv_invfile.proofs.Spelled.{spells-document, goes, goes-on, alive-after}
-use Rattle.rv_invfile.proofs.Loops.{each_more, each_none, times_more, times_none}
+use Rattle.rv_invfile.specs.{Parts.bind, Parts.each, Parts.times, Spells.IsAlive, Spells.BeginsDocument}
+use Rattle.rv_invfile.proofs.{Exact.none-first, Exact.none-more, Exact.first-right, Exact.rest-right, Spelled.spells-document, Spelled.goes, Spelled.goes-on}
+use Rattle.rv_invfile.proofs.{Spelled.alive-after, Loops.each_more, Loops.each_none, Loops.times_more, Loops.times_none}
 
 next-rule : {A : Type 0} (rule : Rule A) (b : Fields) (bs : List Fields) → after rule (b ∷ bs) ≡ after (after rule (b ∷ [])) bs
 next-rule (done a) b [] = refl

@@ -1,11 +1,9 @@
 -- Reading parts one after the other.
 use Rattle.std.proofs.Common.{◌≡◌, refl, sym, ap, ◌∙◌}
 use Rattle.std.specs.Prelude.{Result, Ok, Err}
-use Rattle.rv_invfile.specs.declared.fault.FileFault.{FileFault}
-use Rattle.rv_invfile.specs.Rules.{Rule, done, await}
 use Rattle.rv_invfile.specs.Readers.{Ahead, ◌>>=◌, Reads, run, taking}
+use Rattle.rv_invfile.specs.{declared.fault.FileFault.FileFault, Rules.Rule, Rules.done, Rules.await, Parts.bind}
 use Rattle.rv_invfile.proofs.OneRecord.{stops_with}
-use Rattle.rv_invfile.specs.Parts.{bind}
 
 then-assoc : {A B C : Type 0} (r : Result A FileFault) (f : A → Result B FileFault) (g : B → Result C FileFault) → (r >>= f) >>= g ≡ r >>= (λ a. f a >>= g)
 then-assoc (Ok a) f g = refl

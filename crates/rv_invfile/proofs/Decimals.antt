@@ -1,16 +1,12 @@
 -- Numbers and their texts.
-use Rattle.std.proofs.Common.{◌≡◌, ◌<◌, ◌≤◌, ◌^◌, ℕ, zero, suc, Bool, true, false, List, [], ◌∷◌, length, get_or, refl, sym, ap, ◌∙◌, subst, arith}
-use Rattle.std.specs.Prelude.{◌&&◌, ◌⊎◌, ◌↔◌, Option, Some, None, MatchOption, decimal, nat_le}
-use Rattle.std.proofs.Common.{inl, inr}
-use Rattle.std.proofs.lemmas.Bool.{leb-true, le-leb, lt-leb}
-use Rattle.std.specs.Str.{bytes_eq}
-use Rattle.std.specs.Str.Parse.{IsNumeral, AllDigits, digits_value, without_leading_plus}
+use Rattle.std.proofs.Common.{◌≡◌, ◌<◌, ◌≤◌, ◌^◌, ℕ, zero, suc, Bool, true, false, List, [], ◌∷◌, length, get_or, refl, sym, ap, ◌∙◌, subst, arith, inl, inr}
 use Rattle.std.proofs.lemmas.Str.Parse.{IsNumeralModel, numerals_by_value, tells_digits, without_leading_plus_none, digit_at}
-use Rattle.std.proofs.lemmas.Fmt.{decimal-digits_value, decimal_is_IsNumeral, first_decimal, decimal_digit}
-use Rattle.std.proofs.lemmas.Slice.Eq.{bytes_eq-Decides}
+use Rattle.std.proofs.{lemmas.Bool.leb-true, lemmas.Bool.le-leb, lemmas.Bool.lt-leb, lemmas.Bool.false_from_ne_true, lemmas.Fmt.decimal-digits_value}
+use Rattle.std.proofs.{lemmas.Fmt.decimal_is_IsNumeral, lemmas.Fmt.first_decimal, lemmas.Fmt.decimal_digit, lemmas.Slice.Eq.bytes_eq-Decides}
+use Rattle.std.specs.Prelude.{◌&&◌, ◌⊎◌, ◌↔◌, Option, Some, None, MatchOption, decimal, nat_le}
+use Rattle.std.specs.{Str.bytes_eq, Str.Parse.IsNumeral, Str.Parse.AllDigits, Str.Parse.digits_value, Str.Parse.without_leading_plus}
 use Rattle.rv_invfile.specs.Texts.{natural, is_natural}
 use Rattle.rv_base.proofs.Truths.{and_false}
-use Rattle.std.proofs.lemmas.Bool.{false_from_ne_true}
 
 own : IsNumeralModel (AllDigits 10) (digits_value 10)
 own = numerals_by_value (AllDigits 10) tells_digits

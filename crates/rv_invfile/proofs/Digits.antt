@@ -1,9 +1,8 @@
 -- What each digit passes, and the signs between them, the texts of numbers and places pass.
 use Rattle.std.proofs.Common.{◌≡◌, ◌+◌, ◌<◌, ℕ, zero, suc, Bool, true, false, cond, List, [], ◌∷◌, ◌++◌, refl, ap, ◌∙◌, arith}
-use Rattle.std.specs.Prelude.{◌&&◌, ◌/◌, ◌%◌, ◌==◌, ℤ, pos, negsuc, decimal, flat_map, if◌then◌else◌}
-use Rattle.std.specs.List.{list_all}
-use Rattle.std.specs.Fmt.{digits, digits_onto, digit_glyph, signed_decimal}
 use Rattle.std.proofs.lemmas.Bool.{lt-ltb}
+use Rattle.std.specs.Prelude.{◌&&◌, ◌/◌, ◌%◌, ◌==◌, ℤ, pos, negsuc, decimal, flat_map, if◌then◌else◌}
+use Rattle.std.specs.{List.list_all, Fmt.digits, Fmt.digits_onto, Fmt.digit_glyph, Fmt.signed_decimal}
 use Rattle.rv_invfile.specs.Texts.{dotted}
 use Rattle.rv_base.proofs.Truths.{and_first, and_second}
 

@@ -1,14 +1,11 @@
 -- Reading by a rule answers the value of a document, and otherwise the first fault; and never anything else.
 use Rattle.std.proofs.Common.{◌≡◌, ◌+◌, ℕ, Bool, true, false, cond, List, [], ◌∷◌, ◌++◌, length, refl, sym, ap, ◌∙◌, subst, arith}
 use Rattle.std.specs.Prelude.{Option, Some, None, Result, Ok, Err}
-use Rattle.rv_invfile.specs.declared.fault.Why.{Why}
-use Rattle.rv_invfile.specs.declared.fault.Why.TheVariants as why
-use Rattle.rv_invfile.specs.declared.fault.FileFault.{FileFault}
-use Rattle.rv_invfile.specs.declared.fault.FileFault.TheVariants as fault
 use Rattle.rv_invfile.specs.Rules.{Fields, Form, Rule, done, await, fault_in, awaited, after, fault_after, HasNoFault, IsDocument, is_plain}
-use Rattle.rv_invfile.specs.Faults.{Faulty}
 use Rattle.rv_invfile.specs.Readers.{fault_at, ◌>>=◌, judged, run, closing, whole}
-use Rattle.rv_invfile.specs.Tells.{Tells}
+use Rattle.rv_invfile.specs.{declared.fault.Why.Why, declared.fault.FileFault.FileFault, Faults.Faulty, Tells.Tells}
+use Rattle.rv_invfile.specs.declared.fault.Why.TheVariants as why
+use Rattle.rv_invfile.specs.declared.fault.FileFault.TheVariants as fault
 
 -- what comes after a first record, after a rule
 after-rest : {A : Type 0} (rule : Rule A) (r : Fields) (rs : List Fields) → after rule (r ∷ rs) ≡ after (after rule (r ∷ [])) rs

@@ -1,26 +1,16 @@
 -- The values of one instant, and what stands after the start values.
 use Rattle.std.proofs.Common.{◌≡◌, ◌+◌, ◌-◌, ◌<◌, ◌≤◌, ℕ, zero, suc, Bool, true, false, cond, List, [], ◌∷◌, ◌++◌, length, map, drop, get_or, refl, sym, ap}
 use Rattle.std.proofs.Common.{◌∙◌, arith, append_assoc, add-one, eqb}
+use Rattle.std.proofs.{lemmas.List.append-nil, lemmas.Option.slice_get-map, lemmas.Bool.eqb-true, lemmas.Bool.eqb-false, Math.Dec.eqb-suc-zero}
 use Rattle.std.specs.Prelude.{◌||◌, Option, Some, None, Ok, slice_get, nat_eq, option_map, codes}
 use Rattle.std.specs.Option.{unwrap_or}
-use Rattle.std.proofs.lemmas.List.{append-nil}
-use Rattle.std.proofs.lemmas.Option.{slice_get-map}
-use Rattle.std.proofs.lemmas.Bool.{eqb-true, eqb-false}
-use Rattle.std.proofs.Math.Dec.{eqb-suc-zero}
-use Rattle.rv_base.specs.declared.value.Value.{Value}
-use Rattle.rv_base.specs.declared.value.Trace.{Trace}
-use Rattle.rv_base.specs.declared.value.Value.TheVariants.{Flag}
-use Rattle.rv_flat.specs.declared.flat.Flat.{Flat}
-use Rattle.rv_flat.specs.declared.parts.FlatInput.{FlatInput}
-use Rattle.rv_invfile.specs.Rules.{Fields, Rule, done, first_bad}
-use Rattle.rv_invfile.specs.Readers.{Ahead, run}
-use Rattle.rv_invfile.specs.Parts.{bind, times, each}
-use Rattle.rv_invfile.specs.Forms.{field, exactly, names, lists, counts}
-use Rattle.rv_invfile.specs.Texts.{value_of}
+use Rattle.rv_base.specs.{declared.value.Value.Value, declared.value.Trace.Trace, declared.value.Value.TheVariants.Flag}
+use Rattle.rv_flat.specs.{declared.flat.Flat.Flat, declared.parts.FlatInput.FlatInput}
 use Rattle.rv_invfile.specs.Traces.{is_value, is_value_at, read_value, read_values, input_kinds, given, instant, tail_of, start, trace_end, trace_rule}
 use Rattle.rv_invfile.specs.Traces.{first_record, last_record}
-use Rattle.rv_invfile.proofs.Bound.{bind_ok}
-use Rattle.rv_invfile.proofs.Adding.{drop-next}
+use Rattle.rv_invfile.specs.{Rules.Fields, Rules.Rule, Rules.done, Rules.first_bad, Readers.Ahead, Readers.run, Parts.bind, Parts.times, Parts.each}
+use Rattle.rv_invfile.specs.{Forms.field, Forms.exactly, Forms.names, Forms.lists, Forms.counts, Texts.value_of}
+use Rattle.rv_invfile.proofs.{Bound.bind_ok, Adding.drop-next}
 
 -- ---- The first field that is wrong.
 pub none-bad : (ok : ℕ → Bool) (at n : ℕ) → ((k : ℕ) → k < at + n → ok k ≡ true) → first_bad ok at n ≡ None

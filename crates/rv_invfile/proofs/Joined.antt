@@ -1,8 +1,7 @@
 -- Numbers joined by points, written each with the point that follows it.
 use Rattle.std.proofs.Common.{◌≡◌, ℕ, ◌≤◌, List, [], ◌∷◌, ◌++◌, length, take, sym, ◌∙◌, ap, append_assoc, append-nil}
 use Rattle.std.proofs.lemmas.List.{take_all}
-use Rattle.std.specs.Prelude.{flat_map}
-use Rattle.std.specs.Fmt.{decimal}
+use Rattle.std.specs.{Prelude.flat_map, Fmt.decimal}
 use Rattle.rv_invfile.specs.Texts.{dotted}
 
 -- a number and a point

@@ -1,19 +1,14 @@
 -- The values of a trace that fits are values of the flat system: of its types, and within the range.
 use Rattle.std.proofs.Common.{◌≡◌, ◌<◌, ◌^◌, ℕ, zero, suc, true, false, List, [], ◌∷◌, length, map, get_or, refl, sym, subst, arith}
-use Rattle.std.specs.Prelude.{◌≤ℤ◌, ◌<ℤ◌, ◌-ℤ◌, ℤ, pos, Some, slice_get}
-use Rattle.std.specs.List.{All, AllByRecursion}
-use Rattle.std.proofs.lemmas.Bool.{lt-ltb, ltb-true}
-use Rattle.std.proofs.lemmas.Int.{ints}
-use Rattle.rv_base.specs.declared.value.Trace.{Trace}
-use Rattle.rv_base.specs.declared.value.Value.{Value}
+use Rattle.std.proofs.{lemmas.Bool.lt-ltb, lemmas.Bool.ltb-true, lemmas.Int.ints}
+use Rattle.std.specs.{Prelude.◌≤ℤ◌, Prelude.◌<ℤ◌, Prelude.◌-ℤ◌, Prelude.ℤ, Prelude.pos, Prelude.Some, Prelude.slice_get, List.All, List.AllByRecursion}
 use Rattle.rv_base.specs.declared.value.Value.TheVariants.{Flag, Label, Whole}
+use Rattle.rv_base.specs.{declared.value.Trace.Trace, declared.value.Value.Value}
 use Rattle.rv_types.specs.declared.typed.Kind.{Kind}
 use Rattle.rv_types.specs.declared.typed.Kind.TheVariants as kind
 use Rattle.rv_agreement.specs.Checks.{constant_fits}
-use Rattle.rv_flat.specs.declared.flat.Flat.{Flat}
-use Rattle.rv_flat.specs.Steps.{AreValues, IsInRange, input_kinds, memory_kinds}
-use Rattle.rv_invfile.specs.Texts.{HasKind, Labels, greatest, least}
-use Rattle.rv_invfile.specs.Traces.{Fits, HaveKinds, IsTraceOf}
+use Rattle.rv_flat.specs.{declared.flat.Flat.Flat, Steps.AreValues, Steps.IsInRange, Steps.input_kinds, Steps.memory_kinds}
+use Rattle.rv_invfile.specs.{Texts.HasKind, Texts.Labels, Texts.greatest, Texts.least, Traces.Fits, Traces.HaveKinds, Traces.IsTraceOf}
 use Rattle.rv_invfile.proofs.Adding.{kinds-length}
 
 length-at : (labels : Labels) (e : ℕ) → get_or (map (λ (ls : List (List ℕ)). length ls) labels) e 0 ≡ length (get_or labels e [])

@@ -1,10 +1,9 @@
 -- The records that are left, record by record.
 use Rattle.std.proofs.Common.{◌≡◌, ◌+◌, ◌<◌, ◌≤◌, ℕ, zero, suc, Bool, true, false, cond, List, [], ◌∷◌, ◌++◌, length, refl, sym, ap, ◌∙◌, arith, add-one}
 use Rattle.std.specs.Prelude.{Option, Some, None}
-use Rattle.csv.specs.declared.parser.State.{State}
-use Rattle.csv.specs.declared.parser.State.TheVariants as st
 use Rattle.csv.specs.Machine.{Read, next_record, step, is_end, ends_at_end, fields_after, field_after}
-use Rattle.csv.specs.Reading.{records_from, records_next, default_config}
+use Rattle.csv.specs.{declared.parser.State.State, Reading.records_from, Reading.records_next, Reading.default_config}
+use Rattle.csv.specs.declared.parser.State.TheVariants as st
 use Rattle.rv_invfile.specs.Csv.{left}
 
 some-is : (p q : Read) → ◌≡◌ {A = Option Read} (Some p) (Some q) → p ≡ q

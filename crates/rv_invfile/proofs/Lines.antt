@@ -3,12 +3,10 @@ use Rattle.std.proofs.Common.{◌≡◌, ◌<◌, ℕ, Bool, cond, List, [], ◌
 use Rattle.std.specs.Prelude.{⊤, ◌==◌}
 use Rattle.csv.specs.declared.parser.State.TheVariants as st
 use Rattle.csv.specs.Reading.{strip_bom}
-use Rattle.csv.specs.declared.writer.QuoteStyle.TheVariants as style
 use Rattle.csv.specs.Writing.{default_writer, row_text, read_back, escaped, field_text, fields_text, is_blank, needs_quotes, by_style}
-use Rattle.rv_invfile.specs.Writes.{any_width, wide}
+use Rattle.csv.specs.declared.writer.QuoteStyle.TheVariants as style
+use Rattle.rv_invfile.specs.{Writes.any_width, Writes.wide, Rules.Fields, Csv.records_of, Csv.left}
 use Rattle.csv.proofs.RoundTrip.{read-write, rows_text}
-use Rattle.rv_invfile.specs.Rules.{Fields}
-use Rattle.rv_invfile.specs.Csv.{records_of, left}
 use Rattle.rv_invfile.proofs.Left.{left-some, none-left}
 
 -- each record has a field

@@ -1,15 +1,11 @@
 -- Loops that read a list of parts.
 use Rattle.std.proofs.Common.{◌≡◌, ◌+◌, ◌-◌, ◌<◌, ◌≤◌, ℕ, zero, suc, List, [], ◌∷◌, ◌++◌, length, drop, get_or, refl, sym, ap, ◌∙◌, arith, append_assoc}
 use Rattle.std.proofs.Common.{add-one, drop-cons}
-use Rattle.std.specs.Prelude.{Ok, Err}
 use Rattle.std.proofs.lemmas.List.{append-nil}
-use Rattle.rv_invfile.specs.declared.fault.FileFault.{FileFault}
-use Rattle.rv_invfile.specs.Rules.{Rule, done}
+use Rattle.std.specs.Prelude.{Ok, Err}
 use Rattle.rv_invfile.specs.Readers.{Ahead, ◌>>=◌, Reading, Reads, run}
-use Rattle.rv_invfile.specs.Parts.{bind, each, times}
-use Rattle.rv_invfile.specs.Fronts.{with_front}
-use Rattle.rv_invfile.proofs.Bound.{run_bind, bind_ok, bind_err}
-use Rattle.rv_invfile.proofs.OneRecord.{stops_with}
+use Rattle.rv_invfile.specs.{declared.fault.FileFault.FileFault, Rules.Rule, Rules.done, Parts.bind, Parts.each, Parts.times, Fronts.with_front}
+use Rattle.rv_invfile.proofs.{Bound.run_bind, Bound.bind_ok, Bound.bind_err, OneRecord.stops_with}
 
 -- a list of parts is a first part and the others
 abbrev pub more : {A : Type 0} → Rule A → Rule (List A) → Rule (List A)

@@ -1,11 +1,9 @@
 -- Memories stand in the order of their places, so those of a program have one list.
 use Rattle.std.proofs.Common.{◌≡◌, inl, inr, ℕ, zero, suc, ◌<◌, List, [], ◌∷◌, length, get_or, refl, sym, ap, subst, arith}
-use Rattle.std.specs.List.{Contains}
 use Rattle.std.proofs.lemmas.List.{length-map}
-use Rattle.rv_tree.specs.Tree.{ProgramTree}
-use Rattle.rv_tree.specs.Places.{Identifier, Sites}
-use Rattle.rv_types.specs.Lists.{MemoryAt, AreMemories, AreRising, IsAny, memory_places}
-use Rattle.rv_types.specs.Needs.{IsBefore}
+use Rattle.std.specs.List.{Contains}
+use Rattle.rv_tree.specs.{Tree.ProgramTree, Places.Identifier, Places.Sites}
+use Rattle.rv_types.specs.{Lists.MemoryAt, Lists.AreMemories, Lists.AreRising, Lists.IsAny, Lists.memory_places, Needs.IsBefore}
 use Rattle.rv_flat.proofs.Earliest.{not_itself}
 use Rattle.rv_types.proofs.Members.{at_head, cons_cases, in_tail, nothing_in}
 

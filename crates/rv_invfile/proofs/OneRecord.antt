@@ -2,11 +2,10 @@
 use Rattle.std.proofs.Common.{◌≡◌, ◌<◌, ℕ, zero, suc, Bool, true, false, cond, List, [], ◌∷◌, length, refl, sym, ap, ◌∙◌, subst, arith}
 use Rattle.std.specs.Prelude.{Some, None, Result, Ok, Err, option_map, ⊤, OnOk, IfErr}
 use Rattle.rv_invfile.specs.declared.fault.Why.TheVariants as why
-use Rattle.rv_invfile.specs.declared.fault.FileFault.{FileFault}
-use Rattle.rv_invfile.specs.declared.fault.FileFault.TheVariants as fault
-use Rattle.rv_invfile.specs.Rules.{Fields, Form, fault_by, form_of, first_bad, is_plain}
 use Rattle.rv_invfile.specs.Readers.{Ahead, ◌>>=◌, Reading, Reads, judged, taking, take_in}
-use Rattle.rv_invfile.specs.Ahead.{first, others, here, after_one, kind_fault, kind_fault_in}
+use Rattle.rv_invfile.specs.{declared.fault.FileFault.FileFault, Rules.Fields, Rules.Form, Rules.fault_by, Rules.form_of, Rules.first_bad, Rules.is_plain}
+use Rattle.rv_invfile.specs.{Ahead.first, Ahead.others, Ahead.here, Ahead.after_one, Ahead.kind_fault, Ahead.kind_fault_in}
+use Rattle.rv_invfile.specs.declared.fault.FileFault.TheVariants as fault
 
 -- a fault of the kind is that of the record
 stopped-by : (p k : Bool) (f : Form) (n : ℕ) (r : Fields) (rs : List Fields) (e : FileFault)

@@ -1,25 +1,15 @@
 -- All flat systems of one program await the same records.
 use Rattle.std.proofs.Common.{◌≡◌, ℕ, ◌+◌, ◌-◌, true, List, [], ◌∷◌, length, map, refl, sym, ◌∙◌, ap}
-use Rattle.std.specs.Prelude.{◌||◌, codes, nat_eq, nat_lt, slice_get}
-use Rattle.std.specs.Str.{bytes_eq}
 use Rattle.std.proofs.lemmas.List.{length-map}
-use Rattle.rv_base.specs.declared.value.Trace.{Trace}
-use Rattle.rv_base.specs.declared.value.Value.{Value}
-use Rattle.rv_tree.specs.Tree.{ProgramTree}
-use Rattle.rv_tree.specs.Places.{Identifier}
-use Rattle.rv_types.specs.declared.typed.Kind.{Kind}
-use Rattle.rv_types.specs.Lists.{MemoryAt}
-use Rattle.rv_flat.specs.declared.flat.Flat.{Flat}
-use Rattle.rv_flat.specs.declared.parts.FlatInput.{FlatInput}
-use Rattle.rv_flat.specs.declared.parts.FlatMemory.{FlatMemory}
-use Rattle.rv_flat.specs.FlatOf.{IsFlatOf}
-use Rattle.rv_flat.specs.Systems.{memory_of}
+use Rattle.std.specs.{Prelude.◌||◌, Prelude.codes, Prelude.nat_eq, Prelude.nat_lt, Prelude.slice_get, Str.bytes_eq}
+use Rattle.rv_base.specs.{declared.value.Trace.Trace, declared.value.Value.Value}
+use Rattle.rv_tree.specs.{Tree.ProgramTree, Places.Identifier}
+use Rattle.rv_types.specs.{declared.typed.Kind.Kind, Lists.MemoryAt}
+use Rattle.rv_flat.specs.{declared.flat.Flat.Flat, declared.parts.FlatInput.FlatInput, declared.parts.FlatMemory.FlatMemory, FlatOf.IsFlatOf, Systems.memory_of}
 use Rattle.rv_invfile.proofs.MemoryLists.{one_listing}
-use Rattle.rv_invfile.specs.Rules.{Rule, done, await}
-use Rattle.rv_invfile.specs.Parts.{bind, each, times}
 use Rattle.rv_invfile.specs.Forms.{field, is_worded, exactly, names, lists, counts}
-use Rattle.rv_invfile.specs.Texts.{Labels, dotted}
 use Rattle.rv_invfile.specs.Traces.{first_record, last_record, is_value, is_value_at, read_value, read_values, tail_of, start, trace_end, trace_rule}
+use Rattle.rv_invfile.specs.{Rules.Rule, Rules.done, Rules.await, Parts.bind, Parts.each, Parts.times, Texts.Labels, Texts.dotted}
 
 -- A rule by what it reads of a flat system: its labels, its memories by place and type, its inputs by name and by type, how many
 -- there are of both, and its name.

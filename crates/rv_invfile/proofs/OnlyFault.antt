@@ -1,14 +1,11 @@
 -- The first fault of records is the one that reading answers, so there is one at most, and none where they are a document.
 use Rattle.std.proofs.Common.{◌≡◌, ◌+◌, ℕ, List, [], ◌∷◌, ◌++◌, length, refl, sym, ap, ◌∙◌, arith, inl, inr}
 use Rattle.std.specs.Prelude.{Some, Result, Ok, Err}
-use Rattle.rv_invfile.specs.declared.fault.Why.{Why}
-use Rattle.rv_invfile.specs.declared.fault.Why.TheVariants as why
-use Rattle.rv_invfile.specs.declared.fault.FileFault.{FileFault}
-use Rattle.rv_invfile.specs.declared.fault.FileFault.TheVariants as fault
 use Rattle.rv_invfile.specs.Rules.{Fields, Rule, done, await, after, fault_after, HasNoFault}
-use Rattle.rv_invfile.specs.Faults.{Faulty, IsFirstFault}
 use Rattle.rv_invfile.specs.Readers.{◌>>=◌, Gives, fault_at, judged, run, closing, whole}
-use Rattle.rv_invfile.specs.Tells.{Refuses}
+use Rattle.rv_invfile.specs.{declared.fault.Why.Why, declared.fault.FileFault.FileFault, Faults.Faulty, Faults.IsFirstFault, Tells.Refuses}
+use Rattle.rv_invfile.specs.declared.fault.Why.TheVariants as why
+use Rattle.rv_invfile.specs.declared.fault.FileFault.TheVariants as fault
 use Rattle.rv_invfile.proofs.Exact.{first-right, rest-right, nothing-awaited, whole_from, Unfinished}
 
 pub reads-fault : {A : Type 0} (rule : Rule A) (n : ℕ) (before : List Fields) (here : Fields) (more : List Fields) (y : Why) → HasNoFault rule before

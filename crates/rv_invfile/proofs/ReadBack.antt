@@ -1,50 +1,28 @@
 -- What is written for a trace that fits is a document with that trace.
 use Rattle.std.proofs.Common.{◌≡◌, ◌+◌, ◌-◌, ◌<◌, ◌≤◌, ◌^◌, ℕ, zero, suc, Bool, true, false, cond, List, [], ◌∷◌, ◌++◌, length, map, get_or, refl, sym, ap, ◌∙◌}
 use Rattle.std.proofs.Common.{subst, arith, eqb, inl, inr}
+use Rattle.std.proofs.{lemmas.Int.ints, lemmas.List.append-nil, lemmas.List.length-map, lemmas.Bool.eqb-true, lemmas.Bool.eq-eqb, lemmas.Bool.le-leb}
+use Rattle.std.proofs.{Math.Dec.eqb-suc-zero, lemmas.Bool.Decides.nat_tests, lemmas.Fmt.decimal_is_IsNumeral, lemmas.Str.Parse.digit_from_value}
 use Rattle.std.specs.Prelude.{◌&&◌, ◌||◌, Option, Some, None, is_some, slice_get, nat_eq, nat_le, nat_lt, decimal, codes, option_map, ℤ, pos, negsuc, neg_ℤ}
 use Rattle.std.specs.Prelude.{int_le, ⊤, ◌≤ℤ◌}
-use Rattle.std.specs.Option.{unwrap_or}
-use Rattle.std.specs.Str.{bytes_eq}
-use Rattle.std.specs.Str.Parse.{AllDigits}
-use Rattle.std.specs.List.{AllByRecursion, list_all}
-use Rattle.std.specs.Fmt.{signed_decimal}
-use Rattle.std.proofs.lemmas.Int.{ints}
-use Rattle.std.proofs.lemmas.List.{append-nil, length-map}
-use Rattle.std.proofs.lemmas.Bool.{eqb-true, eq-eqb, le-leb}
-use Rattle.std.proofs.Math.Dec.{eqb-suc-zero}
-use Rattle.std.proofs.lemmas.Bool.Decides.{nat_tests}
-use Rattle.std.proofs.lemmas.Fmt.{decimal_is_IsNumeral}
-use Rattle.std.proofs.lemmas.Str.Parse.{digit_from_value}
-use Rattle.rv_base.specs.declared.value.Value.{Value}
+use Rattle.std.specs.{Option.unwrap_or, Str.bytes_eq, Str.Parse.AllDigits, List.AllByRecursion, List.list_all, Fmt.signed_decimal}
 use Rattle.rv_base.specs.declared.value.Value.TheVariants.{Flag, Label, Whole}
+use Rattle.rv_base.specs.{declared.value.Value.Value, declared.value.Trace.Trace}
 use Rattle.rv_invfile.specs.declared.fault.Why.TheVariants as why
 use Rattle.rv_types.specs.declared.typed.Kind.{Kind}
 use Rattle.rv_types.specs.declared.typed.Kind.TheVariants as kind
-use Rattle.rv_invfile.specs.Rules.{Fields, Form, Rule, done, await, is_plain, form_of, fault_in, fault_by, first_bad}
-use Rattle.rv_invfile.specs.Told.{IsAmong, AreDifferent}
-use Rattle.rv_tree.specs.Words.{is_name_byte, is_name}
-use Rattle.rv_invfile.specs.Spells.{Spells, IsAlive}
-use Rattle.rv_invfile.proofs.Begins.{alive-bind, alive-times}
-use Rattle.rv_invfile.specs.Texts.{natural, whole, is_whole, least, greatest, Labels, label_at, value_text, HasKind, label_from, value_of, dotted}
-use Rattle.rv_invfile.proofs.Digits.{decimal-all, dotted-all, signed-all}
-use Rattle.rv_invfile.proofs.Written.{Right}
-use Rattle.rv_invfile.proofs.Decimals.{same-bytes, bytes-same, natural-is}
-use Rattle.rv_invfile.proofs.Instants.{none-bad}
-use Rattle.rv_base.specs.declared.value.Trace.{Trace}
-use Rattle.rv_flat.specs.declared.flat.Flat.{Flat}
-use Rattle.rv_flat.specs.declared.parts.FlatMemory.{FlatMemory}
-use Rattle.rv_flat.specs.declared.parts.FlatInput.{FlatInput}
-use Rattle.rv_invfile.specs.Rules.{IsDocument}
-use Rattle.rv_invfile.specs.Told.{IsTold, HasValues, IsIn}
-use Rattle.rv_invfile.specs.Parts.{bind, each, times}
-use Rattle.rv_invfile.specs.Texts.{is_natural}
+use Rattle.rv_invfile.specs.Rules.{Fields, Form, Rule, done, await, is_plain, form_of, fault_in, fault_by, first_bad, IsDocument}
+use Rattle.rv_invfile.specs.Told.{IsAmong, AreDifferent, IsTold, HasValues, IsIn}
+use Rattle.rv_invfile.specs.Texts.{natural, whole, is_whole, least, greatest, Labels, label_at, value_text, HasKind, label_from, value_of, dotted, is_natural}
 use Rattle.rv_invfile.specs.Forms.{field, fixed, named, listed, counted, exactly, names, lists, counts}
 use Rattle.rv_invfile.specs.Traces.{first_record, last_record, start_record, start_records, value_texts, instant_record, trace_records, HaveKinds, Fits}
 use Rattle.rv_invfile.specs.Traces.{read_value, is_value, is_value_at, started, start, tail_of, read_values, input_kinds, given, instant, trace_end, trace_rule}
-use Rattle.rv_invfile.proofs.Spelled.{spells-document, parts-bind}
-use Rattle.rv_invfile.proofs.Loops.{more, each_more, each_none, times_more, times_none}
-use Rattle.rv_invfile.proofs.Decimals.{within}
-use Rattle.rv_invfile.proofs.SameFields.{same-row}
+use Rattle.rv_invfile.specs.{Spells.Spells, Spells.IsAlive, Parts.bind, Parts.each, Parts.times}
+use Rattle.rv_tree.specs.Words.{is_name_byte, is_name}
+use Rattle.rv_invfile.proofs.{Begins.alive-bind, Begins.alive-times, Digits.decimal-all, Digits.dotted-all, Digits.signed-all, Written.Right}
+use Rattle.rv_invfile.proofs.{Decimals.same-bytes, Decimals.bytes-same, Decimals.natural-is, Decimals.within, Instants.none-bad, Spelled.spells-document}
+use Rattle.rv_invfile.proofs.{Spelled.parts-bind, Loops.more, Loops.each_more, Loops.each_none, Loops.times_more, Loops.times_none, SameFields.same-row}
+use Rattle.rv_flat.specs.{declared.flat.Flat.Flat, declared.parts.FlatMemory.FlatMemory, declared.parts.FlatInput.FlatInput}
 use Rattle.rv_base.proofs.Truths.{both_of as both}
 
 -- ---- A right record is one at which nothing is at fault.

@@ -1,12 +1,10 @@
 -- Records that are compared field by field.
 use Rattle.std.proofs.Common.{◌≡◌, ◌+◌, ◌<◌, ℕ, zero, suc, true, false, List, [], ◌∷◌, length, get_or, map, refl, sym, ap, ◌∙◌, subst, arith, add-one}
-use Rattle.std.specs.Prelude.{◌&&◌}
-use Rattle.std.proofs.lemmas.List.{length-map}
-use Rattle.std.specs.Str.{bytes_eq}
+use Rattle.std.proofs.{lemmas.List.length-map, lemmas.Bool.false_from_ne_true}
+use Rattle.std.specs.{Prelude.◌&&◌, Str.bytes_eq}
 use Rattle.rv_invfile.specs.Texts.{same_fields}
 use Rattle.rv_invfile.proofs.Decimals.{same-bytes, bytes-same}
 use Rattle.rv_base.proofs.Truths.{both_of}
-use Rattle.std.proofs.lemmas.Bool.{false_from_ne_true}
 
 pub same-row : (x y : List (List ℕ)) → x ≡ y → same_fields x y ≡ true
 same-row x y e = subst (λ z. same_fields x z ≡ true) e (own x)

@@ -1,14 +1,11 @@
 -- Whole numbers and their texts; values and theirs.
 use Rattle.std.proofs.Common.{◌≡◌, ◌-◌, ◌≤◌, ℕ, zero, suc, Bool, true, false, List, [], ◌∷◌, length, get_or, take, drop, refl, sym, ap, ◌∙◌, subst, arith}
+use Rattle.std.proofs.{lemmas.Int.ints, lemmas.Fmt.decimal_digit, lemmas.Bool.false_from_ne_true}
 use Rattle.std.specs.Prelude.{pos, negsuc, neg_ℤ, int_le, decimal, None, slice_get, option_map}
-use Rattle.std.specs.Str.{bytes_eq}
-use Rattle.std.specs.Fmt.{signed_decimal}
-use Rattle.std.proofs.lemmas.Int.{ints}
+use Rattle.std.specs.{Str.bytes_eq, Fmt.signed_decimal}
 use Rattle.rv_base.specs.declared.value.Value.TheVariants.{Label}
 use Rattle.rv_invfile.specs.Texts.{natural, is_natural, is_whole, least, greatest, Labels, label_from}
 use Rattle.rv_invfile.proofs.Decimals.{bytes-same, within, parts}
-use Rattle.std.proofs.lemmas.Fmt.{decimal_digit}
-use Rattle.std.proofs.lemmas.Bool.{false_from_ne_true}
 
 head-of : (x y : ℕ) (xs ys : List ℕ) → x ∷ xs ≡ y ∷ ys → x ≡ y
 head-of x y xs ys e = cc

@@ -1,31 +1,22 @@
 -- The texts of a trace have no byte that a writer of records sets apart, so each record is written as its line.
 use Rattle.std.proofs.Common.{◌≡◌, ◌+◌, ◌<◌, ℕ, zero, suc, Bool, true, false, List, [], ◌∷◌, ◌++◌, length, map, get_or, refl, ap, ◌∙◌, subst, arith}
+use Rattle.std.proofs.{lemmas.Bool.le-leb, lemmas.Bool.ne_eqb, lemmas.Bool.Decides.nat_tests}
 use Rattle.std.specs.Prelude.{◌&&◌, ◌||◌, ◌==◌, ⊤, ℤ, nat_le, nat_eq, decimal, codes, if◌then◌else◌}
-use Rattle.std.specs.List.{list_all, list_any}
-use Rattle.std.specs.Fmt.{signed_decimal}
-use Rattle.std.proofs.lemmas.Bool.{le-leb, ne_eqb}
-use Rattle.std.proofs.lemmas.Bool.Decides.{nat_tests}
+use Rattle.std.specs.{List.list_all, List.list_any, Fmt.signed_decimal}
 use Rattle.csv.specs.Reading.{strip_bom}
 use Rattle.csv.specs.Writing.{default_writer, field_text, fields_text, is_blank, needs_byte, by_style, quoted, row_text}
 use Rattle.csv.specs.declared.writer.QuoteStyle.TheVariants as style
 use Rattle.csv.proofs.RoundTrip.{rows_text}
-use Rattle.rv_base.specs.declared.value.Value.{Value}
 use Rattle.rv_base.specs.declared.value.Value.TheVariants.{Flag, Label, Whole}
-use Rattle.rv_base.specs.declared.value.Trace.{Trace}
+use Rattle.rv_base.specs.{declared.value.Value.Value, declared.value.Trace.Trace}
 use Rattle.rv_types.specs.declared.typed.Kind.{Kind}
 use Rattle.rv_types.specs.declared.typed.Kind.TheVariants as kind
-use Rattle.rv_flat.specs.declared.flat.Flat.{Flat}
-use Rattle.rv_flat.specs.declared.parts.FlatInput.{FlatInput}
-use Rattle.rv_flat.specs.declared.parts.FlatMemory.{FlatMemory}
-use Rattle.rv_invfile.specs.Csv.{records_of}
-use Rattle.rv_invfile.specs.Rules.{Fields}
-use Rattle.rv_invfile.specs.Texts.{Labels, dotted, label_at, value_text}
-use Rattle.rv_invfile.specs.Told.{IsTold}
-use Rattle.rv_tree.specs.Words.{is_name_byte, is_name}
+use Rattle.rv_flat.specs.{declared.flat.Flat.Flat, declared.parts.FlatInput.FlatInput, declared.parts.FlatMemory.FlatMemory}
 use Rattle.rv_invfile.specs.Traces.{first_record, last_record, start_records, value_texts, input_kinds, instant_record, trace_records}
-use Rattle.rv_invfile.specs.Writes.{line, lines, more_fields, wide}
-use Rattle.rv_invfile.proofs.Digits.{decimal-all, dotted-all, signed-all}
-use Rattle.rv_invfile.proofs.Lines.{HaveFields, wide-rows, written-read}
+use Rattle.rv_invfile.specs.{Csv.records_of, Rules.Fields, Texts.Labels, Texts.dotted, Texts.label_at, Texts.value_text, Told.IsTold, Writes.line, Writes.lines}
+use Rattle.rv_invfile.specs.{Writes.more_fields, Writes.wide}
+use Rattle.rv_tree.specs.Words.{is_name_byte, is_name}
+use Rattle.rv_invfile.proofs.{Digits.decimal-all, Digits.dotted-all, Digits.signed-all, Lines.HaveFields, Lines.wide-rows, Lines.written-read}
 use Rattle.rv_base.proofs.Truths.{both_of}
 
 -- letters, digits, `_`, and the signs of numbers and places

@@ -1,10 +1,8 @@
 -- Documents by the parts of their rules.
 use Rattle.std.proofs.Common.{◌≡◌, List, [], ◌∷◌, ◌++◌, refl, sym, ap, subst}
 use Rattle.rv_invfile.specs.Rules.{Fields, Form, Rule, done, await, after, HasNoFault, IsDocument}
-use Rattle.rv_invfile.specs.Parts.{bind}
-use Rattle.rv_invfile.specs.Spells.{Spells, IsAlive}
-use Rattle.rv_invfile.proofs.Exact.{none-first, none-more, first-right, rest-right, nothing-awaited}
-use Rattle.rv_invfile.proofs.Loops.{more}
+use Rattle.rv_invfile.specs.{Parts.bind, Spells.Spells, Spells.IsAlive}
+use Rattle.rv_invfile.proofs.{Exact.none-first, Exact.none-more, Exact.first-right, Exact.rest-right, Exact.nothing-awaited, Loops.more}
 
 done-is : {A : Type 0} (b a : A) → done b ≡ done a → a ≡ b
 done-is b a e = cc

@@ -1,38 +1,22 @@
 -- What documents ask of a flat system follows from the program that it is of.
 use Rattle.std.proofs.Common.{◌≡◌, ◌<◌, ◌≤◌, ◌^◌, ℕ, zero, suc, Bool, true, false, List, [], ◌∷◌, ◌++◌, length, map, get_or, refl, sym, ap, ◌∙◌, subst, arith}
 use Rattle.std.proofs.Common.{inl, inr}
-use Rattle.std.specs.Prelude.{◌&&◌, ◌||◌, cond, flat_map, nat_eq, nat_le}
-use Rattle.std.specs.List.{Contains, list_all}
-use Rattle.std.proofs.lemmas.Bool.{eq-eqb, eqb-true, leb-true}
+use Rattle.std.proofs.lemmas.Bool.{eq-eqb, eqb-true, leb-true, or_left, or_right}
 use Rattle.std.proofs.lemmas.List.{length-map, length-append}
-use Rattle.rv_tree.specs.declared.tree.Name.{Name}
-use Rattle.rv_tree.specs.declared.tree.Decl.{Decl}
-use Rattle.rv_tree.specs.declared.tree.TypeBody.{TypeBody}
-use Rattle.rv_tree.specs.declared.tree.TypeBody.TheVariants.{Alias, Labels}
-use Rattle.rv_tree.specs.declared.tree.TypeDecl.{TypeDecl}
-use Rattle.rv_tree.specs.Tree.{NodeTree, ProgramTree}
-use Rattle.rv_tree.specs.Places.{Identifier, is_among, is_same, names}
-use Rattle.rv_tree.specs.SourceTrees.{IsSourceTree}
-use Rattle.rv_types.specs.declared.typed.Typed.{Typed}
+use Rattle.std.specs.{Prelude.◌&&◌, Prelude.◌||◌, Prelude.cond, Prelude.flat_map, Prelude.nat_eq, Prelude.nat_le, List.Contains, List.list_all}
+use Rattle.rv_tree.specs.{declared.tree.Name.Name, declared.tree.Decl.Decl, declared.tree.TypeBody.TypeBody, declared.tree.TypeBody.TheVariants.Alias}
+use Rattle.rv_tree.specs.{declared.tree.TypeBody.TheVariants.Labels, declared.tree.TypeDecl.TypeDecl, Tree.NodeTree, Tree.ProgramTree, Places.Identifier}
+use Rattle.rv_tree.specs.{Places.is_among, Places.is_same, Places.names, SourceTrees.IsSourceTree, Words.HasPlainNames, Words.is_name}
 use Rattle.rv_types.specs.Instances.{IsNode, node_of}
-use Rattle.rv_types.specs.declared.fault.NameFault.{NameFault}
-use Rattle.rv_types.specs.declared.fault.NameFault.TheVariants.{DefinedTwice}
 use Rattle.rv_types.specs.Names.{alias_use, constant_names, constant_uses, is_declared, label_names, labels_of, name_faults, names_in_node, node_names}
 use Rattle.rv_types.specs.Names.{repeated, repeated_after, repeated_values, texts, type_names}
-use Rattle.rv_types.specs.Settled.{IsSettled}
+use Rattle.rv_types.specs.{declared.typed.Typed.Typed, declared.fault.NameFault.NameFault, declared.fault.NameFault.TheVariants.DefinedTwice, Settled.IsSettled}
 use Rattle.rv_meaning.proofs.Acceptable.{main_in}
-use Rattle.rv_flat.specs.declared.flat.Flat.{Flat}
-use Rattle.rv_flat.specs.declared.parts.FlatInput.{FlatInput}
+use Rattle.rv_flat.specs.{declared.flat.Flat.Flat, declared.parts.FlatInput.FlatInput, FlatOf.IsFlatOf}
 use Rattle.rv_flat.specs.Facts as facts
-use Rattle.rv_flat.specs.FlatOf.{IsFlatOf}
-use Rattle.rv_invfile.specs.Texts.{all_few}
-use Rattle.rv_invfile.specs.Told.{AreDifferent, IsAmong, IsTold}
-use Rattle.rv_tree.specs.Words.{HasPlainNames, is_name}
-use Rattle.rv_types.proofs.Members.{at_head, in_tail}
-use Rattle.rv_types.proofs.RightNames.{both_empty}
+use Rattle.rv_invfile.specs.{Texts.all_few, Told.AreDifferent, Told.IsAmong, Told.IsTold}
+use Rattle.rv_types.proofs.{Members.at_head, Members.in_tail, RightNames.both_empty}
 use Rattle.rv_base.proofs.Truths.{both_of}
-use Rattle.std.proofs.lemmas.Bool.{or_left}
-use Rattle.std.proofs.lemmas.Bool.{or_right}
 
 same-text : (x y : List ℕ) → is_same x y ≡ true → x ≡ y
 same-text [] [] e = refl

@@ -1,19 +1,13 @@
 -- What one read of a record takes of the records that are left.
 use Rattle.std.proofs.Common.{◌≡◌, ◌+◌, ◌<◌, ◌≤◌, ℕ, zero, suc, Bool, true, false, cond, List, [], ◌∷◌, length, get_or, refl, sym, ap, ◌∙◌, arith, inl}
-use Rattle.std.specs.Prelude.{Option, Some, None}
-use Rattle.std.specs.Borrow.{Bor}
-use Rattle.csv.specs.declared.parser.State.{State}
+use Rattle.std.specs.{Prelude.Option, Prelude.Some, Prelude.None, Borrow.Bor}
+use Rattle.csv.specs.Reading.{ReadRecord, Reached, default_config, took_first, strip_bom, is_bom}
+use Rattle.csv.specs.{declared.parser.State.State, Records.Row, Records.fields_of, Records.field_at}
 use Rattle.csv.specs.declared.reader.Trim.TheVariants as trim
-use Rattle.csv.specs.Reading.{ReadRecord, Reached, default_config, took_first}
-use Rattle.csv.specs.Records.{Row, fields_of, field_at}
 use Rattle.csv.proofs.ReadFacts.{rows-more, rows-end}
-use Rattle.rv_invfile.specs.Rules.{Fields}
-use Rattle.rv_invfile.specs.Readers.{Ahead}
-use Rattle.rv_invfile.specs.Ahead.{after_one, first}
-use Rattle.rv_invfile.specs.Csv.{ByteReader, known, left, left_in, left_of, standing, most, IsReading, Keeps}
+use Rattle.rv_invfile.specs.Csv.{ByteReader, known, left, left_in, left_of, standing, most, IsReading, Keeps, records_of}
+use Rattle.rv_invfile.specs.{Rules.Fields, Readers.Ahead, Ahead.after_one, Ahead.first}
 use Rattle.csv.specs.declared.parser.State.TheVariants as st
-use Rattle.csv.specs.Reading.{strip_bom, is_bom}
-use Rattle.rv_invfile.specs.Csv.{records_of}
 use Rattle.rv_invfile.proofs.Left.{left-some, left-none, few}
 
 abbrev rem : Bor (List ℕ) → Option (List ℕ)

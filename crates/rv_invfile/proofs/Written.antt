@@ -1,36 +1,23 @@
 -- A document of the rule of traces is written by the rules of formats, for a trace that fits.
 use Rattle.std.proofs.Common.{◌≡◌, ◌+◌, ◌-◌, ◌<◌, ◌≤◌, ℕ, zero, suc, Bool, true, false, cond, List, [], ◌∷◌, ◌++◌, length, map, get_or, refl, sym, ap, ◌∙◌}
 use Rattle.std.proofs.Common.{subst, arith, add-one, eqb}
+use Rattle.std.proofs.{lemmas.Int.ints, lemmas.Bool.eqb-true, lemmas.Bool.eqb-false, lemmas.List.append-nil}
 use Rattle.std.specs.Prelude.{◌&&◌, Option, Some, None, is_some, slice_get, nat_eq, decimal, codes, option_map, ℤ, int_le, ⊤, ◌≤ℤ◌}
-use Rattle.std.specs.Option.{unwrap_or}
-use Rattle.std.specs.Str.{bytes_eq}
-use Rattle.std.specs.List.{AllByRecursion}
-use Rattle.std.specs.Fmt.{signed_decimal}
-use Rattle.std.proofs.lemmas.Int.{ints}
-use Rattle.std.proofs.lemmas.Bool.{eqb-true, eqb-false}
-use Rattle.std.proofs.lemmas.List.{append-nil}
-use Rattle.rv_base.specs.declared.value.Value.{Value}
-use Rattle.rv_base.specs.declared.value.Trace.{Trace}
+use Rattle.std.specs.{Option.unwrap_or, Str.bytes_eq, List.AllByRecursion, Fmt.signed_decimal}
 use Rattle.rv_base.specs.declared.value.Value.TheVariants.{Flag, Label, Whole}
-use Rattle.rv_invfile.specs.declared.fault.Why.{Why}
-use Rattle.rv_invfile.specs.declared.fault.Why.TheVariants as why
-use Rattle.rv_flat.specs.declared.flat.Flat.{Flat}
-use Rattle.rv_flat.specs.declared.parts.FlatMemory.{FlatMemory}
-use Rattle.rv_flat.specs.declared.parts.FlatInput.{FlatInput}
-use Rattle.rv_types.specs.declared.typed.Kind.{Kind}
-use Rattle.rv_types.specs.declared.typed.Kind.TheVariants as kind
+use Rattle.rv_base.specs.{declared.value.Value.Value, declared.value.Trace.Trace}
 use Rattle.rv_invfile.specs.Rules.{Fields, Form, Rule, done, await, is_plain, form_of, fault_in, fault_by, first_bad, IsDocument}
-use Rattle.rv_invfile.specs.Parts.{bind, each, times}
 use Rattle.rv_invfile.specs.Forms.{field, word_of, is_worded, fixed, named, listed, counted, exactly, names, lists, counts}
 use Rattle.rv_invfile.specs.Texts.{natural, whole, is_whole, least, greatest, Labels, value_text, HasKind, label_from, value_of, dotted}
 use Rattle.rv_invfile.specs.Traces.{first_record, last_record, start_record, start_records, value_texts, instant_record, trace_records, HaveKinds, Fits}
 use Rattle.rv_invfile.specs.Traces.{read_value, is_value, started, start, tail_of, read_values, input_kinds, given, instant, trace_end, trace_rule}
-use Rattle.rv_invfile.specs.Spells.{Spells}
-use Rattle.rv_invfile.proofs.Spelled.{document-spells, bind-parts}
-use Rattle.rv_invfile.proofs.Loops.{more, each_more, each_none, times_more, times_none}
-use Rattle.rv_invfile.proofs.Decimals.{bytes-same, natural-told}
-use Rattle.rv_invfile.proofs.SameFields.{row-same}
-use Rattle.rv_invfile.proofs.Instants.{field-allowed}
+use Rattle.rv_invfile.specs.{declared.fault.Why.Why, Parts.bind, Parts.each, Parts.times, Spells.Spells}
+use Rattle.rv_invfile.specs.declared.fault.Why.TheVariants as why
+use Rattle.rv_flat.specs.{declared.flat.Flat.Flat, declared.parts.FlatMemory.FlatMemory, declared.parts.FlatInput.FlatInput}
+use Rattle.rv_types.specs.declared.typed.Kind.{Kind}
+use Rattle.rv_types.specs.declared.typed.Kind.TheVariants as kind
+use Rattle.rv_invfile.proofs.{Spelled.document-spells, Spelled.bind-parts, Loops.more, Loops.each_more, Loops.each_none, Loops.times_more, Loops.times_none}
+use Rattle.rv_invfile.proofs.{Decimals.bytes-same, Decimals.natural-told, SameFields.row-same, Instants.field-allowed}
 use Rattle.rv_base.proofs.Truths.{both_of}
 
 value-is : (v w : Value) → Some v ≡ Some w → v ≡ w

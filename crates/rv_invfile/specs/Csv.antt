@@ -1,11 +1,9 @@
 -- The records of bytes, and those that a reader of records has left.
 use Rattle.std.specs.Prelude.{◌≡◌, ◌+◌, ◌<◌, ◌≤◌, ℕ, Bool, true, false, cond, List, [], ◌∷◌, length, Option, Some, None}
 use Rattle.std.specs.Borrow.{Bor}
-use Rattle.csv.specs.declared.parser.State.{State}
-use Rattle.csv.specs.declared.reader.Reader.{Reader}
-use Rattle.csv.specs.declared.reader.Trim.TheVariants as trim
 use Rattle.csv.specs.Reading.{Ready, default_config, records, records_from, strip_bom, reader_config, reader_state, reader_trim, source_of}
-use Rattle.csv.specs.Records.{Row, fields_of}
+use Rattle.csv.specs.{declared.parser.State.State, declared.reader.Reader.Reader, Records.Row, Records.fields_of}
+use Rattle.csv.specs.declared.reader.Trim.TheVariants as trim
 use Rattle.rv_invfile.specs.Rules.{Fields}
 
 -- The records of a file: as `csv` reads them with its defaults, without a byte order mark at the start.

@@ -1,10 +1,9 @@
 -- The first fault of records that are no document.
 use Rattle.std.specs.Prelude.{◌≡◌, ℕ, List, ◌∷◌, ◌++◌, length, Some}
-use Rattle.rv_invfile.specs.declared.fault.Why.{Why}
-use Rattle.rv_invfile.specs.declared.fault.Why.TheVariants as why
-use Rattle.rv_invfile.specs.declared.fault.FileFault.{FileFault}
-use Rattle.rv_invfile.specs.declared.fault.FileFault.TheVariants as fault
 use Rattle.rv_invfile.specs.Rules.{Fields, Rule, done, fault_after, HasNoFault, after}
+use Rattle.rv_invfile.specs.{declared.fault.Why.Why, declared.fault.FileFault.FileFault}
+use Rattle.rv_invfile.specs.declared.fault.Why.TheVariants as why
+use Rattle.rv_invfile.specs.declared.fault.FileFault.TheVariants as fault
 
 -- The record with this number is at fault in this, and none before it.
 pub record Faulty {A : Type 0} (rule : Rule A) (rs : List Fields) (n : ℕ) (y : Why) : Type 0 where

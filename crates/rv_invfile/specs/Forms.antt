@@ -1,8 +1,7 @@
 -- The forms of records that documents share.
 use Rattle.std.specs.Prelude.{◌&&◌, ◌||◌, ℕ, Bool, true, nat_eq, List, [], ◌∷◌, length, get_or, ⊤}
 use Rattle.std.specs.Str.{bytes_eq}
-use Rattle.rv_invfile.specs.Rules.{Fields, Form, Rule, done, await}
-use Rattle.rv_invfile.specs.Texts.{same_fields, natural, is_natural}
+use Rattle.rv_invfile.specs.{Rules.Fields, Rules.Form, Rules.Rule, Rules.done, Rules.await, Texts.same_fields, Texts.natural, Texts.is_natural}
 
 abbrev pub word_of : Fields → List ℕ
 word_of r = get_or r 0 []

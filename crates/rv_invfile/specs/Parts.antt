@@ -1,7 +1,6 @@
 -- What rules are made of: one part and then another, a part for each of a list, a part so many times, one part or another.
 use Rattle.std.specs.Prelude.{ℕ, zero, suc, Bool, false, cond, List, [], ◌∷◌, ◌++◌, is_some}
-use Rattle.rv_invfile.specs.Rules.{Fields, Form, Rule, done, await, form_of}
-use Rattle.rv_invfile.specs.Readers.{Ahead}
+use Rattle.rv_invfile.specs.{Rules.Fields, Rules.Form, Rules.Rule, Rules.done, Rules.await, Rules.form_of, Readers.Ahead}
 
 -- one part, and then by its value the rest
 abbrev pub bind : {A B : Type 0} → Rule A → (A → Rule B) → Rule B

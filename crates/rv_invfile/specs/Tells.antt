@@ -1,9 +1,7 @@
 -- What reading says of records, from a first number on.
 use Rattle.std.specs.Prelude.{◌≡◌, ◌⊎◌, List, Result, Ok, Err}
-use Rattle.rv_invfile.specs.declared.fault.FileFault.{FileFault}
+use Rattle.rv_invfile.specs.{declared.fault.FileFault.FileFault, Rules.Fields, Rules.Rule, Rules.IsDocument, Faults.IsFirstFault}
 use Rattle.rv_invfile.specs.declared.fault.FileFault.TheVariants as fault
-use Rattle.rv_invfile.specs.Rules.{Fields, Rule, IsDocument}
-use Rattle.rv_invfile.specs.Faults.{IsFirstFault}
 
 -- an answer says what the records are
 abbrev pub Tells : {A : Type 0} → Rule A → List Fields → Result A FileFault → Type 0

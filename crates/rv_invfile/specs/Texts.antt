@@ -1,11 +1,7 @@
 -- What stands in fields: numbers, values and places.
 use Rattle.std.specs.Prelude.{◌<◌, ◌≤◌, ◌+◌, ◌&&◌, ℕ, ℤ, pos, negsuc, neg_ℤ, Bool, true, false, cond, nat_le, nat_eq, int_le, List, [], ◌∷◌, ◌++◌, length}
 use Rattle.std.specs.Prelude.{get_or, flat_map, Option, Some, None, ⊤, codes, option_map, decimal, ◌≤ℤ◌}
-use Rattle.std.specs.Str.{bytes_eq}
-use Rattle.std.specs.List.{All}
-use Rattle.std.specs.Fmt.{signed_decimal}
-use Rattle.std.specs.Str.Parse.{digits_value}
-use Rattle.std.specs.Cmp.Lexicographic.{pointwise}
+use Rattle.std.specs.{Str.bytes_eq, List.All, Fmt.signed_decimal, Str.Parse.digits_value, Cmp.Lexicographic.pointwise}
 use Rattle.rv_base.specs.declared.value.Value.{Value}
 use Rattle.rv_base.specs.declared.value.Value.TheVariants.{Flag, Label, Whole}
 use Rattle.rv_types.specs.declared.typed.Kind.{Kind}

@@ -1,13 +1,10 @@
 -- What is known of a flat system of which documents tell.
 use Rattle.std.specs.Prelude.{◌≡◌, ◌<◌, ◌≤◌, ◌^◌, ◌⊎◌, ℕ, true, List, [], ◌∷◌, length, get_or}
 use Rattle.std.specs.List.{list_all}
-use Rattle.rv_flat.specs.declared.flat.Flat.{Flat}
+use Rattle.rv_flat.specs.{declared.flat.Flat.Flat, declared.parts.FlatInput.FlatInput, declared.parts.FlatMemory.FlatMemory}
 use Rattle.rv_tree.specs.Words.{is_name}
 use Rattle.rv_invfile.specs.Texts.{all_few, HasKind}
-use Rattle.rv_base.specs.Limits.{source_limit}
-use Rattle.rv_base.specs.declared.value.Value.{Value}
-use Rattle.rv_flat.specs.declared.parts.FlatInput.{FlatInput}
-use Rattle.rv_flat.specs.declared.parts.FlatMemory.{FlatMemory}
+use Rattle.rv_base.specs.{Limits.source_limit, declared.value.Value.Value}
 
 -- a text is one of these
 abbrev pub IsAmong : List ℕ → List (List ℕ) → Type 0

@@ -1,20 +1,12 @@
 -- The document of a trace: how it is written, and by which rule it is read.
 use Rattle.std.specs.Prelude.{◌≤◌, ◌+◌, ◌-◌, ◌||◌, ℕ, Bool, true, nat_eq, nat_lt, List, [], ◌∷◌, ◌++◌, length, map, codes, is_some, slice_get, Option, Some}
 use Rattle.std.specs.Prelude.{None, ⊤, decimal}
-use Rattle.std.specs.List.{All, AllByRecursion}
-use Rattle.std.specs.Option.{unwrap_or}
-use Rattle.rv_base.specs.declared.value.Value.{Value}
-use Rattle.rv_base.specs.declared.value.Value.TheVariants.{Flag}
-use Rattle.rv_base.specs.declared.value.Trace.{Trace}
-use Rattle.rv_flat.specs.declared.flat.Flat.{Flat}
-use Rattle.rv_flat.specs.Steps.{AreValues, memory_kinds}
-use Rattle.rv_flat.specs.declared.parts.FlatMemory.{FlatMemory}
+use Rattle.std.specs.{List.All, List.AllByRecursion, Option.unwrap_or, Str.bytes_eq}
+use Rattle.rv_base.specs.{declared.value.Value.Value, declared.value.Value.TheVariants.Flag, declared.value.Trace.Trace}
+use Rattle.rv_flat.specs.{declared.flat.Flat.Flat, Steps.AreValues, Steps.memory_kinds, declared.parts.FlatMemory.FlatMemory}
 use Rattle.rv_types.specs.declared.typed.Kind.{Kind}
-use Rattle.std.specs.Str.{bytes_eq}
-use Rattle.rv_invfile.specs.Rules.{Fields, Form, Rule, done, await}
-use Rattle.rv_invfile.specs.Parts.{bind, each, times}
-use Rattle.rv_invfile.specs.Forms.{field, is_worded, exactly, names, lists, counts}
-use Rattle.rv_invfile.specs.Texts.{Labels, dotted, value_text, HasKind, value_of}
+use Rattle.rv_invfile.specs.{Rules.Fields, Rules.Form, Rules.Rule, Rules.done, Rules.await, Parts.bind, Parts.each, Parts.times, Forms.field, Forms.is_worded}
+use Rattle.rv_invfile.specs.{Forms.exactly, Forms.names, Forms.lists, Forms.counts, Texts.Labels, Texts.dotted, Texts.value_text, Texts.HasKind, Texts.value_of}
 
 -- ---- How a trace is written.
 abbrev pub first_record : Fields

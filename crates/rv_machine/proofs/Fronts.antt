@@ -1,12 +1,10 @@
 -- What is written of a piece when a writer stops.
-use Rattle.std.proofs.Common.{◌≡◌, ℕ, ◌-◌, ◌≤◌, List, [], ◌++◌, length, take, drop, Option, refl, sym, ap, ◌∙◌, subst, arith}
-use Rattle.std.proofs.Common.{append_assoc, append-nil, take-append-drop}
-use Rattle.std.proofs.lemmas.List.{take_rest, length-append}
-use Rattle.std.proofs.Math.Seq.{take-append_seam}
+use Rattle.std.proofs.Common.{◌≡◌, ℕ, ◌-◌, ◌≤◌, List, [], ◌++◌, length, take, drop, Option, refl, sym, ap, ◌∙◌, subst, arith, append_assoc, append-nil}
+use Rattle.std.proofs.Common.{take-append-drop}
+use Rattle.std.proofs.KnownBytes.{Appends-trans, Appends-kept, Appends-nil as none}
+use Rattle.std.proofs.{lemmas.List.take_rest, lemmas.List.length-append, Math.Seq.take-append_seam}
 use Rattle.std.specs.Io.KnownBytes.{Appends, Keeps}
-use Rattle.std.proofs.KnownBytes.{Appends-trans, Appends-kept}
 use Rattle.rv_base.specs.Shown.{AppendsPrefix}
-use Rattle.std.proofs.KnownBytes.{Appends-nil as none}
 
 -- a front of a piece is written, and this rest is left
 pub record IsFront (old now : Option (List ℕ)) (piece rest : List ℕ) : Type 0 where

@@ -1,19 +1,13 @@
 -- A made program of up to 2,000 calls can be run.
 use Rattle.std.proofs.Common.{◌≡◌, ℕ, ◌≤◌, inl, inr, [], ◌∷◌, refl, sym, ap, subst, arith}
 use Rattle.std.proofs.lemmas.Bool.{true≢false}
-use Rattle.std.specs.Prelude.{codes}
-use Rattle.std.specs.List.{Contains}
-use Rattle.rv_tree.specs.Tree.{NodeTree, ProgramTree}
-use Rattle.rv_tree.specs.Places.{Identifier, is_same}
+use Rattle.std.specs.{Prelude.codes, List.Contains}
+use Rattle.rv_tree.specs.{Tree.NodeTree, Tree.ProgramTree, Places.Identifier, Places.is_same}
 use Rattle.rv_types.specs.Instances.{CallTree, calls, node_of}
 use Rattle.rv_calls.specs.Reach.{Reaches, itself, by_call, HasNoRecursion}
 use Rattle.rv_causality.specs.Causes.{IsAccepted}
 use Rattle.rv_make.specs.Chains.{Offsets, link_node, main_node, chain_program}
-use Rattle.rv_made_order.proofs.Lists.{only_one}
-use Rattle.rv_made_order.proofs.Instances.{each_call}
-use Rattle.rv_made_order.proofs.Ranked.{no_cycle}
-use Rattle.rv_made_order.proofs.Sized.{within}
-use Rattle.rv_made_order.proofs.Weighed.{are_light}
+use Rattle.rv_made_order.proofs.{Lists.only_one, Instances.each_call, Ranked.no_cycle, Sized.within, Weighed.are_light}
 use Rattle.rv_types.proofs.Members.{cons_cases, nothing_in}
 
 not_link : codes "main" ≡ codes "link" → ⊥

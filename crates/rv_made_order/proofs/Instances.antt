@@ -1,26 +1,17 @@
 -- The instances of a made program: the main node, and the node that delays for each call, all on the clock of the main node.
 use Rattle.std.proofs.Common.{◌≡◌, ℕ, zero, suc, ◌+◌, ◌*◌, ◌<◌, ◌≤◌, ◌⊎◌, inl, inr, List, [], ◌∷◌, ◌++◌, refl, sym, ◌∙◌, ap, subst, arith, Option}
 use Rattle.std.proofs.Common.{None as Nothing}
-use Rattle.std.specs.Prelude.{codes}
-use Rattle.std.specs.List.{Contains, flat_map}
-use Rattle.std.proofs.lemmas.List.{append_assoc, append-nil}
-use Rattle.std.proofs.lemmas.List.Concat.{flat_map-append}
-use Rattle.std.proofs.lemmas.List.Elements.{Contains-push_cases}
-use Rattle.rv_tree.specs.Tree.{None, More, EquationTree, NodeTree, ProgramTree}
-use Rattle.rv_tree.specs.Places.{Sites}
-use Rattle.rv_types.specs.declared.typed.Clock.TheVariants.{Base}
-use Rattle.rv_types.specs.declared.fault.Pace.{Pace}
-use Rattle.rv_types.specs.declared.fault.Pace.TheVariants.{Free}
-use Rattle.rv_types.specs.Clocks.{seen, meet}
+use Rattle.std.proofs.{lemmas.List.append_assoc, lemmas.List.append-nil, lemmas.List.Concat.flat_map-append, lemmas.List.Elements.Contains-push_cases}
+use Rattle.std.specs.{Prelude.codes, List.Contains, List.flat_map}
+use Rattle.rv_tree.specs.{Tree.None, Tree.More, Tree.EquationTree, Tree.NodeTree, Tree.ProgramTree, Places.Sites}
 use Rattle.rv_types.specs.Instances.{CallTree, calls_in, calls_in_equations, calls, Instance, absolute, taken, callee, main_instance, IsInstance, is_main}
 use Rattle.rv_types.specs.Instances.{is_callee, unrolled, all_instances}
-use Rattle.rv_types.specs.Variables.{total, over_instances}
+use Rattle.rv_types.specs.{declared.typed.Clock.TheVariants.Base, declared.fault.Pace.Pace, declared.fault.Pace.TheVariants.Free, Clocks.seen, Clocks.meet}
+use Rattle.rv_types.specs.{Variables.total, Variables.over_instances}
 use Rattle.rv_make.specs.Made.{link_name}
 use Rattle.rv_make.specs.Chains.{Offsets, flow_read, link_calls, ok_equation, link_node, main_node, chain_program}
 use Rattle.rv_sizes.proofs.Summing.{total_append}
-use Rattle.rv_made_order.proofs.Lists.{only_one}
-use Rattle.rv_made_order.proofs.Program.{call_equation}
-use Rattle.rv_made_order.proofs.Paced.{link_pace}
+use Rattle.rv_made_order.proofs.{Lists.only_one, Program.call_equation, Paced.link_pace}
 use Rattle.rv_types.proofs.Members.{cons_cases, nothing_in, of_flat_map}
 
 calls_append : (xs ys : List EquationTree) → calls_in_equations (xs ++ ys) ≡ calls_in_equations xs ++ calls_in_equations ys

@@ -1,16 +1,11 @@
 -- No type of a made program breaks a rule: all flows and expressions are Boolean.
 use Rattle.std.proofs.Common.{◌≡◌, ℕ, zero, suc, ◌+◌, ◌^◌, ◌<◌, ◌≤◌, cond, [], ◌∷◌, ◌++◌, refl, ◌∙◌, ap, arith, Option, Some}
-use Rattle.std.specs.Prelude.{codes, slice_get}
-use Rattle.std.specs.List.{flat_map}
-use Rattle.rv_tree.specs.declared.tree.Decl.{Decl}
-use Rattle.rv_tree.specs.Tree.{Node, Call, None, More, NodeTree, ProgramTree}
-use Rattle.rv_tree.specs.Places.{Identifier}
-use Rattle.rv_types.specs.declared.typed.Kind.TheVariants.{Bool as Boolean}
+use Rattle.std.specs.{Prelude.codes, Prelude.slice_get, List.flat_map}
+use Rattle.rv_tree.specs.{declared.tree.Decl.Decl, Tree.Node, Tree.Call, Tree.None, Tree.More, Tree.NodeTree, Tree.ProgramTree, Places.Identifier}
 use Rattle.rv_types.specs.Kinds.{kind_in_program, decl_kinds, flow_kinds, flow_kind}
-use Rattle.rv_types.specs.Types.{Signature}
 use Rattle.rv_types.specs.Scopes.{constant_kind, value_kind, signature_named, clock_types, equation_types, types_in_node, type_faults}
-use Rattle.rv_make.specs.Made.{link_name}
-use Rattle.rv_make.specs.Chains.{Offsets, equation, flow_read, link_flows, main_node, chain_program}
+use Rattle.rv_types.specs.{declared.typed.Kind.TheVariants.Bool as Boolean, Types.Signature}
+use Rattle.rv_make.specs.{Made.link_name, Chains.Offsets, Chains.equation, Chains.flow_read, Chains.link_flows, Chains.main_node, Chains.chain_program}
 use Rattle.rv_instances.proofs.Lists.{length_map}
 use Rattle.rv_made_order.proofs.Lists.{both_none, none_of_each, each_at, each_mapped}
 use Rattle.rv_made_order.proofs.Program.{ok_equation_of, each_equation, each_flow, flow_there, flow_site, link_site, length_flows}

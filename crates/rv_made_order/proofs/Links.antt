@@ -1,14 +1,10 @@
 -- The names of the flows that the calls of a made source give: all are different.
 use Rattle.std.proofs.Common.{◌≡◌, ℕ, zero, suc, ◌^◌, ◌<◌, ◌≤◌, ◌⊎◌, inl, inr, Bool, true, false, ◌||◌, List, [], ◌∷◌, ◌++◌, length, refl, sym, ◌∙◌, ap, arith}
-use Rattle.std.specs.Fmt.{decimal}
-use Rattle.std.proofs.lemmas.Fmt.{decimal_injective}
-use Rattle.std.specs.Cmp.Lexicographic.{same_text}
 use Rattle.std.proofs.lemmas.Bool.{or_left, or_right, cases_lt}
-use Rattle.rv_tree.specs.declared.tree.Decl.{Decl}
-use Rattle.rv_tree.specs.Places.{Identifier, names, is_same, is_among, index_of}
-use Rattle.rv_make.specs.Made.{link_name}
-use Rattle.rv_make.specs.Chains.{boolean, link_flows}
-use Rattle.std.proofs.lemmas.List.{map_push, length_push}
+use Rattle.std.proofs.{lemmas.Fmt.decimal_injective, lemmas.List.map_push, lemmas.List.length_push}
+use Rattle.std.specs.{Fmt.decimal, Cmp.Lexicographic.same_text}
+use Rattle.rv_tree.specs.{declared.tree.Decl.Decl, Places.Identifier, Places.names, Places.is_same, Places.is_among, Places.index_of}
+use Rattle.rv_make.specs.{Made.link_name, Chains.boolean, Chains.link_flows}
 use Rattle.rv_made_order.proofs.Lists.{among_push, index_in_front, index_at_end, are_apart, apart_push}
 use Rattle.rv_types.proofs.Members.{text_itself}
 

@@ -1,10 +1,9 @@
 -- Lists: what they contain, what a function gives of joined lists, and the numbers of names.
-use Rattle.std.proofs.Common.{◌≡◌, ℕ, zero, suc, ◌+◌, ◌<◌, inl, inr, Bool, true, false, cond, not, ◌||◌, ◌&&◌, List, [], ◌∷◌, ◌++◌, map, length, get_or}
-use Rattle.std.proofs.Common.{refl, sym, ◌∙◌, ap, arith, Some}
-use Rattle.std.specs.List.{Contains, flat_map}
-use Rattle.std.specs.Prelude.{slice_get}
-use Rattle.rv_types.specs.Variables.{total}
+use Rattle.std.proofs.Common.{◌≡◌, ℕ, zero, suc, ◌+◌, ◌<◌, inl, inr, Bool, true, false, cond, not, ◌||◌, ◌&&◌, List, [], ◌∷◌, ◌++◌, map, length, get_or, refl}
+use Rattle.std.proofs.Common.{sym, ◌∙◌, ap, arith, Some}
 use Rattle.std.proofs.lemmas.Bool.{and_parts, and_from, or_parts, or_from}
+use Rattle.std.specs.{List.Contains, List.flat_map, Prelude.slice_get}
+use Rattle.rv_types.specs.Variables.{total}
 use Rattle.rv_sizes.proofs.Summing.{total_append}
 use Rattle.rv_tree.specs.Places.{Identifier, is_same, is_among, index_of}
 use Rattle.rv_types.proofs.Members.{cons_cases, in_tail, nothing_in, text_itself}

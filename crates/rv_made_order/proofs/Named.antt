@@ -1,19 +1,15 @@
 -- No name of a made program breaks a rule.
 use Rattle.std.proofs.Common.{◌≡◌, ℕ, zero, suc, ◌+◌, ◌^◌, ◌<◌, true, cond, not, ◌||◌, List, [], ◌∷◌, ◌++◌, refl, ◌∙◌, ap, arith, Option, Some}
-use Rattle.std.specs.Prelude.{codes}
-use Rattle.std.specs.List.{flat_map}
-use Rattle.std.proofs.lemmas.List.Concat.{flat_map-append}
 use Rattle.std.proofs.lemmas.Bool.{and_parts, or_left, or_right, not-true}
-use Rattle.rv_tree.specs.declared.tree.Name.{Name}
-use Rattle.rv_tree.specs.declared.tree.Decl.{Decl}
+use Rattle.std.proofs.{lemmas.List.Concat.flat_map-append, lemmas.List.map_push}
+use Rattle.std.specs.{Prelude.codes, List.flat_map}
 use Rattle.rv_tree.specs.Tree.{Node, Call, None, More, EquationTree, NodeTree, ProgramTree}
-use Rattle.rv_tree.specs.Places.{Identifier, is_same, is_among, is_flow, names}
+use Rattle.rv_tree.specs.{declared.tree.Name.Name, declared.tree.Decl.Decl, Places.Identifier, Places.is_same, Places.is_among, Places.is_flow, Places.names}
 use Rattle.rv_types.specs.declared.fault.NameFault.TheVariants.{DefinedTwice, Undefined}
 use Rattle.rv_types.specs.Names.{texts, is_declared, node_names, decl_names, decls, lefts, repeated, undefined_unless, flow_use, clock_use, equation_uses}
 use Rattle.rv_types.specs.Names.{names_in_node, name_faults}
 use Rattle.rv_make.specs.Made.{link_name}
 use Rattle.rv_make.specs.Chains.{Offsets, named_at, equation, flow_read, link_flows, link_calls, ok_equation, main_node, chain_program}
-use Rattle.std.proofs.lemmas.List.{map_push}
 use Rattle.rv_made_order.proofs.Lists.{both_none, none_of_each, flat_map_map, are_apart, apart_push, among_push}
 use Rattle.rv_made_order.proofs.Links.{links, flow_links, among_links, not_among, links_apart}
 use Rattle.rv_made_order.proofs.Program.{call_equation, each_equation, each_flow, flow_there}

@@ -1,15 +1,11 @@
 -- No clock of a made program breaks a rule: all flows stand on the base clock.
 use Rattle.std.proofs.Common.{◌≡◌, ℕ, zero, suc, ◌+◌, ◌≤◌, cond, [], ◌++◌, map, refl, ◌∙◌, ap, arith, Option, Some}
-use Rattle.std.specs.Prelude.{codes}
-use Rattle.std.specs.List.{flat_map}
-use Rattle.rv_tree.specs.declared.tree.Decl.{Decl}
+use Rattle.std.specs.{Prelude.codes, List.flat_map}
 use Rattle.rv_tree.specs.Tree.{Node, Call, None, More, NodeTree, ProgramTree}
-use Rattle.rv_tree.specs.Places.{Identifier, site_of}
-use Rattle.rv_types.specs.declared.typed.Clock.TheVariants.{Base}
-use Rattle.rv_types.specs.declared.fault.Pace.TheVariants.{Free, At}
+use Rattle.rv_tree.specs.{declared.tree.Decl.Decl, Places.Identifier, Places.site_of}
 use Rattle.rv_types.specs.Clocks.{declared_clock, clock_at, name_pace, chain_clash, equation_clocks, clocks_in_node, clock_faults}
-use Rattle.rv_make.specs.Made.{link_name}
-use Rattle.rv_make.specs.Chains.{Offsets, equation, flow_read, link_flows, main_node, chain_program}
+use Rattle.rv_types.specs.{declared.typed.Clock.TheVariants.Base, declared.fault.Pace.TheVariants.Free, declared.fault.Pace.TheVariants.At}
+use Rattle.rv_make.specs.{Made.link_name, Chains.Offsets, Chains.equation, Chains.flow_read, Chains.link_flows, Chains.main_node, Chains.chain_program}
 use Rattle.rv_made_order.proofs.Lists.{both_none, none_of_each, each_or, each_mapped}
 use Rattle.rv_made_order.proofs.Program.{ok_equation_of, each_equation, each_flow, flow_there}
 

@@ -1,15 +1,12 @@
 -- The parts of the main node of a made program: its flows, its equations and its calls.
 use Rattle.std.proofs.Common.{◌≡◌, ℕ, zero, suc, ◌+◌, ◌^◌, ◌<◌, ◌≤◌, inl, inr, true, [], ◌∷◌, ◌++◌, length, refl, ◌∙◌, ap, subst, arith, Some, None as Nothing}
-use Rattle.std.specs.Prelude.{codes}
-use Rattle.std.specs.List.{Contains}
-use Rattle.std.proofs.lemmas.List.Elements.{Contains-push_cases}
-use Rattle.rv_tree.specs.declared.tree.Decl.{Decl}
-use Rattle.rv_tree.specs.declared.tree.Op.TheVariants as op
+use Rattle.std.proofs.{lemmas.List.Elements.Contains-push_cases, lemmas.List.length_push}
+use Rattle.std.specs.{Prelude.codes, List.Contains}
 use Rattle.rv_tree.specs.Tree.{Node, Not, Binary, Call, None, More, EquationTree}
-use Rattle.rv_tree.specs.Places.{Identifier, names, is_among, is_flow, index_of, site_of}
+use Rattle.rv_tree.specs.{declared.tree.Decl.Decl, Places.Identifier, Places.names, Places.is_among, Places.is_flow, Places.index_of, Places.site_of}
+use Rattle.rv_tree.specs.declared.tree.Op.TheVariants as op
 use Rattle.rv_make.specs.Made.{link_name}
 use Rattle.rv_make.specs.Chains.{Offsets, boolean, flow_read, equation, link_flows, link_calls, seen_equation, ok_equation, main_node}
-use Rattle.std.proofs.lemmas.List.{length_push}
 use Rattle.rv_made_order.proofs.Links.{flow_links, among_links, index_links}
 use Rattle.rv_types.proofs.Members.{cons_cases, nothing_in}
 

@@ -1,24 +1,17 @@
 -- Each flow of a made program needs only flows of lower rank at the same instant, so none needs itself.
 use Rattle.std.proofs.Common.{◌≡◌, ℕ, zero, suc, ◌+◌, ◌-◌, ◌*◌, ◌^◌, ◌<◌, ◌≤◌, inl, inr, cond, List, [], ◌∷◌, ◌++◌, length, refl, sym, ◌∙◌, ap, subst, arith}
-use Rattle.std.specs.Prelude.{codes}
-use Rattle.std.specs.List.{Contains}
+use Rattle.std.specs.{Prelude.codes, List.Contains}
 use Rattle.rv_tree.specs.Tree.{Tree, Trees, None, More, EquationTree, NodeTree, ProgramTree}
 use Rattle.rv_tree.specs.Places.{Identifier, Sites, site_of}
-use Rattle.rv_types.specs.declared.typed.Clock.{Clock}
-use Rattle.rv_types.specs.declared.typed.Clock.TheVariants.{Base}
-use Rattle.rv_types.specs.declared.fault.Pace.{Pace}
-use Rattle.rv_types.specs.declared.fault.Pace.TheVariants.{Free, At}
-use Rattle.rv_types.specs.Clocks.{seen, meet, grounded}
-use Rattle.rv_types.specs.Names.{texts}
 use Rattle.rv_types.specs.Instances.{CallTree, calls, Right, Body, IsRight, alone, in_order, IsArgument, head, tail, Instance, place, taken, clock_of}
 use Rattle.rv_types.specs.Instances.{clock_of_arguments, IsInstance}
 use Rattle.rv_types.specs.Needs.{needs, needs_of_right, Giver, needs_of, Gives, given, by_equation, by_call, Leads, IsCycle}
+use Rattle.rv_types.specs.{declared.typed.Clock.Clock, declared.typed.Clock.TheVariants.Base, declared.fault.Pace.Pace, declared.fault.Pace.TheVariants.Free}
+use Rattle.rv_types.specs.{declared.fault.Pace.TheVariants.At, Clocks.seen, Clocks.meet, Clocks.grounded, Names.texts}
 use Rattle.rv_make.specs.Made.{link_name}
 use Rattle.rv_make.specs.Chains.{Offsets, flow_read, delayed, equation, seen_equation, ok_equation, link_node, main_node, chain_program}
-use Rattle.rv_made_order.proofs.Lists.{only_one}
-use Rattle.rv_made_order.proofs.Program.{call_equation, link_site, each_equation, flow_there, flow_site}
-use Rattle.rv_made_order.proofs.Paced.{link_pace}
-use Rattle.rv_made_order.proofs.Instances.{link_call, each_call, main_copy, link_copy, made}
+use Rattle.rv_made_order.proofs.{Lists.only_one, Program.call_equation, Program.link_site, Program.each_equation, Program.flow_there, Program.flow_site}
+use Rattle.rv_made_order.proofs.{Paced.link_pace, Instances.link_call, Instances.each_call, Instances.main_copy, Instances.link_copy, Instances.made}
 use Rattle.rv_types.proofs.Members.{cons_cases, nothing_in}
 
 -- an argument of a call that has one

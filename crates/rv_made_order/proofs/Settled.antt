@@ -1,14 +1,9 @@
 -- A made program meets every rule of names, types and clocks.
 use Rattle.std.proofs.Common.{ℕ, ◌^◌, ◌<◌, [], map, refl}
 use Rattle.std.specs.Prelude.{codes}
-use Rattle.rv_types.specs.declared.typed.Typed.{Typed}
-use Rattle.rv_types.specs.Kinds.{flow_kinds}
-use Rattle.rv_types.specs.Clocks.{flow_clocks}
-use Rattle.rv_types.specs.Settled.{IsSettled}
+use Rattle.rv_types.specs.{declared.typed.Typed.Typed, Kinds.flow_kinds, Clocks.flow_clocks, Settled.IsSettled}
 use Rattle.rv_make.specs.Chains.{Offsets, chain_program}
-use Rattle.rv_made_order.proofs.Named.{named}
-use Rattle.rv_made_order.proofs.Kinded.{typed}
-use Rattle.rv_made_order.proofs.Paced.{clocked}
+use Rattle.rv_made_order.proofs.{Named.named, Kinded.typed, Paced.clocked}
 
 -- the types and clocks of all flows; there are no constants
 abbrev pub typed_of : Offsets → ℕ → Typed

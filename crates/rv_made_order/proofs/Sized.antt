@@ -1,27 +1,21 @@
 -- Each quantity of a made program is within its limit.
 use Rattle.std.proofs.Common.{◌≡◌, ℕ, zero, suc, ◌+◌, ◌*◌, ◌≤◌, inl, inr, Bool, true, false, cond, List, [], ◌∷◌, ◌++◌, length, refl, ◌∙◌, ap, arith, Some}
 use Rattle.std.proofs.Common.{None as Nothing}
-use Rattle.std.specs.Prelude.{codes}
-use Rattle.std.specs.List.{Contains, flat_map}
 use Rattle.std.proofs.lemmas.List.{append-nil}
+use Rattle.std.specs.{Prelude.codes, List.Contains, List.flat_map}
 use Rattle.rv_tree.specs.Tree.{Tree, Node, Not, EquationTree, NodeTree, ProgramTree}
-use Rattle.rv_tree.specs.Places.{Sites}
-use Rattle.rv_tree.specs.Delays.{Delay, delays, delays_in_equations, node_delays}
-use Rattle.rv_types.specs.declared.typed.Clock.TheVariants.{Base}
-use Rattle.rv_types.specs.Values.{operand_kind}
-use Rattle.rv_types.specs.Instances.{Instance, clock_in, all_instances}
+use Rattle.rv_tree.specs.{Places.Sites, Delays.Delay, Delays.delays, Delays.delays_in_equations, Delays.node_delays}
 use Rattle.rv_types.specs.Variables.{total, is_integer, memories_beside, kind_bits, memory_bits, order_tests, own_tests, parts, node_parts, arrow_clocks}
 use Rattle.rv_types.specs.Variables.{is_arrow, different, ticks, over_instances, variable_count}
+use Rattle.rv_types.specs.{declared.typed.Clock.TheVariants.Base, Values.operand_kind, Instances.Instance, Instances.clock_in, Instances.all_instances}
 use Rattle.rv_instances.specs.Counts.{size, node_size, integer_memories, instance_count, expanded}
 use Rattle.rv_sizes.specs.Sizes.{measures, AreWithin}
 use Rattle.rv_make.specs.Made.{link_name}
 use Rattle.rv_make.specs.Chains.{Offsets, flow_read, seen_equation, ok_equation, link_calls, main_node, chain_program}
 use Rattle.rv_sizes.proofs.Summing.{total_append}
-use Rattle.rv_made_order.proofs.Lists.{both_none, none_of_each, total_flat, length_total}
-use Rattle.rv_made_order.proofs.Program.{call_equation, each_later, each_equation}
-use Rattle.rv_made_order.proofs.Instances.{main_copy, over_all, listed_made}
-use Rattle.rv_types.proofs.Members.{in_tail}
-use Rattle.rv_types.proofs.RightNames.{both_empty}
+use Rattle.rv_made_order.proofs.{Lists.both_none, Lists.none_of_each, Lists.total_flat, Lists.length_total, Program.call_equation, Program.each_later}
+use Rattle.rv_made_order.proofs.{Program.each_equation, Instances.main_copy, Instances.over_all, Instances.listed_made}
+use Rattle.rv_types.proofs.{Members.in_tail, RightNames.both_empty}
 
 delays_none : (qs : List EquationTree) → ((q : EquationTree) → Contains qs q → delays q.right ≡ []) → delays_in_equations qs ≡ []
 delays_none qs each = joined qs ∙ none_of_each (λ (q : EquationTree). delays q.right) qs each

@@ -1,23 +1,16 @@
 -- Boolean expressions weigh next to nothing, so none of a made program is too wide.
 use Rattle.std.proofs.Common.{◌≡◌, ℕ, zero, suc, ◌+◌, ◌^◌, ◌<◌, ◌≤◌, inl, inr, cond, List, [], ◌∷◌, ◌++◌, refl, sym, ◌∙◌, ap, subst, arith}
-use Rattle.std.specs.Prelude.{codes, nat_abs, nat_lt}
-use Rattle.std.specs.List.{Contains, flat_map}
+use Rattle.std.specs.{Prelude.codes, Prelude.nat_abs, Prelude.nat_lt, List.Contains, List.flat_map}
 use Rattle.rv_base.specs.Limits.{heaviest}
-use Rattle.rv_tree.specs.Tree.{Tree, Node, EquationTree, NodeTree, ProgramTree}
-use Rattle.rv_tree.specs.Places.{Identifier, Sites, site_of}
-use Rattle.rv_types.specs.Constants.{whole_in}
-use Rattle.rv_types.specs.Scopes.{constant_value}
+use Rattle.rv_tree.specs.{Tree.Tree, Tree.Node, Tree.EquationTree, Tree.NodeTree, Tree.ProgramTree, Places.Identifier, Places.Sites, Places.site_of}
 use Rattle.rv_types.specs.Instances.{CallTree, calls, Right, Body, IsRight, IsArgument, Instance, place, IsInstance}
-use Rattle.rv_types.specs.Needs.{given, by_equation, by_call}
+use Rattle.rv_types.specs.{Constants.whole_in, Scopes.constant_value, Needs.given, Needs.by_equation, Needs.by_call}
 use Rattle.rv_instances.specs.Weights.{weight, weight_of_right, too_wide, weighed_under, weighed, AreWeights, AreLight}
-use Rattle.rv_make.specs.Made.{link_name}
-use Rattle.rv_make.specs.Chains.{Offsets, flow_read, main_node, chain_program}
-use Rattle.rv_made_order.proofs.Lists.{both_none}
+use Rattle.rv_make.specs.{Made.link_name, Chains.Offsets, Chains.flow_read, Chains.main_node, Chains.chain_program}
 use Rattle.rv_made_order.proofs.Program.{link_site, each_equation, flow_there, flow_site}
 use Rattle.rv_made_order.proofs.Instances.{link_call, each_call, main_copy, link_copy, made}
-use Rattle.rv_made_order.proofs.Ranked.{each_right, link_right, sole_argument}
-use Rattle.rv_types.proofs.Members.{in_tail, nothing_in}
-use Rattle.rv_types.proofs.RightNames.{both_empty}
+use Rattle.rv_made_order.proofs.{Lists.both_none, Ranked.each_right, Ranked.link_right, Ranked.sole_argument}
+use Rattle.rv_types.proofs.{Members.in_tail, Members.nothing_in, RightNames.both_empty}
 
 -- the weights of the flows of the main node, by their sites, and of the others
 abbrev pub site_weight : ℕ → ℕ

@@ -1,8 +1,7 @@
 -- Where a call gives true, the input has been true: so the observer is true.
 use Rattle.std.proofs.Common.{arith, ◌≡◌, ℕ, zero, suc, ◌<◌, ◌≤◌, ◌∙◌, refl, sym, ap, Bool, true, false, not, ◌||◌}
 use Rattle.std.specs.Prelude.{codes, Some}
-use Rattle.rv_base.specs.declared.value.Value.{Value}
-use Rattle.rv_base.specs.declared.value.Value.TheVariants.{Flag}
+use Rattle.rv_base.specs.{declared.value.Value.Value, declared.value.Value.TheVariants.Flag}
 use Rattle.rv_tree.specs.Places.{Sites}
 use Rattle.rv_meaning.specs.Runs.{History, cells, IsRun, IsSafe}
 use Rattle.rv_make.specs.Chains.{Offsets, chain_program}

@@ -1,18 +1,11 @@
 -- No integers: all flows and all operands of memories are Boolean, and nothing is compared.
 use Rattle.std.proofs.Common.{◌≡◌, ℕ, List, [], ◌∷◌, inl, inr, ◌∙◌, refl, sym, ap, Bool, true, false}
-use Rattle.std.proofs.lemmas.Bool.{and_parts}
-use Rattle.std.proofs.lemmas.List.Elements.{Contains-append_cases}
-use Rattle.std.specs.Prelude.{codes, Some}
-use Rattle.std.specs.List.{Contains, list_all, flat_map}
-use Rattle.rv_tree.specs.declared.tree.Decl.{Decl}
+use Rattle.std.proofs.{lemmas.Bool.and_parts, lemmas.List.Elements.Contains-append_cases}
+use Rattle.std.specs.{Prelude.codes, Prelude.Some, List.Contains, List.list_all, List.flat_map}
 use Rattle.rv_tree.specs.Tree.{Tree, Node, Binary, EquationTree, NodeTree}
-use Rattle.rv_tree.specs.Delays.{Delay, delays, delays_in_equations, node_delays}
+use Rattle.rv_tree.specs.{declared.tree.Decl.Decl, Delays.Delay, Delays.delays, Delays.delays_in_equations, Delays.node_delays}
 use Rattle.rv_types.specs.declared.typed.Kind.TheVariants as kind
-use Rattle.rv_types.specs.Names.{decls}
-use Rattle.rv_types.specs.Values.{operand_kind}
-use Rattle.rv_types.specs.Variables.{parts, node_parts}
-use Rattle.rv_types.specs.Lists.{ComparisonAt, Compares}
-use Rattle.rv_types.specs.Instances.{Instance}
+use Rattle.rv_types.specs.{Names.decls, Values.operand_kind, Variables.parts, Variables.node_parts, Lists.ComparisonAt, Lists.Compares, Instances.Instance}
 use Rattle.rv_meaning.specs.Integers.{IsControl}
 use Rattle.rv_meaning.proofs.NameLemmas.{none_in}
 use Rattle.rv_make.specs.Chains.{Offsets, link_node, main_node, chain_program}

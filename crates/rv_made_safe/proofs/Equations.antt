@@ -2,8 +2,7 @@
 use Rattle.std.proofs.Common.{◌≡◌, ℕ, zero, suc, ◌+◌, ◌<◌, inl, inr, [], ◌∷◌, refl, subst, arith}
 use Rattle.std.proofs.lemmas.Bool.{cases_lt}
 use Rattle.std.proofs.lemmas.List.Elements.{Contains-append_left, Contains-push, Contains-push_cases}
-use Rattle.std.specs.Prelude.{codes, Some}
-use Rattle.std.specs.List.{Contains}
+use Rattle.std.specs.{Prelude.codes, Prelude.Some, List.Contains}
 use Rattle.rv_tree.specs.Tree.{Tree, Node, Call, None, More, EquationTree}
 use Rattle.rv_types.specs.Instances.{IsRight, alone, Body}
 use Rattle.rv_meaning.proofs.NameLemmas.{none_in}

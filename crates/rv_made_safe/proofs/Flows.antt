@@ -2,22 +2,15 @@
 use Rattle.std.proofs.Common.{◌≡◌, ℕ, zero, suc, ◌<◌, ◌≤◌, inl, inr, true, List, [], ◌∷◌, ◌∙◌, refl, sym, ap, subst, map, arith}
 use Rattle.std.proofs.lemmas.Bool.{cases_lt}
 use Rattle.std.proofs.lemmas.List.Elements.{Contains-append_left, Contains-push, Contains-push_cases}
-use Rattle.std.specs.Prelude.{codes, Some}
-use Rattle.std.specs.Prelude.{None as Nothing}
-use Rattle.std.specs.List.{Contains}
-use Rattle.rv_tree.specs.declared.tree.Decl.{Decl}
-use Rattle.rv_tree.specs.declared.tree.TypeName.TheVariants as written
-use Rattle.rv_tree.specs.Tree.{NodeTree, ProgramTree}
+use Rattle.std.specs.{Prelude.codes, Prelude.Some, Prelude.None as Nothing, List.Contains}
 use Rattle.rv_tree.specs.Places.{Identifier, is_flow, names, flows, site_of}
-use Rattle.rv_types.specs.declared.typed.Clock.{Clock}
-use Rattle.rv_types.specs.declared.typed.Clock.TheVariants.{Base}
+use Rattle.rv_tree.specs.{declared.tree.Decl.Decl, Tree.NodeTree, Tree.ProgramTree}
+use Rattle.rv_tree.specs.declared.tree.TypeName.TheVariants as written
+use Rattle.rv_types.specs.{declared.typed.Clock.Clock, declared.typed.Clock.TheVariants.Base, Names.decls, Clocks.declared_clock, Clocks.flow_clocks}
+use Rattle.rv_types.specs.{Clocks.clock_at, Kinds.kind_in_program, Kinds.flow_kinds, Kinds.flow_kind}
 use Rattle.rv_types.specs.declared.typed.Kind.TheVariants as kind
-use Rattle.rv_types.specs.Names.{decls}
-use Rattle.rv_types.specs.Clocks.{declared_clock, flow_clocks, clock_at}
-use Rattle.rv_types.specs.Kinds.{kind_in_program, flow_kinds, flow_kind}
 use Rattle.rv_meaning.proofs.NameLemmas.{none_in}
-use Rattle.rv_make.specs.Made.{link_name}
-use Rattle.rv_make.specs.Chains.{Offsets, boolean, link_flows, link_node, main_node}
+use Rattle.rv_make.specs.{Made.link_name, Chains.Offsets, Chains.boolean, Chains.link_flows, Chains.link_node, Chains.main_node}
 use Rattle.rv_made_safe.proofs.Lists.{all_at}
 use Rattle.rv_types.proofs.Members.{among_from, cons_cases, in_map, in_tail}
 use Rattle.rv_base.proofs.Lists.{contains_got, from_map}

@@ -1,8 +1,7 @@
 -- The instances: each has one of the two nodes.
 use Rattle.std.proofs.Common.{◌≡◌, ℕ, List, [], ◌∷◌, inl, inr, sym, ap, subst}
 use Rattle.std.proofs.lemmas.List.Elements.{Contains-append_cases}
-use Rattle.std.specs.Prelude.{codes}
-use Rattle.std.specs.List.{Contains}
+use Rattle.std.specs.{Prelude.codes, List.Contains}
 use Rattle.rv_tree.specs.Tree.{EquationTree, NodeTree}
 use Rattle.rv_types.specs.Instances.{CallTree, calls_in, calls_in_equations, calls, node_of, Instance, IsInstance, is_main, is_callee}
 use Rattle.rv_meaning.proofs.NameLemmas.{none_in}

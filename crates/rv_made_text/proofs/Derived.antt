@@ -1,24 +1,18 @@
 -- The grammar derives the tokens of a made source with its tree.
 use Rattle.std.proofs.Common.{◌≡◌, ℕ, zero, suc, ◌+◌, List, [], ◌∷◌, ◌++◌, map, length, refl, sym, ap, ◌∙◌, subst, inl, inr, arith, append_assoc, append-nil}
-use Rattle.std.specs.Prelude.{codes, Some}
-use Rattle.std.specs.Prelude.{None as Nothing}
 use Rattle.std.proofs.lemmas.List.{map_push}
-use Rattle.rv_syntax.specs.declared.token.Token.{Token}
-use Rattle.rv_syntax.specs.declared.token.Mark.TheVariants as mark
-use Rattle.rv_syntax.specs.declared.operator.Prefix.TheVariants as prefixed
-use Rattle.rv_tree.specs.declared.tree.Name.{Name}
-use Rattle.rv_tree.specs.declared.tree.Decl.{Decl}
-use Rattle.rv_tree.specs.declared.tree.Op.TheVariants as op
-use Rattle.rv_tree.specs.declared.tree.TypeName.TheVariants as type_name
-use Rattle.rv_tree.specs.Groups.{flow}
-use Rattle.rv_tree.specs.Tree.{EquationTree, AssertionTree, NodeTree}
+use Rattle.std.specs.Prelude.{codes, Some, None as Nothing}
 use Rattle.rv_syntax.specs.Grammar.{No, Called, Function, Written, Atom, InBrackets, Before, Between, Given, NoneBefore, fixed, name_token, spelling, syntax_of}
 use Rattle.rv_syntax.specs.Grammar.{IsGrammatical}
-use Rattle.rv_syntax.specs.Rules.{Each, Word}
 use Rattle.rv_syntax.specs.ProgramText.{IsName, IsNames, IsGroup, IsDecls, IsLocal, IsTitle, IsInputs, IsOutputs, IsVar, Item, Equates, equation_of, IsRight}
 use Rattle.rv_syntax.specs.ProgramText.{IsItem, equations_of, assertions_of, IsBody, node_of, IsNode, Section, OneNode, IsSection, IsProgram}
-use Rattle.rv_make.specs.Made.{link_name}
-use Rattle.rv_make.specs.Chains.{named_at, boolean, link_flows}
+use Rattle.rv_syntax.specs.{declared.token.Token.Token, Rules.Each, Rules.Word}
+use Rattle.rv_syntax.specs.declared.token.Mark.TheVariants as mark
+use Rattle.rv_syntax.specs.declared.operator.Prefix.TheVariants as prefixed
+use Rattle.rv_tree.specs.{declared.tree.Name.Name, declared.tree.Decl.Decl, Groups.flow, Tree.EquationTree, Tree.AssertionTree, Tree.NodeTree}
+use Rattle.rv_tree.specs.declared.tree.Op.TheVariants as op
+use Rattle.rv_tree.specs.declared.tree.TypeName.TheVariants as type_name
+use Rattle.rv_make.specs.{Made.link_name, Chains.named_at, Chains.boolean, Chains.link_flows}
 use Rattle.rv_made_text.proofs.Tokens.{named, after, declared_end, declaration_tokens, declared_tokens, local_tokens, left_end, argument_end, call_tokens}
 use Rattle.rv_made_text.proofs.Tokens.{call_at, calls_tokens, front_tokens, calls_at, ok_at, made_tokens}
 use Rattle.rv_made_text.proofs.Trees.{at_place, main_offsets, flow_at, plain_link, plain_call, plain_calls, plain_seen, plain_ok, plain_equations, plain_main}

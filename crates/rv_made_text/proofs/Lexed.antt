@@ -1,15 +1,13 @@
 -- The tokens of a made source are these.
 use Rattle.std.proofs.Common.{◌≡◌, ℕ, zero, suc, ◌+◌, Bool, false, List, [], ◌∷◌, ◌++◌, length, decimal, refl, sym, ap, ◌∙◌, append_assoc}
 use Rattle.std.specs.Prelude.{codes}
-use Rattle.rv_syntax.specs.declared.token.Token.{Token}
-use Rattle.rv_syntax.specs.declared.token.Mark.TheVariants as mark
-use Rattle.rv_syntax.specs.Grammar.{fixed}
 use Rattle.rv_syntax.specs.Lexing.{is_word_byte, lex, cut, declaration_word, expression_word, is_left_out, is_left_out_too, tokens}
+use Rattle.rv_syntax.specs.{declared.token.Token.Token, Grammar.fixed}
+use Rattle.rv_syntax.specs.declared.token.Mark.TheVariants as mark
 use Rattle.rv_make.specs.Made.{line, link_name, declared_links, link_equation, link_equations, link_text, made_text}
-use Rattle.rv_made_text.proofs.Numerals.{IsNumeral, numeral}
-use Rattle.rv_made_text.proofs.Words.{digits-go-on, lex-name, numbered-name, a-name, seen-name}
 use Rattle.rv_made_text.proofs.Tokens.{named, after, declared_end, declaration_tokens, declared_tokens, local_tokens, left_end, argument_end, call_tokens}
 use Rattle.rv_made_text.proofs.Tokens.{call_at, calls_tokens, front_tokens, seen_tokens, calls_at, ok_at, ok_tokens, made_tokens}
+use Rattle.rv_made_text.proofs.{Numerals.IsNumeral, Numerals.numeral, Words.digits-go-on, Words.lex-name, Words.numbered-name, Words.a-name, Words.seen-name}
 
 -- ---- Names of flows.
 numbered : (tel : Bool) (at : ℕ) (ds : List ℕ) (c : ℕ) (rest : List ℕ) → IsNumeral ds → is_word_byte c ≡ false

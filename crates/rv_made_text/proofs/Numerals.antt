@@ -1,9 +1,7 @@
 -- The text of a number is one digit or more.
 use Rattle.std.proofs.Common.{◌≡◌, ℕ, zero, suc, ◌+◌, ◌<◌, ◌/◌, ◌%◌, ◌==◌, Bool, true, false, cond, List, [], ◌∷◌, decimal, ap, ◌∙◌, arith}
-use Rattle.std.specs.Fmt.{digits, digits_onto, digit_glyph}
-use Rattle.std.specs.Char.{is_ascii_digit}
-use Rattle.std.specs.Prelude.{nat_le}
 use Rattle.std.proofs.lemmas.Bool.{and_from, lt-ltb, le-leb}
+use Rattle.std.specs.{Fmt.digits, Fmt.digits_onto, Fmt.digit_glyph, Char.is_ascii_digit, Prelude.nat_le}
 
 -- all bytes are digits
 abbrev pub AreDigits : List ℕ → Type 0

@@ -1,12 +1,10 @@
 -- The tree of a made source is the one that is derived, with its sites.
 use Rattle.std.proofs.Common.{◌≡◌, ℕ, zero, suc, ◌+◌, ◌<◌, ◌≤◌, cond, List, [], ◌∷◌, ◌++◌, map, length, refl, sym, ap, ◌∙◌, inl, inr, arith, append_assoc}
 use Rattle.std.proofs.Common.{append-nil, length-append}
+use Rattle.std.proofs.{lemmas.Bool.lt-ltb, lemmas.Bool.le-ltb, lemmas.Bool.cases_lt, lemmas.List.map_push}
 use Rattle.std.specs.Prelude.{codes, nat_lt, Some}
-use Rattle.std.proofs.lemmas.Bool.{lt-ltb, le-ltb, cases_lt}
-use Rattle.std.proofs.lemmas.List.{map_push}
-use Rattle.rv_tree.specs.Tree.{Tree, Node, Call, None, More, EquationTree, NodeTree, ProgramTree}
-use Rattle.rv_tree.specs.Places.{flows}
-use Rattle.rv_tree.specs.Sites.{earlier, offsets, equation_offsets, node_offsets, site_at, sited_equation, with_sites}
+use Rattle.rv_tree.specs.{Tree.Tree, Tree.Node, Tree.Call, Tree.None, Tree.More, Tree.EquationTree, Tree.NodeTree, Tree.ProgramTree, Places.flows}
+use Rattle.rv_tree.specs.{Sites.earlier, Sites.offsets, Sites.equation_offsets, Sites.node_offsets, Sites.site_at, Sites.sited_equation, Sites.with_sites}
 use Rattle.rv_syntax.specs.ProgramText.{program_with_sites}
 use Rattle.rv_syntax.proofs.Earlier.{length-flows}
 use Rattle.rv_make.specs.Made.{link_name}

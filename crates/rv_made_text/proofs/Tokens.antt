@@ -1,10 +1,9 @@
 -- Where the tokens of a made source stand, and its tokens.
 use Rattle.std.proofs.Common.{ℕ, zero, suc, ◌+◌, List, [], ◌∷◌, ◌++◌, length}
 use Rattle.std.specs.Prelude.{codes}
-use Rattle.rv_syntax.specs.declared.token.Token.{Token}
+use Rattle.rv_syntax.specs.{declared.token.Token.Token, Grammar.fixed}
 use Rattle.rv_syntax.specs.declared.token.Kind.TheVariants as kind
 use Rattle.rv_syntax.specs.declared.token.Mark.TheVariants as mark
-use Rattle.rv_syntax.specs.Grammar.{fixed}
 use Rattle.rv_make.specs.Made.{link_name}
 
 -- a name at an offset

@@ -1,11 +1,9 @@
 -- The tree of a made source without its sites, at the offsets of its tokens.
 use Rattle.std.proofs.Common.{ℕ, zero, suc, ◌+◌, List, [], ◌∷◌, ◌++◌, length, get_or}
-use Rattle.std.specs.Prelude.{codes}
-use Rattle.std.specs.Prelude.{None as Nothing}
+use Rattle.std.specs.Prelude.{codes, None as Nothing}
 use Rattle.rv_tree.specs.declared.tree.Op.TheVariants as op
 use Rattle.rv_tree.specs.Tree.{Tree, Node, False, Not, Pre, Binary, Call, None, More, EquationTree, NodeTree, ProgramTree}
-use Rattle.rv_make.specs.Made.{link_name}
-use Rattle.rv_make.specs.Chains.{Offsets, named_at, boolean, flow_read, equation, link_flows}
+use Rattle.rv_make.specs.{Made.link_name, Chains.Offsets, Chains.named_at, Chains.boolean, Chains.flow_read, Chains.equation, Chains.link_flows}
 use Rattle.rv_made_text.proofs.Tokens.{after, declared_end, left_end, call_at, calls_at, ok_at}
 
 -- the element of a list at a place

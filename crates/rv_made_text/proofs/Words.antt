@@ -1,18 +1,13 @@
 -- The token of a name that another byte follows.
 use Rattle.std.proofs.Common.{◌≡◌, ℕ, suc, ◌+◌, ◌≤◌, Bool, true, false, cond, ◌||◌, List, [], ◌∷◌, ◌++◌, length, take, drop, refl, ap, ◌∙◌, arith, one-add}
-use Rattle.std.specs.Prelude.{◌==◌, nat_le}
-use Rattle.std.specs.Char.{is_ascii_digit}
-use Rattle.std.specs.Int.{is_in_range}
-use Rattle.std.proofs.Math.Seq.{take-append_seam, drop-append_seam}
-use Rattle.std.proofs.lemmas.Bool.{and_parts, leb-true, ne_eqb}
+use Rattle.std.proofs.{Math.Seq.take-append_seam, Math.Seq.drop-append_seam, lemmas.Bool.and_parts, lemmas.Bool.leb-true, lemmas.Bool.ne_eqb}
+use Rattle.std.specs.{Prelude.◌==◌, Prelude.nat_le, Char.is_ascii_digit, Int.is_in_range}
 use Rattle.rv_syntax.specs.declared.lexer.Shape.{Shape}
-use Rattle.rv_syntax.specs.declared.lexer.Shape.TheVariants as shape
 use Rattle.rv_syntax.specs.Lexing.{is_space, is_letter, is_word_byte, word_len, number_len, other, word, cut, declaration_word, expression_word, is_left_out}
 use Rattle.rv_syntax.specs.Lexing.{is_left_out_too, emitted, kind_of, ends_in_tel, lex}
-use Rattle.rv_syntax.proofs.Lexed.{lex-from}
-use Rattle.rv_made_text.proofs.Numerals.{AreDigits}
-use Rattle.rv_made_text.proofs.Tokens.{named}
-use Rattle.rv_syntax.proofs.LongestCut.{widen}
+use Rattle.rv_syntax.specs.declared.lexer.Shape.TheVariants as shape
+use Rattle.rv_syntax.proofs.{Lexed.lex-from, LongestCut.widen}
+use Rattle.rv_made_text.proofs.{Numerals.AreDigits, Tokens.named}
 
 -- bytes that a name goes on with
 abbrev pub GoOn : List ℕ → Type 0

@@ -1,11 +1,8 @@
 -- The tree of the source that is made for a number, with any offsets.
-use Rattle.std.specs.Prelude.{ℕ, zero, suc, ◌+◌, List, [], ◌∷◌, ◌++◌, codes, Some}
-use Rattle.std.specs.Prelude.{None as Nothing}
-use Rattle.rv_tree.specs.declared.tree.Name.{Name}
-use Rattle.rv_tree.specs.declared.tree.Decl.{Decl}
-use Rattle.rv_tree.specs.declared.tree.TypeName.TheVariants.{Bool}
-use Rattle.rv_tree.specs.declared.tree.Op.TheVariants as op
+use Rattle.std.specs.Prelude.{ℕ, zero, suc, ◌+◌, List, [], ◌∷◌, ◌++◌, codes, Some, None as Nothing}
 use Rattle.rv_tree.specs.Tree.{Tree, Node, False, Named, Not, Pre, Binary, Call, None, More, EquationTree, NodeTree, ProgramTree}
+use Rattle.rv_tree.specs.{declared.tree.Name.Name, declared.tree.Decl.Decl, declared.tree.TypeName.TheVariants.Bool}
+use Rattle.rv_tree.specs.declared.tree.Op.TheVariants as op
 use Rattle.rv_make.specs.Made.{link_name}
 
 -- Where the parts stand: those of the node `link`; those of the main node beside its calls; the declaration of each call's flow; and of

@@ -1,14 +1,11 @@
 -- Each instance of a well program is a copy of a node of it, which keeps the rules.
 use Rattle.std.proofs.Common.{◌≡◌, Bool, true, false, ◌||◌, cond, List, [], ◌∷◌, map, refl, Some, IsSome, IsTrue, unwrap_or}
 use Rattle.std.specs.List.{Contains}
-use Rattle.rv_tree.specs.Tree.{NodeTree, ProgramTree}
-use Rattle.rv_tree.specs.Places.{Identifier, is_same, is_among}
-use Rattle.rv_types.specs.declared.typed.Clock.{Clock}
-use Rattle.rv_types.specs.declared.fault.Pace.{Pace}
+use Rattle.rv_tree.specs.{Tree.NodeTree, Tree.ProgramTree, Places.Identifier, Places.is_same, Places.is_among}
 use Rattle.rv_types.specs.declared.fault.Pace.TheVariants.{Free, At, Mute, Differ}
-use Rattle.rv_types.specs.Kinds.{node_among, node_named}
 use Rattle.rv_types.specs.Instances.{Instance, taken, no_node, node_of, IsInstance, is_main, is_callee, IsNode}
 use Rattle.rv_types.specs.WellFormed.{Suits, IsWellFormed, IsWellTyped, AreWell}
+use Rattle.rv_types.specs.{declared.typed.Clock.Clock, declared.fault.Pace.Pace, Kinds.node_among, Kinds.node_named}
 use Rattle.rv_meaning.proofs.Rows.{no_flag}
 use Rattle.rv_types.proofs.Members.{at_head, in_tail}
 

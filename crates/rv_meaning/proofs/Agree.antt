@@ -1,20 +1,14 @@
 -- Two solutions of one rule are equal.
 use Rattle.std.proofs.Common.{◌≡◌, ℕ, zero, suc, ◌<◌, ◌≤◌, ◌↔◌, List, [], length, refl, sym, ◌∙◌, ap, subst, arith, get_or, inl, inr, Option, Some, IsSome}
 use Rattle.std.proofs.Common.{None as Nothing}
-use Rattle.std.proofs.lemmas.List.{ext_get_or, get_or_default}
-use Rattle.std.proofs.lemmas.Cmp.{nat_list_cmp_total}
-use Rattle.std.proofs.Math.Nat.{eq-or-lt_of_le}
+use Rattle.std.proofs.{lemmas.List.ext_get_or, lemmas.List.get_or_default, lemmas.Cmp.nat_list_cmp_total, Math.Nat.eq-or-lt_of_le}
 use Rattle.std.specs.FinMap as map
 use Rattle.std.specs.FinMap.{same_map, slice_cmp-IsAntisymmetric, nat_cmp-IsAntisymmetric}
 use Rattle.rv_base.specs.declared.value.Value.{Value}
-use Rattle.rv_tree.specs.Tree.{ProgramTree}
-use Rattle.rv_tree.specs.Places.{Identifier, Sites}
-use Rattle.rv_meaning.specs.Runs.{History, flat, cells}
-use Rattle.rv_types.specs.Instances.{IsFlow}
-use Rattle.rv_types.specs.Needs.{IsSequence}
-use Rattle.rv_meaning.specs.Givers.{AreDefined}
-use Rattle.rv_meaning.proofs.Local.{AreAlike}
-use Rattle.rv_meaning.proofs.Solutions.{Rule, IsLocal, IsSolution}
+use Rattle.rv_tree.specs.{Tree.ProgramTree, Places.Identifier, Places.Sites}
+use Rattle.rv_meaning.specs.{Runs.History, Runs.flat, Runs.cells, Givers.AreDefined}
+use Rattle.rv_types.specs.{Instances.IsFlow, Needs.IsSequence}
+use Rattle.rv_meaning.proofs.{Local.AreAlike, Solutions.Rule, Solutions.IsLocal, Solutions.IsSolution}
 
 -- two rows with the same places and the same cells answer alike
 alike_at : (F : Type 0) (a b : Option (Option Value)) → IsSome a ↔ F → IsSome b ↔ F → (F → flat a ≡ flat b) → a ≡ b

@@ -1,21 +1,14 @@
 -- A history brings a state to each instant, where each `pre` and `current` of a node has a site of its own. Without that
 -- two memories with different values could have one place, and no state would hold both. There is a state after each row.
-use Rattle.std.proofs.Common.{◌≡◌, ℕ, cond, refl, ap, ◌||◌}
-use Rattle.std.proofs.Common.{None as Nothing}
+use Rattle.std.proofs.Common.{◌≡◌, ℕ, cond, refl, ap, ◌||◌, None as Nothing}
 use Rattle.std.specs.List.{Contains}
 use Rattle.rv_base.specs.declared.value.Value.{Value}
-use Rattle.rv_tree.specs.Tree.{Node, Named, NodeTree, ProgramTree}
-use Rattle.rv_tree.specs.Places.{Identifier, Sites}
-use Rattle.rv_tree.specs.Delays.{Delay, IsNumbered}
-use Rattle.rv_types.specs.declared.typed.Clock.TheVariants.{Base}
+use Rattle.rv_tree.specs.{Tree.Node, Tree.Named, Tree.NodeTree, Tree.ProgramTree, Places.Identifier, Places.Sites, Delays.Delay, Delays.IsNumbered}
 use Rattle.rv_types.specs.Instances.{Instance, clock_in, main_instance, IsNode}
-use Rattle.rv_types.specs.WellFormed.{AreWell}
+use Rattle.rv_types.specs.{declared.typed.Clock.TheVariants.Base, WellFormed.AreWell}
 use Rattle.rv_meaning.specs.Meaning.{Cells, was_there, last_before, kept_place, content}
-use Rattle.rv_meaning.specs.Runs.{Instant}
-use Rattle.rv_meaning.specs.Instants.{State, is_on_in, now, IsNext}
-use Rattle.rv_meaning.specs.Following.{held_before, IsStateAt}
-use Rattle.rv_meaning.proofs.States.{IsName}
-use Rattle.rv_meaning.proofs.Holding.{held_at, holds}
+use Rattle.rv_meaning.specs.{Runs.Instant, Instants.State, Instants.is_on_in, Instants.now, Instants.IsNext, Following.held_before, Following.IsStateAt}
+use Rattle.rv_meaning.proofs.{States.IsName, Holding.held_at, Holding.holds}
 
 module _ (program : ProgramTree) (starts : Sites → Value) (h : Cells) (t : ℕ) where
   -- what the memory at a place of a flow's name holds

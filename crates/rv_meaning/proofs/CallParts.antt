@@ -7,8 +7,7 @@ use Rattle.rv_tree.specs.Tree.{EquationTree, AssertionTree, NodeTree}
 use Rattle.rv_tree.specs.Delays.{Delay, delays, form_delays, delays_of_all, delays_in_equations, delays_in_assertions, node_delays}
 use Rattle.rv_types.specs.Instances.{CallTree, calls, calls_in, form_calls, calls_in_all, calls_in_equations, calls_in_assertions, IsArgument, head, tail}
 use Rattle.rv_meaning.proofs.NameLemmas.{none_in}
-use Rattle.rv_types.proofs.Members.{cons_cases, in_tail}
-use Rattle.rv_types.proofs.TypedParts.{right_calls}
+use Rattle.rv_types.proofs.{Members.cons_cases, Members.in_tail, TypedParts.right_calls}
 
 -- an argument's calls are among those of the arguments
 calls_of_argument : (es : Trees) (j : ℕ) (a : Tree) (d : CallTree) → IsArgument es j a → Contains (calls_in a) d → Contains (calls_in_all es) d

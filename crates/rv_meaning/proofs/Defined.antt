@@ -1,21 +1,16 @@
 -- In an accepted program each flow has exactly one source, on its own clock.
 use Rattle.std.proofs.Common.{◌≡◌, ℕ, ◌<◌, ◌≤◌, ◌↔◌, true, [], ◌∷◌, ◌++◌, length, refl, sym, ◌∙◌, ap, subst, arith, get_or, ◌⊎◌, inl, inr, IsSome}
 use Rattle.std.proofs.Common.{length-append}
-use Rattle.std.proofs.lemmas.List.{get_or_append_left, get_or_default, append_assoc, length-map}
-use Rattle.std.proofs.lemmas.Bool.{cases_order}
+use Rattle.std.proofs.{lemmas.List.get_or_append_left, lemmas.List.get_or_default, lemmas.List.append_assoc, lemmas.List.length-map, lemmas.Bool.cases_order}
 use Rattle.std.specs.List.{Contains}
 use Rattle.rv_base.specs.declared.value.Value.{Value}
-use Rattle.rv_tree.specs.Tree.{ProgramTree}
-use Rattle.rv_tree.specs.Places.{Identifier, Sites, names, flows, site_of}
+use Rattle.rv_tree.specs.{Tree.ProgramTree, Places.Identifier, Places.Sites, Places.names, Places.flows, Places.site_of}
 use Rattle.rv_types.specs.Instances.{CallTree, calls, Right, Body, Output, IsRight, Instance, place, absolute, clock_of, clock_of_arguments, node_of}
 use Rattle.rv_types.specs.Instances.{main_instance, callee, IsInstance, is_main, is_callee, IsFlow, IsNode}
-use Rattle.rv_types.specs.Clocks.{pace}
 use Rattle.rv_types.specs.Needs.{Giver, Given, Of, Gives, given, by_equation, by_call}
-use Rattle.rv_types.specs.WellFormed.{IsWellFormed, AreWell}
-use Rattle.rv_meaning.specs.Meaning.{Cells, is_there, right_value}
-use Rattle.rv_meaning.specs.Givers.{expected, AreDefined}
-use Rattle.rv_meaning.proofs.Acceptable.{suits_taken, formed}
-use Rattle.rv_meaning.proofs.NameLemmas.{snoc, index_at, arg_same, masked}
+use Rattle.rv_types.specs.{Clocks.pace, WellFormed.IsWellFormed, WellFormed.AreWell}
+use Rattle.rv_meaning.specs.{Meaning.Cells, Meaning.is_there, Meaning.right_value, Givers.expected, Givers.AreDefined}
+use Rattle.rv_meaning.proofs.{Acceptable.suits_taken, Acceptable.formed, NameLemmas.snoc, NameLemmas.index_at, NameLemmas.arg_same, NameLemmas.masked}
 
 module _ (program : ProgramTree) (main : Identifier) (well : AreWell program) (is_node : IsNode program main) where
   -- each instance is well formed

@@ -1,19 +1,13 @@
 -- What tables have once names and calls were entered in them.
 use Rattle.std.proofs.Common.{◌≡◌, ℕ, zero, suc, ◌+◌, ◌<◌, Bool, true, false, cond, nat_eq, unwrap_or, List, [], ◌∷◌, ◌++◌, length, refl, sym, ◌∙◌, ap, arith}
-use Rattle.std.proofs.Common.{Option, Some, slice_get, add-zero, zero-add}
-use Rattle.std.proofs.Common.{None as Nothing}
+use Rattle.std.proofs.Common.{Option, Some, slice_get, add-zero, zero-add, None as Nothing}
 use Rattle.std.specs.HashMap as hash
-use Rattle.std.specs.HashMap.{HashMap}
-use Rattle.std.specs.Option.{option_map}
-use Rattle.rv_tree.specs.Tree.{NodeTree}
-use Rattle.rv_tree.specs.Places.{Identifier, is_same, index_of}
+use Rattle.std.specs.{HashMap.HashMap, Option.option_map}
+use Rattle.rv_tree.specs.{Tree.NodeTree, Places.Identifier, Places.is_same, Places.index_of}
 use Rattle.rv_types.specs.Instances.{CallTree, calls}
-use Rattle.rv_meaning.specs.declared.numbers.Numbers.{Numbers}
-use Rattle.rv_meaning.specs.Callings.{callings, first_callee, callee_in}
-use Rattle.rv_meaning.specs.Leading.{callee_in_node, node_texts}
-use Rattle.rv_meaning.specs.Numbers.{entered, number_in, AreNumbers}
-use Rattle.rv_meaning.proofs.States.{first_with}
-use Rattle.rv_meaning.proofs.Calling.{call_site, call_name, node_callee}
+use Rattle.rv_meaning.specs.{declared.numbers.Numbers.Numbers, Callings.callings, Callings.first_callee, Callings.callee_in, Leading.callee_in_node}
+use Rattle.rv_meaning.specs.{Leading.node_texts, Numbers.entered, Numbers.number_in, Numbers.AreNumbers}
+use Rattle.rv_meaning.proofs.{States.first_with, Calling.call_site, Calling.call_name, Calling.node_callee}
 
 -- names that are entered after others, before them in order
 pub entered_both : (k : ℕ) (xs ys : List Identifier) (before : Option ℕ) (x : Identifier)

@@ -1,24 +1,15 @@
 -- A solution grows by one flow, and by one instant.
 use Rattle.std.proofs.Common.{◌≡◌, ℕ, zero, suc, ◌+◌, ◌<◌, ◌≤◌, ◌↔◌, List, [], ◌∷◌, ◌++◌, length, refl, sym, ◌∙◌, ap, subst, arith, get_or, inl, inr, Option}
 use Rattle.std.proofs.Common.{IsSome, length-append}
-use Rattle.std.proofs.lemmas.List.{get_or_append_left, get_or_default}
-use Rattle.std.proofs.Math.Seq.{get_or-append_seam}
-use Rattle.std.proofs.Math.Nat.{eq-or-lt_of_le}
-use Rattle.std.specs.Ordering.{nat_cmp}
-use Rattle.std.specs.Cmp.Lexicographic.{slice_cmp}
+use Rattle.std.proofs.{lemmas.List.get_or_append_left, lemmas.List.get_or_default, Math.Seq.get_or-append_seam, Math.Nat.eq-or-lt_of_le}
+use Rattle.std.specs.{Ordering.nat_cmp, Cmp.Lexicographic.slice_cmp, FinMap.get-empty}
 use Rattle.std.specs.FinMap as map
-use Rattle.std.specs.FinMap.{get-empty}
 use Rattle.rv_base.specs.declared.value.Value.{Value}
-use Rattle.rv_tree.specs.Tree.{ProgramTree}
-use Rattle.rv_tree.specs.Places.{Identifier, Sites}
-use Rattle.rv_meaning.specs.Meaning.{Cells}
-use Rattle.rv_meaning.specs.Runs.{History, Instant, flat, cells}
-use Rattle.rv_types.specs.Instances.{IsFlow}
-use Rattle.rv_types.specs.Needs.{Giver, Gives, IsAmongFirst, IsSequence}
-use Rattle.rv_meaning.specs.Givers.{AreDefined}
-use Rattle.rv_meaning.proofs.Local.{AreAlike}
-use Rattle.rv_meaning.proofs.Solutions.{Rule, IsLocal, IsSolution}
+use Rattle.rv_tree.specs.{Tree.ProgramTree, Places.Identifier, Places.Sites}
+use Rattle.rv_meaning.specs.{Meaning.Cells, Runs.History, Runs.Instant, Runs.flat, Runs.cells, Givers.AreDefined}
+use Rattle.rv_types.specs.{Instances.IsFlow, Needs.Giver, Needs.Gives, Needs.IsAmongFirst, Needs.IsSequence}
 use Rattle.rv_meaning.proofs.Rows.{no_flag, get_same, get_other, one_or_other}
+use Rattle.rv_meaning.proofs.{Local.AreAlike, Solutions.Rule, Solutions.IsLocal, Solutions.IsSolution}
 
 module _ (program : ProgramTree) (main : Identifier) (made : Rule) (sequence : List Sites) where
   -- the k-th flow of the sequence

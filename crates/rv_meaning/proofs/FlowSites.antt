@@ -4,18 +4,12 @@ use Rattle.std.proofs.Common.{slice_get, length-append, zero-add}
 use Rattle.std.proofs.lemmas.List.{length-map, get_or_append_left, get_or-append-add, get_or_default, append_assoc}
 use Rattle.std.proofs.lemmas.Option.{none-some, slice_get_within}
 use Rattle.std.specs.List.{Contains}
-use Rattle.rv_tree.specs.Tree.{NodeTree, ProgramTree}
-use Rattle.rv_tree.specs.Places.{Identifier, names, flows, is_same, index_of, site_of}
-use Rattle.rv_types.specs.declared.typed.Kind.{Kind}
-use Rattle.rv_types.specs.declared.typed.Clock.TheVariants.{Base}
+use Rattle.rv_tree.specs.{Tree.NodeTree, Tree.ProgramTree, Places.Identifier, Places.names, Places.flows, Places.is_same, Places.index_of, Places.site_of}
 use Rattle.rv_types.specs.Kinds.{kind_in_program, decl_kinds, flow_kinds, flow_kind}
-use Rattle.rv_types.specs.Clocks.{base_clock, declared_clock, clock_at}
-use Rattle.rv_types.specs.Instances.{Instance, IsInstance, IsNode}
-use Rattle.rv_types.specs.WellFormed.{AreWell}
-use Rattle.rv_meaning.proofs.NameLemmas.{same_text}
-use Rattle.rv_meaning.proofs.Defined.{site_is}
-use Rattle.rv_types.proofs.Members.{in_tail}
-use Rattle.rv_types.proofs.WellNodes.{base_at, index_front}
+use Rattle.rv_types.specs.{declared.typed.Kind.Kind, declared.typed.Clock.TheVariants.Base, Clocks.base_clock, Clocks.declared_clock, Clocks.clock_at}
+use Rattle.rv_types.specs.{Instances.Instance, Instances.IsInstance, Instances.IsNode, WellFormed.AreWell}
+use Rattle.rv_meaning.proofs.{NameLemmas.same_text, Defined.site_is}
+use Rattle.rv_types.proofs.{Members.in_tail, WellNodes.base_at, WellNodes.index_front}
 
 -- what is found within a list is there
 index_within : (xs : List Identifier) (x : Identifier) → index_of xs x < length xs → Contains xs x

@@ -1,24 +1,19 @@
 -- At the state that a history brings to an instant, each expression has what it has in the history.
 use Rattle.std.proofs.Common.{◌≡◌, ℕ, ◌+◌, ◌-ℤ◌, pos, ◌<◌, ◌↔◌, not, cond, nat_le, List, ◌++◌, refl, sym, ◌∙◌, ap, subst, true, get_or, ◌⊎◌, Option, Some}
 use Rattle.std.proofs.Common.{None as Nothing}
+use Rattle.std.proofs.lemmas.List.Elements.{Contains-append_left, Contains-append_right}
 use Rattle.std.specs.FinMap as map
 use Rattle.std.specs.List.{Contains}
-use Rattle.std.proofs.lemmas.List.Elements.{Contains-append_left, Contains-append_right}
-use Rattle.rv_base.specs.declared.value.Value.{Value}
-use Rattle.rv_base.specs.declared.value.Value.TheVariants.{Flag, Whole}
+use Rattle.rv_base.specs.{declared.value.Value.Value, declared.value.Value.TheVariants.Flag, declared.value.Value.TheVariants.Whole}
 use Rattle.rv_tree.specs.Tree.{Tree, Node, Form, True, False, Number, Named, Not, Minus, Pre, Current, When, Binary, If, AtMostOne, Call, Trees, None, More}
 use Rattle.rv_tree.specs.Tree.{AssertionTree, ProgramTree}
-use Rattle.rv_tree.specs.Places.{Identifier, Sites}
-use Rattle.rv_types.specs.declared.typed.Clock.{Clock}
-use Rattle.rv_types.specs.declared.typed.Clock.TheVariants.{Base}
+use Rattle.rv_tree.specs.{Places.Identifier, Places.Sites, Delays.Delay, Delays.delays, Delays.form_delays, Delays.delays_of_all, Delays.node_delays}
 use Rattle.rv_types.specs.Instances.{Right, IsRight, alone, in_order, Instance, absolute, clock_in, clock_of, clock_of_arguments, output_place, IsInstance}
-use Rattle.rv_tree.specs.Delays.{Delay, delays, form_delays, delays_of_all, node_delays}
+use Rattle.rv_types.specs.{declared.typed.Clock.Clock, declared.typed.Clock.TheVariants.Base}
 use Rattle.rv_meaning.specs.Meaning.{is_true, number, held, operate, was_there, kept_place, content, form_content, trues, value, right_value}
-use Rattle.rv_meaning.specs.Runs.{History, cells, IsRun, AssertionsHold}
 use Rattle.rv_meaning.specs.Instants.{State, now, form_now, trues_now, value_now, right_now, IsInstant, AllowsAt}
-use Rattle.rv_meaning.specs.Following.{held_before, IsStateAt}
-use Rattle.rv_meaning.proofs.OneInstant.{on_there}
-use Rattle.rv_meaning.proofs.DelayParts.{of_argument, of_equation, of_assertion}
+use Rattle.rv_meaning.specs.{Runs.History, Runs.cells, Runs.IsRun, Runs.AssertionsHold, Following.held_before, Following.IsStateAt}
+use Rattle.rv_meaning.proofs.{OneInstant.on_there, DelayParts.of_argument, DelayParts.of_equation, DelayParts.of_assertion}
 use Rattle.rv_types.proofs.Members.{at_head, in_tail}
 
 module _ (program : ProgramTree) (starts : Sites → Value) (state : State) (h : History) (t : ℕ)

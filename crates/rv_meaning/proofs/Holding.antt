@@ -1,14 +1,11 @@
 -- Values of all memories by their places, where it is given what each `pre` and `current` holds, and where those of one
 -- flow hold the same.
-use Rattle.std.proofs.Common.{◌≡◌, ℕ, false, [], ◌∷◌, ◌++◌, refl, sym, ◌∙◌, ap, inl, inr, Option, Some}
-use Rattle.std.proofs.Common.{None as Nothing}
+use Rattle.std.proofs.Common.{◌≡◌, ℕ, false, [], ◌∷◌, ◌++◌, refl, sym, ◌∙◌, ap, inl, inr, Option, Some, None as Nothing}
 use Rattle.std.proofs.lemmas.List.{append_assoc}
 use Rattle.std.specs.List.{Contains}
-use Rattle.rv_base.specs.declared.value.Value.{Value}
-use Rattle.rv_base.specs.declared.value.Value.TheVariants.{Flag}
-use Rattle.rv_tree.specs.Tree.{NodeTree, ProgramTree}
-use Rattle.rv_tree.specs.Places.{Identifier, Sites, memory_site}
-use Rattle.rv_tree.specs.Delays.{Delay, node_delays, IsNumbered}
+use Rattle.rv_base.specs.{declared.value.Value.Value, declared.value.Value.TheVariants.Flag}
+use Rattle.rv_tree.specs.{Tree.NodeTree, Tree.ProgramTree, Places.Identifier, Places.Sites, Places.memory_site, Delays.Delay, Delays.node_delays}
+use Rattle.rv_tree.specs.{Delays.IsNumbered}
 use Rattle.rv_types.specs.Instances.{CallTree, calls, Instance, main_instance, callee, IsInstance, is_main, is_callee, IsNode}
 use Rattle.rv_types.specs.WellFormed.{AreWell}
 use Rattle.rv_meaning.specs.Meaning.{kept_place}

@@ -1,29 +1,15 @@
 -- The type that is found at a place is that of what stands there, and one is found wherever something stands.
-use Rattle.std.proofs.Common.{◌≡◌, ℕ, List, [], ◌∷◌, ◌++◌, map, unwrap_or, refl, sym, ◌∙◌, ap, subst, Option, Some, IsSome, slice_get}
-use Rattle.std.proofs.Common.{None as Nothing}
+use Rattle.std.proofs.Common.{◌≡◌, ℕ, List, [], ◌∷◌, ◌++◌, map, unwrap_or, refl, sym, ◌∙◌, ap, subst, Option, Some, IsSome, slice_get, None as Nothing}
 use Rattle.std.proofs.lemmas.Option.{none-some, same_Some, slice_get-map, get_or_from_slice_get, unwrap_or-slice_get}
-use Rattle.std.specs.List.{Contains}
-use Rattle.std.specs.Option.{option_map}
-use Rattle.rv_tree.specs.Tree.{Tree, NodeTree, ProgramTree}
-use Rattle.rv_tree.specs.Places.{Identifier, Sites, flows}
-use Rattle.rv_tree.specs.Delays.{Delay, node_delays}
-use Rattle.rv_types.specs.declared.typed.Kind.{Kind}
-use Rattle.rv_types.specs.declared.typed.Kind.TheVariants as kind
-use Rattle.rv_types.specs.Kinds.{flow_kinds}
-use Rattle.rv_types.specs.Types.{kind_of}
-use Rattle.rv_types.specs.Scopes.{node_scope}
-use Rattle.rv_types.specs.Values.{operand_kind}
+use Rattle.std.specs.{List.Contains, Option.option_map}
+use Rattle.rv_tree.specs.{Tree.Tree, Tree.NodeTree, Tree.ProgramTree, Places.Identifier, Places.Sites, Places.flows, Delays.Delay, Delays.node_delays}
 use Rattle.rv_types.specs.Instances.{Instance, no_node, node_of, main_instance, IsInstance, is_main, IsNode}
-use Rattle.rv_types.specs.WellFormed.{AreWell}
-use Rattle.rv_meaning.specs.Accessors.{IsKindAt, by_flow, by_delay}
-use Rattle.rv_meaning.specs.Leading.{operand_in_node, numbered, callee_at, led_by}
-use Rattle.rv_meaning.specs.Telling.{told, kind_of_site, kind_of_node, kind_at_end}
-use Rattle.rv_meaning.proofs.Acceptable.{node_in, typed}
-use Rattle.rv_meaning.proofs.NameLemmas.{snoc, none_in}
-use Rattle.rv_meaning.proofs.FlowSites.{flow_at}
-use Rattle.rv_meaning.proofs.Calling.{operand_there, operand_found}
-use Rattle.rv_meaning.proofs.Leads.{IsLed, leads_to, led_to}
-use Rattle.rv_meaning.proofs.Told.{told_in_node}
+use Rattle.rv_types.specs.{declared.typed.Kind.Kind, Kinds.flow_kinds, Types.kind_of, Scopes.node_scope, Values.operand_kind, WellFormed.AreWell}
+use Rattle.rv_types.specs.declared.typed.Kind.TheVariants as kind
+use Rattle.rv_meaning.specs.{Accessors.IsKindAt, Accessors.by_flow, Accessors.by_delay, Leading.operand_in_node, Leading.numbered, Leading.callee_at}
+use Rattle.rv_meaning.specs.{Leading.led_by, Telling.told, Telling.kind_of_site, Telling.kind_of_node, Telling.kind_at_end}
+use Rattle.rv_meaning.proofs.{Acceptable.node_in, Acceptable.typed, NameLemmas.snoc, NameLemmas.none_in, FlowSites.flow_at, Calling.operand_there}
+use Rattle.rv_meaning.proofs.{Calling.operand_found, Leads.IsLed, Leads.leads_to, Leads.led_to, Told.told_in_node}
 
 module _ (p : ProgramTree) (main : Identifier) (well : AreWell p) (is_node : IsNode p main) (start : ℕ) (start_is : numbered p.nodes start ≡ node_of p main)
   where

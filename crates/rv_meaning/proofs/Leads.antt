@@ -1,25 +1,13 @@
 -- Paths lead to instances: each to the node of the instance with the path, and to nothing else.
 use Rattle.std.proofs.Common.{◌≡◌, ℕ, ◌+◌, Bool, true, false, cond, unwrap_or, List, [], ◌∷◌, ◌++◌, map, refl, sym, ◌∙◌, ap, subst, Option, Some, IsTrue}
-use Rattle.std.proofs.Common.{get_or, add-one}
-use Rattle.std.proofs.Common.{None as Nothing}
-use Rattle.std.proofs.Math.ListN.{get_or-map}
-use Rattle.std.proofs.lemmas.List.{append_assoc, append-nil}
-use Rattle.std.proofs.lemmas.Option.{none-some, same_Some}
-use Rattle.std.specs.List.{Contains}
-use Rattle.std.specs.Option.{option_map}
-use Rattle.rv_tree.specs.Tree.{NodeTree, ProgramTree}
-use Rattle.rv_tree.specs.Places.{Identifier, Sites, is_same, index_of, is_among}
-use Rattle.rv_types.specs.declared.typed.Typed.{Typed}
-use Rattle.rv_types.specs.Names.{texts}
-use Rattle.rv_types.specs.Kinds.{node_among}
+use Rattle.std.proofs.Common.{get_or, add-one, None as Nothing}
+use Rattle.std.proofs.{Math.ListN.get_or-map, lemmas.List.append_assoc, lemmas.List.append-nil, lemmas.Option.none-some, lemmas.Option.same_Some}
+use Rattle.std.specs.{List.Contains, Option.option_map}
+use Rattle.rv_tree.specs.{Tree.NodeTree, Tree.ProgramTree, Places.Identifier, Places.Sites, Places.is_same, Places.index_of, Places.is_among}
 use Rattle.rv_types.specs.Instances.{CallTree, calls, Instance, no_node, node_of, callee, IsInstance, is_main, is_callee, IsNode, name_at}
-use Rattle.rv_types.specs.Settled.{IsSettled}
-use Rattle.rv_types.specs.WellFormed.{AreWell}
-use Rattle.rv_types.specs.Settled.{IsAnswer}
+use Rattle.rv_types.specs.{declared.typed.Typed.Typed, Names.texts, Kinds.node_among, Settled.IsSettled, Settled.IsAnswer, WellFormed.AreWell}
 use Rattle.rv_meaning.specs.Leading.{callee_in_node, node_texts, numbered, callee_at, led_by}
-use Rattle.rv_meaning.proofs.Acceptable.{formed}
-use Rattle.rv_meaning.proofs.NameLemmas.{index_at}
-use Rattle.rv_meaning.proofs.Calling.{callee_there, callee_found}
+use Rattle.rv_meaning.proofs.{Acceptable.formed, NameLemmas.index_at, Calling.callee_there, Calling.callee_found}
 use Rattle.rv_types.proofs.Members.{among_contains}
 
 -- the node of a name is that of its number

@@ -2,19 +2,15 @@
 use Rattle.std.proofs.Common.{◌≡◌, ℕ, pos, ◌-ℤ◌, ◌+◌, Bool, true, false, not, cond, nat_le, unwrap_or, [], ◌∷◌, ◌++◌, refl, ap, arith, Option, Some}
 use Rattle.std.proofs.Common.{None as Nothing}
 use Rattle.std.specs.List.{All}
-use Rattle.rv_base.specs.declared.value.Value.{Value}
-use Rattle.rv_base.specs.declared.value.Value.TheVariants.{Flag, Whole}
+use Rattle.rv_base.specs.{declared.value.Value.Value, declared.value.Value.TheVariants.Flag, declared.value.Value.TheVariants.Whole}
 use Rattle.rv_tree.specs.Tree.{Tree, Node, Form, True, False, Number, Named, Not, Minus, Pre, Current, When, Binary, If, AtMostOne, Call, Trees, None, More}
 use Rattle.rv_tree.specs.Tree.{ProgramTree}
 use Rattle.rv_tree.specs.Places.{Sites, is_flow}
-use Rattle.rv_types.specs.declared.typed.Clock.{Clock}
-use Rattle.rv_types.specs.declared.typed.Clock.TheVariants.{Base}
-use Rattle.rv_types.specs.Scopes.{constant_value}
 use Rattle.rv_types.specs.Instances.{Right, Body, Output, Instance, place, absolute, clock_in, clock_taken, clock_of_arguments, output_place}
 use Rattle.rv_types.specs.Needs.{flow_of, needs, form_needs, needs_all, needs_of_right}
-use Rattle.rv_meaning.specs.Meaning.{is_true, number, held, is_on, operate}
-use Rattle.rv_meaning.specs.Runs.{Instant, cell}
+use Rattle.rv_types.specs.{declared.typed.Clock.Clock, declared.typed.Clock.TheVariants.Base, Scopes.constant_value}
 use Rattle.rv_meaning.specs.Instants.{State, is_on_in, memory, now, form_now, trues_now, value_now, right_now}
+use Rattle.rv_meaning.specs.{Meaning.is_true, Meaning.number, Meaning.held, Meaning.is_on, Meaning.operate, Runs.Instant, Runs.cell}
 use Rattle.rv_base.proofs.Lists.{all_left, all_right}
 
 module _ (g h : Instant) where

@@ -1,23 +1,14 @@
 -- Places that are found along paths, and then sorted, are those of the memories of the instances with these paths.
-use Rattle.std.proofs.Common.{◌≡◌, ℕ, List, [], ◌∷◌, ◌++◌, refl, sym, ◌∙◌, ap, subst, Option, Some, get_or, inl, inr}
-use Rattle.std.proofs.Common.{None as Nothing}
+use Rattle.std.proofs.Common.{◌≡◌, ℕ, List, [], ◌∷◌, ◌++◌, refl, sym, ◌∙◌, ap, subst, Option, Some, get_or, inl, inr, None as Nothing}
 use Rattle.std.specs.List.{Contains, flat_map}
 use Rattle.rv_tree.specs.Tree.{Node, Named, NodeTree, ProgramTree}
-use Rattle.rv_tree.specs.Places.{Identifier, Sites, memory_site}
-use Rattle.rv_tree.specs.Delays.{Delay, node_delays, IsNumbered}
-use Rattle.rv_types.specs.declared.typed.Kind.{Kind}
-use Rattle.rv_types.specs.Instances.{Instance, node_of, IsInstance, IsNode}
-use Rattle.rv_types.specs.Lists.{AreRising, delay_place, MemoryAt, memory_at, memory_places}
-use Rattle.rv_types.specs.Values.{operand_kind}
-use Rattle.rv_types.specs.WellFormed.{AreWell}
-use Rattle.rv_meaning.specs.Accessors.{ArePaths, IsOnePath, AreMemoryPlaces}
-use Rattle.rv_meaning.specs.Leading.{numbered, callee_at, led_by}
-use Rattle.rv_meaning.specs.Remembered.{AreSites, sites_at, places_at}
-use Rattle.rv_meaning.proofs.Acceptable.{node_in}
-use Rattle.rv_meaning.proofs.NameLemmas.{snoc, none_in}
-use Rattle.rv_meaning.proofs.Defined.{same_instance}
+use Rattle.rv_tree.specs.{Places.Identifier, Places.Sites, Places.memory_site, Delays.Delay, Delays.node_delays, Delays.IsNumbered}
+use Rattle.rv_types.specs.{declared.typed.Kind.Kind, Instances.Instance, Instances.node_of, Instances.IsInstance, Instances.IsNode, Lists.AreRising}
+use Rattle.rv_types.specs.{Lists.delay_place, Lists.MemoryAt, Lists.memory_at, Lists.memory_places, Values.operand_kind, WellFormed.AreWell}
+use Rattle.rv_meaning.specs.{Accessors.ArePaths, Accessors.IsOnePath, Accessors.AreMemoryPlaces, Leading.numbered, Leading.callee_at, Leading.led_by}
+use Rattle.rv_meaning.specs.{Remembered.AreSites, Remembered.sites_at, Remembered.places_at}
 use Rattle.rv_meaning.proofs.States.{IsName, memory_of_either, same_flow_site, own_beyond, same_own}
-use Rattle.rv_meaning.proofs.Leads.{leads_to, led_alike}
+use Rattle.rv_meaning.proofs.{Acceptable.node_in, NameLemmas.snoc, NameLemmas.none_in, Defined.same_instance, Leads.leads_to, Leads.led_alike}
 use Rattle.rv_types.proofs.Members.{at_head, cons_cases, in_flat_map, in_map, in_tail, of_flat_map}
 use Rattle.rv_base.proofs.Lists.{from_map}
 

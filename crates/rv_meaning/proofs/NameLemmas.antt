@@ -1,12 +1,9 @@
 -- Names and sites in lists: what determines them.
-use Rattle.std.proofs.Common.{◌≡◌, ℕ, zero, suc, ◌+◌, ◌<◌, ◌↔◌, Bool, true, false, cond, List, [], ◌∷◌, ◌++◌, length, refl, sym, ◌∙◌, ap, subst}
-use Rattle.std.proofs.Common.{arith, get_or, Some, IsSome, length-append}
-use Rattle.std.proofs.Common.{None as Nothing}
-use Rattle.std.specs.Cmp.Lexicographic.{texts_ties}
-use Rattle.std.specs.List.{Contains}
+use Rattle.std.proofs.Common.{◌≡◌, ℕ, zero, suc, ◌+◌, ◌<◌, ◌↔◌, Bool, true, false, cond, List, [], ◌∷◌, ◌++◌, length, refl, sym, ◌∙◌, ap, subst, arith, get_or}
+use Rattle.std.proofs.Common.{Some, IsSome, length-append, None as Nothing}
+use Rattle.std.specs.{Cmp.Lexicographic.texts_ties, List.Contains}
 use Rattle.rv_base.specs.declared.value.Value.{Value}
-use Rattle.rv_tree.specs.Tree.{Tree, Trees}
-use Rattle.rv_tree.specs.Places.{Identifier, is_same, index_of}
+use Rattle.rv_tree.specs.{Tree.Tree, Tree.Trees, Places.Identifier, Places.is_same, Places.index_of}
 use Rattle.rv_types.specs.Instances.{IsArgument, head, tail}
 use Rattle.rv_meaning.proofs.Rows.{same_place, no_flag}
 use Rattle.rv_types.proofs.Members.{text_itself}

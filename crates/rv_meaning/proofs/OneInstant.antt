@@ -2,18 +2,13 @@
 use Rattle.std.proofs.Common.{◌≡◌, ℕ, ◌<◌, ◌↔◌, Bool, true, false, cond, [], ◌∷◌, refl, sym, ◌∙◌, ap, subst, arith, get_or, Option, Some, IsSome}
 use Rattle.std.proofs.Common.{None as Nothing}
 use Rattle.std.specs.FinMap as map
-use Rattle.rv_base.specs.declared.value.Value.{Value}
-use Rattle.rv_base.specs.declared.value.Value.TheVariants.{Flag}
-use Rattle.rv_tree.specs.Tree.{ProgramTree}
-use Rattle.rv_tree.specs.Places.{Identifier, Sites}
+use Rattle.rv_base.specs.{declared.value.Value.Value, declared.value.Value.TheVariants.Flag}
+use Rattle.rv_tree.specs.{Tree.ProgramTree, Places.Identifier, Places.Sites}
 use Rattle.rv_types.specs.Instances.{Body, Output, absolute, clock_in, clock_of, clock_of_arguments, IsFlow}
 use Rattle.rv_types.specs.Needs.{Giver, Given, Of, Gives, given, by_equation, by_call}
-use Rattle.rv_meaning.specs.Meaning.{is_there}
-use Rattle.rv_meaning.specs.Runs.{Instant, History, cells, cell}
-use Rattle.rv_meaning.specs.Givers.{expected, AreDefined}
-use Rattle.rv_meaning.specs.Instants.{State, is_on_in, right_now, IsInstant}
-use Rattle.rv_meaning.proofs.LocalInstants.{right_alike}
-use Rattle.rv_meaning.proofs.Solutions.{Rule, IsLocal, IsSolution}
+use Rattle.rv_meaning.specs.{Meaning.is_there, Runs.Instant, Runs.History, Runs.cells, Runs.cell, Givers.expected, Givers.AreDefined, Instants.State}
+use Rattle.rv_meaning.specs.{Instants.is_on_in, Instants.right_now, Instants.IsInstant}
+use Rattle.rv_meaning.proofs.{LocalInstants.right_alike, Solutions.Rule, Solutions.IsLocal, Solutions.IsSolution}
 
 -- a clock is there in a history of an instant where it is in the row
 pub on_there : (h : History) (t : ℕ) (k : Option Sites) → is_there (cells h) k t ≡ is_on_in (get_or h t map.empty) k

@@ -1,11 +1,9 @@
 -- Places as keys of a row, and what a row has after one more place is written.
-use Rattle.std.proofs.Common.{◌≡◌, Bool, true, false, cond, refl, sym, ◌∙◌, ap, arith, ◌⊎◌, inl, inr, Option, Some}
+use Rattle.std.proofs.Common.{◌≡◌, Bool, true, false, cond, refl, sym, ◌∙◌, ap, arith, ◌⊎◌, inl, inr, Option, Some, Ordering, Less, Equal, Greater}
 use Rattle.std.proofs.lemmas.Cmp.{nat_list_cmp_total, tied_itself}
-use Rattle.std.proofs.Common.{Ordering, Less, Equal, Greater}
-use Rattle.std.specs.Ordering.{is_eq, eq_by_cmp, nat_cmp}
-use Rattle.std.specs.Cmp.Lexicographic.{slice_cmp}
+use Rattle.std.specs.{Ordering.is_eq, Ordering.eq_by_cmp, Ordering.nat_cmp, Cmp.Lexicographic.slice_cmp, FinMap.slice_cmp-IsAntisymmetric}
+use Rattle.std.specs.{FinMap.nat_cmp-IsAntisymmetric, FinMap.get-insert}
 use Rattle.std.specs.FinMap as map
-use Rattle.std.specs.FinMap.{slice_cmp-IsAntisymmetric, nat_cmp-IsAntisymmetric, get-insert}
 use Rattle.rv_base.specs.declared.value.Value.{Value}
 use Rattle.rv_tree.specs.Places.{Sites}
 use Rattle.rv_meaning.specs.Runs.{Instant}

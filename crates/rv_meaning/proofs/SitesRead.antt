@@ -1,12 +1,9 @@
 -- The sites that are read by numbers of names are those of the memories.
 use Rattle.std.proofs.Common.{◌≡◌, ℕ, ◌+◌, Bool, true, false, cond, ◌||◌, nat_lt, unwrap_or, List, [], ◌∷◌, length, refl, sym, ◌∙◌, ap, Option, arith}
 use Rattle.std.proofs.lemmas.Bool.Decides.{nat_tests}
-use Rattle.rv_tree.specs.Tree.{Tree, Node, Named, NodeTree}
 use Rattle.rv_tree.specs.Places.{Identifier, flows, is_same, is_among, index_of, memory_site}
-use Rattle.rv_tree.specs.Delays.{Delay, delay_sites}
-use Rattle.rv_meaning.specs.declared.numbers.Numbers.{Numbers}
-use Rattle.rv_meaning.specs.Numbers.{AreNumbers}
-use Rattle.rv_meaning.specs.Remembered.{site_by, sites_by}
+use Rattle.rv_tree.specs.{Tree.Tree, Tree.Node, Tree.Named, Tree.NodeTree, Delays.Delay, Delays.delay_sites}
+use Rattle.rv_meaning.specs.{declared.numbers.Numbers.Numbers, Numbers.AreNumbers, Remembered.site_by, Remembered.sites_by}
 
 -- a name is among some where its number is one of theirs
 among_by_number : (xs : List Identifier) (x : Identifier) → is_among xs x ≡ nat_lt (index_of xs x) (length xs)

@@ -3,8 +3,7 @@
 use Rattle.std.proofs.Common.{◌≡◌, ℕ, ◌<◌, Option}
 use Rattle.std.specs.List.{All}
 use Rattle.rv_base.specs.declared.value.Value.{Value}
-use Rattle.rv_tree.specs.Tree.{ProgramTree}
-use Rattle.rv_tree.specs.Places.{Identifier, Sites}
+use Rattle.rv_tree.specs.{Tree.ProgramTree, Places.Identifier, Places.Sites}
 use Rattle.rv_meaning.specs.Runs.{History, cells, IsHistory}
 use Rattle.rv_types.specs.Needs.{Giver, Gives, needs_of}
 use Rattle.rv_meaning.proofs.Local.{AreAlike, IsAlike}

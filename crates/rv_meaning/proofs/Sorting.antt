@@ -1,20 +1,16 @@
 -- Places that were sorted, and of which only one of each was kept.
 use Rattle.std.proofs.Common.{◌≡◌, ℕ, zero, suc, ◌<◌, Bool, true, nat_eq, List, [], ◌∷◌, length, refl, sym, ap, subst, arith, inl, inr, get_or}
 use Rattle.std.proofs.lemmas.Cmp.{ranked, on_total, on_equiv, nat_list_cmp_total, nat_list_eq_equiv}
-use Rattle.std.specs.Cmp.{IsTotalOrder, IsEquivalence, unsigned_ties}
-use Rattle.std.specs.Cmp.Lexicographic.{slice_cmp, pointwise, lists_ties}
-use Rattle.std.specs.List.{AllByRecursion, Contains, dedup}
-use Rattle.std.specs.List.Sorted.{IsPermutation, IsSorted, IsStrictlySortedBy}
 use Rattle.std.proofs.lemmas.List.Kept.{Contains-dedup, Contains-from_dedup, IsStrictlySortedBy-dedup}
 use Rattle.std.proofs.lemmas.List.Sorted.{Contains-permutation, IsPermutation-sym}
 use Rattle.std.specs.Ordering.{nat_cmp, ordering_then, eq_by_cmp, MatchOrdering}
-use Rattle.std.specs.declared.cmp.Ordering.{Ordering}
-use Rattle.std.specs.declared.cmp.Ordering.TheVariants.{Less, Equal, Greater}
+use Rattle.std.specs.{Cmp.IsTotalOrder, Cmp.IsEquivalence, Cmp.unsigned_ties, Cmp.Lexicographic.slice_cmp, Cmp.Lexicographic.pointwise}
+use Rattle.std.specs.{Cmp.Lexicographic.lists_ties, List.AllByRecursion, List.Contains, List.dedup, List.Sorted.IsPermutation, List.Sorted.IsSorted}
+use Rattle.std.specs.{List.Sorted.IsStrictlySortedBy, declared.cmp.Ordering.Ordering, declared.cmp.Ordering.TheVariants.Less}
+use Rattle.std.specs.{declared.cmp.Ordering.TheVariants.Equal, declared.cmp.Ordering.TheVariants.Greater}
 use Rattle.rv_base.specs.declared.value.Place.{Place}
 use Rattle.rv_tree.specs.Places.{Sites}
-use Rattle.rv_types.specs.Lists.{AreRising}
-use Rattle.rv_types.specs.Needs.{IsBefore}
-use Rattle.rv_types.specs.Lists.{sites_of}
+use Rattle.rv_types.specs.{Lists.AreRising, Lists.sites_of, Needs.IsBefore}
 use Rattle.rv_meaning.specs.Remembered.{AreSorted}
 use Rattle.rv_meaning.proofs.NameLemmas.{same_text}
 use Rattle.rv_types.proofs.Members.{in_map}

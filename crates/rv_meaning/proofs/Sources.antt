@@ -1,15 +1,11 @@
 -- What a giver expects depends only on the earlier instants and on what it needs; a run is a solution of it.
 use Rattle.std.proofs.Common.{◌≡◌, ℕ, ◌<◌, ◌↔◌, true, refl, sym, ◌∙◌, ap, subst, IsSome}
 use Rattle.rv_base.specs.declared.value.Value.{Value}
-use Rattle.rv_tree.specs.Tree.{ProgramTree}
-use Rattle.rv_tree.specs.Places.{Identifier, Sites}
+use Rattle.rv_tree.specs.{Tree.ProgramTree, Places.Identifier, Places.Sites}
 use Rattle.rv_types.specs.Instances.{absolute, clock_of}
 use Rattle.rv_types.specs.Needs.{Giver, Given, Of, Gives, given, by_equation, by_call}
-use Rattle.rv_meaning.specs.Meaning.{is_there}
-use Rattle.rv_meaning.specs.Runs.{History, cells, AreStarts, AreInputs, IsRun}
-use Rattle.rv_meaning.specs.Givers.{expected, AreDefined}
-use Rattle.rv_meaning.proofs.Local.{right_now}
-use Rattle.rv_meaning.proofs.Solutions.{Rule, IsLocal, IsSolution}
+use Rattle.rv_meaning.specs.{Meaning.is_there, Runs.History, Runs.cells, Runs.AreStarts, Runs.AreInputs, Runs.IsRun, Givers.expected, Givers.AreDefined}
+use Rattle.rv_meaning.proofs.{Local.right_now, Solutions.Rule, Solutions.IsLocal, Solutions.IsSolution}
 
 module _ (program : ProgramTree) (starts : Sites → Value) (inputs : ℕ → ℕ → Value) where
   -- the rule of runs

@@ -2,11 +2,8 @@
 use Rattle.std.proofs.Common.{ℕ, ◌++◌, sym, subst, unwrap_or, Option}
 use Rattle.std.proofs.lemmas.List.Elements.{Contains-append_left, Contains-append_right}
 use Rattle.std.specs.List.{Contains}
-use Rattle.rv_tree.specs.declared.tree.Op.{Op}
-use Rattle.rv_tree.specs.declared.tree.Name.{Name}
 use Rattle.rv_tree.specs.Tree.{Tree, Node, Pre, Current, When, Binary, If, Call, Trees, EquationTree, AssertionTree, NodeTree}
-use Rattle.rv_tree.specs.Places.{Identifier}
-use Rattle.rv_tree.specs.Delays.{Delay, delays, node_delays}
+use Rattle.rv_tree.specs.{declared.tree.Op.Op, declared.tree.Name.Name, Places.Identifier, Delays.Delay, Delays.delays, Delays.node_delays}
 use Rattle.rv_types.specs.Instances.{CallTree, calls, calls_in, calls_in_all, Body, Output, IsRight, alone, in_order, IsArgument}
 use Rattle.rv_meaning.proofs.DelayParts.{of_argument, of_equation, of_assertion, of_delay}
 use Rattle.rv_meaning.proofs.CallParts.{call_of_argument, call_of_equation, call_of_assertion, call_of_delay}

@@ -1,12 +1,10 @@
 -- A history brings a state to each instant, where each `pre` and `current` of a node has a site of its own. Without that
 -- two memories with different values could have one place, and no state would hold both.
-use Rattle.std.proofs.Common.{◌≡◌, ℕ, ◌<◌, Bool, true, false, cond, nat_eq, List, [], ◌∷◌, length, get_or, refl, sym, ◌∙◌, ap, arith, ◌⊎◌, inl, inr}
-use Rattle.std.proofs.Common.{Option, Some, unwrap_or}
-use Rattle.std.proofs.Common.{None as Nothing}
+use Rattle.std.proofs.Common.{◌≡◌, ℕ, ◌<◌, Bool, true, false, cond, nat_eq, List, [], ◌∷◌, length, get_or, refl, sym, ◌∙◌, ap, arith, ◌⊎◌, inl, inr, Option}
+use Rattle.std.proofs.Common.{Some, unwrap_or, None as Nothing}
 use Rattle.std.specs.List.{Contains}
-use Rattle.rv_tree.specs.Tree.{Tree, Node, Named, NodeTree}
 use Rattle.rv_tree.specs.Places.{Identifier, flows, site_of, is_flow, memory_site}
-use Rattle.rv_tree.specs.Delays.{Delay, node_delays, IsNumbered}
+use Rattle.rv_tree.specs.{Tree.Tree, Tree.Node, Tree.Named, Tree.NodeTree, Delays.Delay, Delays.node_delays, Delays.IsNumbered}
 use Rattle.rv_meaning.proofs.NameLemmas.{index_at, none_in}
 use Rattle.rv_types.proofs.Members.{among_contains, at_head, cons_cases, in_tail}
 

@@ -3,17 +3,12 @@ use Rattle.std.proofs.Common.{◌≡◌, ℕ, zero, suc, ◌+◌, ◌<◌, ◌�
 use Rattle.std.proofs.Math.Bool.{or_comm}
 use Rattle.std.specs.FinMap.{empty}
 use Rattle.rv_base.specs.declared.value.Value.{Value}
-use Rattle.rv_tree.specs.Tree.{ProgramTree}
-use Rattle.rv_tree.specs.Places.{Identifier, Sites}
-use Rattle.rv_types.specs.declared.typed.Clock.TheVariants.{Base}
-use Rattle.rv_types.specs.Instances.{absolute, clock_in, clock_of, clock_of_arguments}
-use Rattle.rv_meaning.specs.Meaning.{is_there, was_there}
-use Rattle.rv_meaning.specs.Runs.{History, cells, AreStarts, AreInputs, IsRun}
-use Rattle.rv_meaning.specs.Instants.{State, IsInstant, IsNext, IsStart}
-use Rattle.rv_meaning.specs.Following.{IsStateAt, AreSteps}
-use Rattle.rv_meaning.proofs.OneInstant.{on_there}
-use Rattle.rv_meaning.proofs.DelayParts.{of_argument, of_delay}
+use Rattle.rv_tree.specs.{Tree.ProgramTree, Places.Identifier, Places.Sites}
+use Rattle.rv_types.specs.{declared.typed.Clock.TheVariants.Base, Instances.absolute, Instances.clock_in, Instances.clock_of, Instances.clock_of_arguments}
+use Rattle.rv_meaning.specs.{Meaning.is_there, Meaning.was_there, Runs.History, Runs.cells, Runs.AreStarts, Runs.AreInputs, Runs.IsRun, Instants.State}
+use Rattle.rv_meaning.specs.{Instants.IsInstant, Instants.IsNext, Instants.IsStart, Following.IsStateAt, Following.AreSteps}
 use Rattle.rv_meaning.proofs.Following.{followed, value_followed, right_followed}
+use Rattle.rv_meaning.proofs.{OneInstant.on_there, DelayParts.of_argument, DelayParts.of_delay}
 
 module _ (program : ProgramTree) (main : Identifier) (starts : Sites → Value) (h : History) where
   -- the state at the first instant is the start

@@ -1,15 +1,11 @@
 -- A clock that suits an expression suits its operands.
 use Rattle.std.proofs.Common.{◌≡◌, ℕ, Bool, true, false, cond, refl}
-use Rattle.rv_tree.specs.declared.tree.Op.{Op}
+use Rattle.rv_tree.specs.{declared.tree.Op.Op, Tree.NodeTree}
 use Rattle.rv_tree.specs.declared.tree.Op.TheVariants as op
-use Rattle.rv_tree.specs.Tree.{NodeTree}
-use Rattle.rv_types.specs.declared.typed.Clock.{Clock}
 use Rattle.rv_types.specs.declared.typed.Clock.TheVariants.{Base, On}
-use Rattle.rv_types.specs.declared.fault.Pace.{Pace}
 use Rattle.rv_types.specs.declared.fault.Pace.TheVariants.{Free, At, Mute, Differ}
 use Rattle.rv_types.specs.Clocks.{same_clock, seen, meet, grounded, clock_at, binary_pace, when_pace, current_pace}
-use Rattle.rv_types.specs.Instances.{taken}
-use Rattle.rv_types.specs.WellFormed.{Suits}
+use Rattle.rv_types.specs.{declared.typed.Clock.Clock, declared.fault.Pace.Pace, Instances.taken, WellFormed.Suits}
 use Rattle.rv_types.proofs.Paces.{clock_same}
 
 -- what suits a part, as its whole sees it, suits it

@@ -1,31 +1,24 @@
 -- What tells the type of an expression tells it rightly, where the expression has one.
 use Rattle.std.proofs.Common.{◌≡◌, ℕ, ◌+◌, ◌≤◌, Bool, true, false, ◌&&◌, ◌||◌, cond, List, [], ◌∷◌, map, reverse, length, unwrap_or, refl, sym, ◌∙◌, ap, arith}
-use Rattle.std.proofs.Common.{Option, Some, is_some, slice_get, add-zero, add-one}
-use Rattle.std.proofs.Common.{None as Nothing}
+use Rattle.std.proofs.Common.{Option, Some, is_some, slice_get, add-zero, add-one, None as Nothing}
 use Rattle.std.proofs.lemmas.Option.{none-some, same_Some, slice_get-map, slice_get_past}
 use Rattle.std.specs.Option.{option_map}
-use Rattle.rv_tree.specs.declared.tree.Name.{Name}
-use Rattle.rv_tree.specs.declared.tree.TypeDecl.{TypeDecl}
-use Rattle.rv_tree.specs.declared.tree.TypeName.{TypeName}
-use Rattle.rv_tree.specs.declared.tree.Op.{Op}
-use Rattle.rv_tree.specs.declared.tree.Op.TheVariants as op
 use Rattle.rv_tree.specs.Tree.{Tree, Node, Form, True, False, Number, Named, Not, Minus, Pre, Current, When, Binary, If, AtMostOne, Call, ConstantTree}
 use Rattle.rv_tree.specs.Tree.{NodeTree, ProgramTree}
 use Rattle.rv_tree.specs.Places.{Identifier, flows, is_same, is_flow, is_among, index_of, site_of}
-use Rattle.rv_types.specs.declared.typed.Kind.{Kind}
-use Rattle.rv_types.specs.declared.typed.Kind.TheVariants as kind
+use Rattle.rv_tree.specs.{declared.tree.Name.Name, declared.tree.TypeDecl.TypeDecl, declared.tree.TypeName.TypeName, declared.tree.Op.Op}
+use Rattle.rv_tree.specs.declared.tree.Op.TheVariants as op
 use Rattle.rv_types.specs.declared.fault.Verdict.TheVariants.{Has, Silent, Clashes, Multiplies}
-use Rattle.rv_types.specs.Names.{is_declared, labels_of}
 use Rattle.rv_types.specs.Kinds.{flow_kinds, flow_kind, LabelPlace, number_from, label_from, label_of, node_among, kind_in_program}
 use Rattle.rv_types.specs.Types.{Signature, Scope, kind_in, same_kind, memory_rule, not_rule, minus_rule, when_rule, when_of, if_rule, binary_rule, both_are}
 use Rattle.rv_types.specs.Types.{all_typed, all_suit, fit, call_of, is_constant, form_verdict, kinds_of_all, kind_of}
 use Rattle.rv_types.specs.Scopes.{label_kind, constant_scope, as_declared, constant_kind_after, constant_kind, value_kind, signature_of, node_scope}
-use Rattle.rv_meaning.specs.Leading.{node_texts}
-use Rattle.rv_meaning.specs.Telling.{Telling, Itself, OfName, OfCallee, result_kind, telling, form_telling, label_told, constant_told, name_told, output_of}
-use Rattle.rv_meaning.specs.Telling.{told}
-use Rattle.rv_meaning.proofs.FlowSites.{kinds_many, output_kind}
+use Rattle.rv_types.specs.{declared.typed.Kind.Kind, Names.is_declared, Names.labels_of}
+use Rattle.rv_types.specs.declared.typed.Kind.TheVariants as kind
+use Rattle.rv_meaning.specs.{Leading.node_texts, Telling.Telling, Telling.Itself, Telling.OfName, Telling.OfCallee, Telling.result_kind, Telling.telling}
+use Rattle.rv_meaning.specs.{Telling.form_telling, Telling.label_told, Telling.constant_told, Telling.name_told, Telling.output_of, Telling.told}
 use Rattle.rv_meaning.proofs.TypedOperators.{met_kind, one_kind, two_kinds, three_kinds}
-use Rattle.rv_meaning.proofs.TypedTrees.{all_kind, sole_output}
+use Rattle.rv_meaning.proofs.{FlowSites.kinds_many, FlowSites.output_kind, TypedTrees.all_kind, TypedTrees.sole_output}
 
 module _ (s : Scope) where
   -- the type that is told, where names stand for what they do in a scope

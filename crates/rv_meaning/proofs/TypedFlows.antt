@@ -1,38 +1,23 @@
 -- Where the memories and inputs of an instant have values of their types, so have its flows, and so have the memories after
 -- it.
 use Rattle.std.proofs.Common.{◌≡◌, ℕ, zero, suc, ◌<◌, ◌≤◌, ◌⊎◌, Bool, unwrap_or, List, [], ◌∷◌, length, get_or, refl, sym, ◌∙◌, ap, subst, inl, inr, arith}
-use Rattle.std.proofs.Common.{Option, Some, IsSome, slice_get}
-use Rattle.std.proofs.Common.{None as Nothing}
-use Rattle.std.proofs.lemmas.Bool.{cases_lt}
-use Rattle.std.proofs.lemmas.List.{append_assoc, length-map, get_or_default}
-use Rattle.std.proofs.lemmas.List.Elements.{All-weaker}
-use Rattle.std.proofs.lemmas.Option.{same_Some, cond_some, slice_get-get_or}
+use Rattle.std.proofs.Common.{Option, Some, IsSome, slice_get, None as Nothing}
+use Rattle.std.proofs.{lemmas.Bool.cases_lt, lemmas.List.append_assoc, lemmas.List.length-map, lemmas.List.get_or_default, lemmas.List.Elements.All-weaker}
+use Rattle.std.proofs.{lemmas.Option.same_Some, lemmas.Option.cond_some, lemmas.Option.slice_get-get_or}
 use Rattle.std.specs.List.{All, Contains}
 use Rattle.rv_base.specs.declared.value.Value.{Value}
-use Rattle.rv_tree.specs.Tree.{ProgramTree}
-use Rattle.rv_tree.specs.Places.{Identifier, Sites, flows, site_of}
-use Rattle.rv_tree.specs.Delays.{Delay, node_delays}
-use Rattle.rv_types.specs.declared.typed.Kind.{Kind}
-use Rattle.rv_types.specs.declared.typed.Kind.TheVariants as kind
-use Rattle.rv_types.specs.declared.typed.Clock.TheVariants.{Base}
-use Rattle.rv_types.specs.Clocks.{pace}
-use Rattle.rv_types.specs.Kinds.{kind_in_program, decl_kinds, flow_kind}
-use Rattle.rv_types.specs.Types.{kind_of}
-use Rattle.rv_types.specs.Scopes.{node_scope}
-use Rattle.rv_types.specs.Values.{HasKind, operand_kind}
+use Rattle.rv_tree.specs.{Tree.ProgramTree, Places.Identifier, Places.Sites, Places.flows, Places.site_of, Delays.Delay, Delays.node_delays}
 use Rattle.rv_types.specs.Instances.{Right, Body, Output, IsRight, taken, clock_of, clock_in, clock_taken, clock_of_arguments, Instance, place, absolute}
 use Rattle.rv_types.specs.Instances.{node_of, callee, IsInstance, is_main, is_callee, output_place, IsNode}
 use Rattle.rv_types.specs.Needs.{Giver, Of, Gives, by_equation, by_call, flow_of, needs, needs_of, IsAmongFirst, IsSequence}
-use Rattle.rv_types.specs.WellFormed.{Suits, AreWell}
-use Rattle.rv_meaning.specs.Meaning.{held, kept_place}
-use Rattle.rv_meaning.specs.Runs.{Instant, cell, AreStarts}
+use Rattle.rv_types.specs.{declared.typed.Kind.Kind, declared.typed.Clock.TheVariants.Base, Clocks.pace, Kinds.kind_in_program, Kinds.decl_kinds}
+use Rattle.rv_types.specs.{Kinds.flow_kind, Types.kind_of, Scopes.node_scope, Values.HasKind, Values.operand_kind, WellFormed.Suits, WellFormed.AreWell}
+use Rattle.rv_types.specs.declared.typed.Kind.TheVariants as kind
 use Rattle.rv_meaning.specs.Instants.{State, is_on_in, now, IsInstant, IsNext, AreGiven}
-use Rattle.rv_meaning.specs.Following.{IsTypedInstant}
-use Rattle.rv_meaning.proofs.Rows.{no_flag}
-use Rattle.rv_meaning.proofs.Acceptable.{formed, typed}
+use Rattle.rv_meaning.specs.{Meaning.held, Meaning.kept_place, Runs.Instant, Runs.cell, Runs.AreStarts, Following.IsTypedInstant}
 use Rattle.rv_meaning.proofs.Standing.{body_stands, output_call, argument_stands, operand_stands}
-use Rattle.rv_meaning.proofs.FlowSites.{input_within, input_kind}
 use Rattle.rv_meaning.proofs.TypedTrees.{TypedAt, output_typed, current_typed, tree_typed, value_typed}
+use Rattle.rv_meaning.proofs.{Rows.no_flag, Acceptable.formed, Acceptable.typed, FlowSites.input_within, FlowSites.input_kind}
 use Rattle.rv_base.proofs.Lists.{all_right}
 
 -- a type that is there

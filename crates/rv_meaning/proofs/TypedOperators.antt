@@ -1,17 +1,13 @@
 -- What operators make of values of their types has the type of the whole.
-use Rattle.std.proofs.Common.{◌≡◌, Bool, true, false, ◌&&◌, cond, refl, sym, ◌∙◌, subst, Option, Some}
-use Rattle.std.proofs.Common.{None as Nothing}
+use Rattle.std.proofs.Common.{◌≡◌, Bool, true, false, ◌&&◌, cond, refl, sym, ◌∙◌, subst, Option, Some, None as Nothing}
 use Rattle.std.proofs.lemmas.Option.{none-some, same_Some}
 use Rattle.rv_base.specs.declared.value.Value.{Value}
-use Rattle.rv_tree.specs.declared.tree.Op.{Op}
+use Rattle.rv_tree.specs.{declared.tree.Op.Op, Tree.ProgramTree}
 use Rattle.rv_tree.specs.declared.tree.Op.TheVariants as op
-use Rattle.rv_tree.specs.Tree.{ProgramTree}
-use Rattle.rv_types.specs.declared.typed.Kind.{Kind}
-use Rattle.rv_types.specs.declared.typed.Kind.TheVariants as kind
-use Rattle.rv_types.specs.declared.fault.Verdict.{Verdict}
 use Rattle.rv_types.specs.declared.fault.Verdict.TheVariants.{Has, Clashes, Multiplies}
 use Rattle.rv_types.specs.Types.{kind_in, same_kind, where_met, one_of, two_of, three_of, both_are, binary_rule, if_rule}
-use Rattle.rv_types.specs.Values.{HasKind}
+use Rattle.rv_types.specs.{declared.typed.Kind.Kind, declared.fault.Verdict.Verdict, Values.HasKind}
+use Rattle.rv_types.specs.declared.typed.Kind.TheVariants as kind
 use Rattle.rv_meaning.specs.Meaning.{operate}
 use Rattle.rv_types.proofs.ConstantContents.{kind_same}
 use Rattle.rv_base.proofs.Truths.{both_of}

@@ -3,23 +3,12 @@ use Rattle.std.proofs.Common.{◌≡◌, ℕ, zero, suc, ◌+◌, ◌≤◌, Lis
 use Rattle.std.specs.FinMap as map
 use Rattle.std.specs.List.{Contains}
 use Rattle.rv_base.specs.declared.value.Value.{Value}
-use Rattle.rv_tree.specs.Tree.{NodeTree, ProgramTree}
-use Rattle.rv_tree.specs.Places.{Identifier, Sites}
-use Rattle.rv_tree.specs.Delays.{Delay, node_delays, IsNumbered}
-use Rattle.rv_types.specs.declared.typed.Clock.TheVariants.{Base}
-use Rattle.rv_types.specs.Clocks.{pace}
-use Rattle.rv_types.specs.Values.{HasKind, operand_kind}
-use Rattle.rv_types.specs.Instances.{taken, IsNode}
-use Rattle.rv_types.specs.Needs.{IsSequence}
-use Rattle.rv_types.specs.WellFormed.{Suits, AreWell}
-use Rattle.rv_meaning.specs.Runs.{History, cells, AreStarts, IsRun}
-use Rattle.rv_meaning.specs.Instants.{State}
-use Rattle.rv_meaning.specs.Following.{IsStateAt}
-use Rattle.rv_meaning.proofs.Acceptable.{node_in}
-use Rattle.rv_meaning.proofs.Following.{instant_of_run}
-use Rattle.rv_meaning.proofs.Steps.{start_state, next_state}
-use Rattle.rv_meaning.proofs.Brought.{state_at, is_state_at}
-use Rattle.rv_meaning.proofs.TypedFlows.{typed_next}
+use Rattle.rv_tree.specs.{Tree.NodeTree, Tree.ProgramTree, Places.Identifier, Places.Sites, Delays.Delay, Delays.node_delays, Delays.IsNumbered}
+use Rattle.rv_types.specs.{declared.typed.Clock.TheVariants.Base, Clocks.pace, Values.HasKind, Values.operand_kind, Instances.taken, Instances.IsNode}
+use Rattle.rv_types.specs.{Needs.IsSequence, WellFormed.Suits, WellFormed.AreWell}
+use Rattle.rv_meaning.specs.{Runs.History, Runs.cells, Runs.AreStarts, Runs.IsRun, Instants.State, Following.IsStateAt}
+use Rattle.rv_meaning.proofs.{Acceptable.node_in, Following.instant_of_run, Steps.start_state, Steps.next_state, Brought.state_at, Brought.is_state_at}
+use Rattle.rv_meaning.proofs.{TypedFlows.typed_next}
 
 -- each `pre` and `current` has a site of its own
 abbrev pub AreNumbered : ProgramTree → Type 0

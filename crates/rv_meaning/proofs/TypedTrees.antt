@@ -1,41 +1,30 @@
 -- What an expression of an instance has in a row has its type, where its clock is there and the flows that it needs have
 -- theirs.
 use Rattle.std.proofs.Common.{◌≡◌, ℕ, ◌+◌, ◌<◌, ◌↔◌, pos, Bool, true, false, not, ◌||◌, cond, unwrap_or, List, [], ◌∷◌, ◌++◌, refl, sym, ◌∙◌, ap, subst, arith}
-use Rattle.std.proofs.Common.{Option, Some, IsSome, slice_get, length}
-use Rattle.std.proofs.Common.{None as Nothing}
+use Rattle.std.proofs.Common.{Option, Some, IsSome, slice_get, length, None as Nothing}
 use Rattle.std.proofs.lemmas.List.{append_assoc, length-map}
 use Rattle.std.proofs.lemmas.Option.{none-some, same_Some, cond_some, slice_get_within}
-use Rattle.std.specs.List.{All, Contains}
-use Rattle.std.specs.Option.{option_map}
-use Rattle.rv_base.specs.declared.value.Value.{Value}
-use Rattle.rv_base.specs.declared.value.Value.TheVariants.{Flag, Whole}
+use Rattle.std.specs.{List.All, List.Contains, Option.option_map}
+use Rattle.rv_base.specs.{declared.value.Value.Value, declared.value.Value.TheVariants.Flag, declared.value.Value.TheVariants.Whole}
 use Rattle.rv_tree.specs.Tree.{Tree, Node, Form, True, False, Number, Named, Not, Minus, Pre, Current, When, Binary, If, AtMostOne, Call, ProgramTree}
-use Rattle.rv_tree.specs.Places.{Identifier, Sites, flows, is_flow, site_of}
-use Rattle.rv_tree.specs.Delays.{node_delays}
-use Rattle.rv_types.specs.declared.typed.Kind.{Kind}
-use Rattle.rv_types.specs.declared.typed.Kind.TheVariants as kind
-use Rattle.rv_types.specs.declared.typed.Clock.{Clock}
-use Rattle.rv_types.specs.declared.typed.Clock.TheVariants.{Base}
-use Rattle.rv_types.specs.declared.fault.Pace.TheVariants.{Free, At}
-use Rattle.rv_types.specs.declared.fault.Verdict.TheVariants.{Has, Silent, Clashes}
+use Rattle.rv_tree.specs.{Places.Identifier, Places.Sites, Places.flows, Places.is_flow, Places.site_of, Delays.node_delays}
 use Rattle.rv_types.specs.Clocks.{pace, pace_of_all, seen, meet, form_pace, clock_at}
-use Rattle.rv_types.specs.Kinds.{kind_in_program, decl_kinds, flow_kind, node_named}
 use Rattle.rv_types.specs.Types.{kind_in, same_kind, one_of, where_met, memory_rule, not_rule, minus_rule, when_rule, if_rule, binary_rule, all_typed, all_suit}
 use Rattle.rv_types.specs.Types.{fit, sole, call_of, is_constant, form_verdict, kinds_of_all, kind_of}
 use Rattle.rv_types.specs.Scopes.{constant_kind, constant_value, signature_of, signature_named, node_scope}
-use Rattle.rv_types.specs.Values.{HasKind, operand_kind}
 use Rattle.rv_types.specs.Instances.{CallTree, calls, clock_of, clock_taken, clock_in, clock_of_arguments, Instance, place, absolute, no_node, node_of, callee}
 use Rattle.rv_types.specs.Instances.{IsInstance, is_callee, output_place, IsNode}
-use Rattle.rv_types.specs.Needs.{flow_of, needs, form_needs}
-use Rattle.rv_types.specs.WellFormed.{Suits, AreWell}
-use Rattle.rv_meaning.specs.Meaning.{is_true, held, is_on, kept_place}
-use Rattle.rv_meaning.specs.Runs.{Instant, cell, AreStarts}
+use Rattle.rv_types.specs.{declared.typed.Kind.Kind, declared.typed.Clock.Clock, declared.typed.Clock.TheVariants.Base, declared.fault.Pace.TheVariants.Free}
+use Rattle.rv_types.specs.{declared.fault.Pace.TheVariants.At, declared.fault.Verdict.TheVariants.Has, declared.fault.Verdict.TheVariants.Silent}
+use Rattle.rv_types.specs.{declared.fault.Verdict.TheVariants.Clashes, Kinds.kind_in_program, Kinds.decl_kinds, Kinds.flow_kind, Kinds.node_named}
+use Rattle.rv_types.specs.{Values.HasKind, Values.operand_kind, Needs.flow_of, Needs.needs, Needs.form_needs, WellFormed.Suits, WellFormed.AreWell}
+use Rattle.rv_types.specs.declared.typed.Kind.TheVariants as kind
 use Rattle.rv_meaning.specs.Instants.{State, is_on_in, now, form_now, value_now}
-use Rattle.rv_meaning.proofs.Rows.{no_flag}
+use Rattle.rv_meaning.specs.{Meaning.is_true, Meaning.held, Meaning.is_on, Meaning.kept_place, Runs.Instant, Runs.cell, Runs.AreStarts}
 use Rattle.rv_meaning.proofs.Suiting.{suits_both, suits_parts, ground_taken, taken_suits, suits_operands, suits_current, suits_when}
 use Rattle.rv_meaning.proofs.TypedOperators.{met_kind, one_kind, two_kinds, three_kinds, flag_typed, whole_typed, operator_typed, if_typed}
 use Rattle.rv_meaning.proofs.Standing.{Stands, pre_operand, current_operand, when_operand, left_operand, right_operand, then_part, else_part, own_call}
-use Rattle.rv_meaning.proofs.FlowSites.{flow_there, output_base, output_kind, FlowAt, flow_at}
+use Rattle.rv_meaning.proofs.{Rows.no_flag, FlowSites.flow_there, FlowSites.output_base, FlowSites.output_kind, FlowSites.FlowAt, FlowSites.flow_at}
 use Rattle.rv_base.proofs.Lists.{all_left, all_right}
 
 -- a flow that is there has the value that it holds

@@ -1,14 +1,8 @@
 -- What stands at a place of a program, and whose memories are asked for.
-use Rattle.std.specs.Prelude.{◌≡◌, ℕ, List, [], ◌∷◌, ◌++◌, Some}
-use Rattle.std.specs.List.{Contains}
-use Rattle.rv_tree.specs.Tree.{ProgramTree}
-use Rattle.rv_tree.specs.Places.{Identifier, Sites, flows}
-use Rattle.rv_tree.specs.Delays.{Delay, node_delays}
-use Rattle.rv_types.specs.declared.typed.Kind.{Kind}
-use Rattle.rv_types.specs.Kinds.{flow_kind}
-use Rattle.rv_types.specs.Values.{operand_kind}
-use Rattle.rv_types.specs.Instances.{Instance, place, IsInstance}
-use Rattle.rv_types.specs.Lists.{MemoryAt, memory_places, AreMemories}
+use Rattle.std.specs.{Prelude.◌≡◌, Prelude.ℕ, Prelude.List, Prelude.[], Prelude.◌∷◌, Prelude.◌++◌, Prelude.Some, List.Contains}
+use Rattle.rv_tree.specs.{Tree.ProgramTree, Places.Identifier, Places.Sites, Places.flows, Delays.Delay, Delays.node_delays}
+use Rattle.rv_types.specs.{declared.typed.Kind.Kind, Kinds.flow_kind, Values.operand_kind, Instances.Instance, Instances.place, Instances.IsInstance}
+use Rattle.rv_types.specs.{Lists.MemoryAt, Lists.memory_places, Lists.AreMemories}
 
 -- each of these is the path of an instance
 abbrev pub ArePaths : ProgramTree → Identifier → List Sites → Type 0

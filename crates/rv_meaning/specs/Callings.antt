@@ -1,14 +1,10 @@
 -- The calls of nodes by the numbers of the nodes that they call.
-use Rattle.std.specs.Prelude.{◌≡◌, ℕ, cond, nat_eq, List, [], ◌∷◌, map, Option, Some, slice_get}
-use Rattle.std.specs.Prelude.{None as Nothing}
-use Rattle.std.specs.HashMap as hash
+use Rattle.std.specs.Prelude.{◌≡◌, ℕ, cond, nat_eq, List, [], ◌∷◌, map, Option, Some, slice_get, None as Nothing}
 use Rattle.std.specs.HashMap.{HashMap}
+use Rattle.std.specs.HashMap as hash
 use Rattle.rv_tree.specs.Tree.{NodeTree}
 use Rattle.rv_types.specs.Instances.{CallTree}
-use Rattle.rv_meaning.specs.declared.calls.Calling.{Calling}
-use Rattle.rv_meaning.specs.declared.numbers.Numbers.{Numbers}
-use Rattle.rv_meaning.specs.Leading.{callee_at}
-use Rattle.rv_meaning.specs.Numbers.{number_in}
+use Rattle.rv_meaning.specs.{declared.calls.Calling.Calling, declared.numbers.Numbers.Numbers, Leading.callee_at, Numbers.number_in}
 
 -- some calls, where the nodes have these numbers
 abbrev pub callings : Numbers → List CallTree → List Calling

@@ -1,20 +1,13 @@
 -- The states and instants of a run.
-use Rattle.std.specs.Prelude.{◌≡◌, ℕ, ◌+◌, ◌<◌, List, length, Option, slice_index_or}
-use Rattle.std.specs.FinMap as map
+use Rattle.std.specs.Prelude.{◌≡◌, ℕ, ◌+◌, ◌<◌, List, length, Option, slice_index_or, Some}
 use Rattle.std.specs.List.{Contains}
+use Rattle.std.specs.FinMap as map
 use Rattle.rv_base.specs.declared.value.Value.{Value}
-use Rattle.rv_tree.specs.Tree.{ProgramTree}
-use Rattle.rv_tree.specs.Places.{Identifier, Sites, flows}
-use Rattle.rv_tree.specs.Delays.{Delay, node_delays}
-use Rattle.rv_types.specs.declared.typed.Kind.{Kind}
-use Rattle.rv_types.specs.declared.typed.Clock.TheVariants.{Base}
-use Rattle.rv_types.specs.Kinds.{flow_kind}
-use Rattle.rv_types.specs.Values.{HasKind}
+use Rattle.rv_tree.specs.{Tree.ProgramTree, Places.Identifier, Places.Sites, Places.flows, Delays.Delay, Delays.node_delays}
 use Rattle.rv_types.specs.Instances.{Instance, place, clock_in, IsInstance}
-use Rattle.std.specs.Prelude.{Some}
+use Rattle.rv_types.specs.{declared.typed.Kind.Kind, declared.typed.Clock.TheVariants.Base, Kinds.flow_kind, Values.HasKind}
 use Rattle.rv_meaning.specs.Meaning.{Cells, was_there, last_before, kept_place, content}
-use Rattle.rv_meaning.specs.Runs.{Instant, cell}
-use Rattle.rv_meaning.specs.Instants.{State, IsInstant, IsNext, IsStart}
+use Rattle.rv_meaning.specs.{Runs.Instant, Runs.cell, Instants.State, Instants.IsInstant, Instants.IsNext, Instants.IsStart}
 
 -- what the memory of a `pre` or `current` of an instance holds before the instant t of a history
 abbrev pub held_before : ProgramTree → (Sites → Value) → Cells → Instance → Delay → ℕ → Value

@@ -1,9 +1,7 @@
 -- What gives each flow its value, and that each flow has exactly one such source, on its own clock.
-use Rattle.std.specs.Prelude.{◌≡◌, ℕ, ◌↔◌, true, Option, Some, IsSome}
-use Rattle.std.specs.List.{Contains}
+use Rattle.std.specs.{Prelude.◌≡◌, Prelude.ℕ, Prelude.◌↔◌, Prelude.true, Prelude.Option, Prelude.Some, Prelude.IsSome, List.Contains}
 use Rattle.rv_base.specs.declared.value.Value.{Value}
-use Rattle.rv_tree.specs.Tree.{ProgramTree}
-use Rattle.rv_tree.specs.Places.{Identifier, Sites, flows}
+use Rattle.rv_tree.specs.{Tree.ProgramTree, Places.Identifier, Places.Sites, Places.flows}
 use Rattle.rv_types.specs.Instances.{Instance, place, absolute, clock_of, IsInstance, IsFlow}
 use Rattle.rv_types.specs.Needs.{Giver, Given, Of, Gives}
 use Rattle.rv_meaning.specs.Meaning.{Cells, is_there, right_value}

@@ -2,24 +2,17 @@
 -- have; and what the clocks and memories bring to the next one.
 -- (Jeannet 2003 for states and their successors.)
 use Rattle.std.specs.Prelude.{◌≡◌, ℕ, ◌+◌, ◌<◌, ◌↔◌, ◌⊎◌, pos, ◌-ℤ◌, Bool, true, false, not, ◌||◌, cond, nat_le, unwrap_or, ◌∷◌, ◌++◌, [], length, Option, Some}
-use Rattle.std.specs.Prelude.{IsSome, slice_get}
-use Rattle.std.specs.Prelude.{None as Nothing}
-use Rattle.std.specs.FinMap as map
+use Rattle.std.specs.Prelude.{IsSome, slice_get, None as Nothing}
 use Rattle.std.specs.List.{Contains}
-use Rattle.rv_base.specs.declared.value.Value.{Value}
-use Rattle.rv_base.specs.declared.value.Value.TheVariants.{Flag, Whole}
+use Rattle.std.specs.FinMap as map
+use Rattle.rv_base.specs.{declared.value.Value.Value, declared.value.Value.TheVariants.Flag, declared.value.Value.TheVariants.Whole}
 use Rattle.rv_tree.specs.Tree.{Tree, Node, Form, True, False, Number, Named, Not, Minus, Pre, Current, When, Binary, If, AtMostOne, Call, Trees, None, More}
 use Rattle.rv_tree.specs.Tree.{AssertionTree, ProgramTree}
-use Rattle.rv_tree.specs.Places.{Identifier, Sites, flows, is_flow}
-use Rattle.rv_tree.specs.Delays.{Delay, node_delays}
-use Rattle.rv_types.specs.declared.typed.Kind.{Kind}
-use Rattle.rv_types.specs.declared.typed.Clock.{Clock}
-use Rattle.rv_types.specs.declared.typed.Clock.TheVariants.{Base}
-use Rattle.rv_types.specs.Kinds.{decl_kinds}
-use Rattle.rv_types.specs.Scopes.{constant_value}
-use Rattle.rv_types.specs.Values.{HasKind}
+use Rattle.rv_tree.specs.{Places.Identifier, Places.Sites, Places.flows, Places.is_flow, Delays.Delay, Delays.node_delays}
 use Rattle.rv_types.specs.Instances.{CallTree, Right, Body, Output, IsRight, IsArgument, calls, clock_of, Instance, place, absolute, clock_in}
 use Rattle.rv_types.specs.Instances.{clock_of_arguments, output_place, node_of, IsInstance, IsFlow}
+use Rattle.rv_types.specs.{declared.typed.Kind.Kind, declared.typed.Clock.Clock, declared.typed.Clock.TheVariants.Base, Kinds.decl_kinds, Scopes.constant_value}
+use Rattle.rv_types.specs.{Values.HasKind}
 use Rattle.rv_meaning.specs.Meaning.{is_true, number, held, is_on, operate, kept_place}
 use Rattle.rv_meaning.specs.Runs.{Instant, cell, observer_place}
 

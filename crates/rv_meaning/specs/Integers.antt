@@ -1,15 +1,9 @@
 -- Programs without integers: what they do is the control alone.
-use Rattle.std.specs.Prelude.{◌≡◌, Some}
-use Rattle.std.specs.List.{Contains}
-use Rattle.rv_tree.specs.Tree.{Tree, ProgramTree}
-use Rattle.rv_tree.specs.Places.{Identifier, flows}
-use Rattle.rv_tree.specs.Delays.{Delay, node_delays}
+use Rattle.std.specs.{Prelude.◌≡◌, Prelude.Some, List.Contains}
+use Rattle.rv_tree.specs.{Tree.Tree, Tree.ProgramTree, Places.Identifier, Places.flows, Delays.Delay, Delays.node_delays}
 use Rattle.rv_types.specs.declared.typed.Kind.TheVariants as kind
-use Rattle.rv_types.specs.Kinds.{flow_kind}
-use Rattle.rv_types.specs.Values.{operand_kind}
-use Rattle.rv_types.specs.Variables.{node_parts}
-use Rattle.rv_types.specs.Lists.{ComparisonAt, Compares}
-use Rattle.rv_types.specs.Instances.{Instance, IsInstance}
+use Rattle.rv_types.specs.{Kinds.flow_kind, Values.operand_kind, Variables.node_parts, Lists.ComparisonAt, Lists.Compares, Instances.Instance}
+use Rattle.rv_types.specs.{Instances.IsInstance}
 
 -- No flow of any instance and no operand of a `pre` or `current` is an integer, and no integers are compared.
 pub record IsControl (program : ProgramTree) (main : Identifier) : Type 0 where

@@ -1,6 +1,5 @@
 -- Where a path of call sites leads, by the numbers of the nodes, and what stands at a site of a node.
-use Rattle.std.specs.Prelude.{ℕ, cond, nat_eq, List, [], ◌∷◌, map, unwrap_or, Option, Some, slice_index_or}
-use Rattle.std.specs.Prelude.{None as Nothing}
+use Rattle.std.specs.Prelude.{ℕ, cond, nat_eq, List, [], ◌∷◌, map, unwrap_or, Option, Some, slice_index_or, None as Nothing}
 use Rattle.std.specs.Option.{option_map, option_or}
 use Rattle.rv_tree.specs.Tree.{Tree, Node, Form, True, False, Number, Named, Not, Minus, Pre, Current, When, Binary, If, AtMostOne, Call, Trees, None, More}
 use Rattle.rv_tree.specs.Tree.{EquationTree, AssertionTree, NodeTree}

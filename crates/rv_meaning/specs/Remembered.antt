@@ -1,16 +1,10 @@
 -- The sites of the memories of nodes, and the places that they have in instances.
-use Rattle.std.specs.Prelude.{ℕ, cond, nat_lt, List, [], ◌∷◌, ◌++◌, map, unwrap_or, Option, Some, slice_index_or}
-use Rattle.std.specs.Prelude.{None as Nothing}
+use Rattle.std.specs.Prelude.{ℕ, cond, nat_lt, List, [], ◌∷◌, ◌++◌, map, unwrap_or, Option, Some, slice_index_or, None as Nothing}
 use Rattle.std.specs.List.{Contains}
 use Rattle.rv_base.specs.declared.value.Place.{Place}
-use Rattle.rv_tree.specs.Tree.{Tree, Node, Form, Named, NodeTree}
-use Rattle.rv_tree.specs.Places.{Sites}
-use Rattle.rv_tree.specs.Delays.{Delay, node_delays, delay_sites}
-use Rattle.rv_types.specs.Lists.{AreRising}
-use Rattle.rv_meaning.specs.declared.numbers.Numbers.{Numbers}
-use Rattle.rv_types.specs.Lists.{sites_of}
-use Rattle.rv_meaning.specs.Leading.{led_by}
-use Rattle.rv_meaning.specs.Numbers.{number_in}
+use Rattle.rv_tree.specs.{Tree.Tree, Tree.Node, Tree.Form, Tree.Named, Tree.NodeTree, Places.Sites, Delays.Delay, Delays.node_delays, Delays.delay_sites}
+use Rattle.rv_types.specs.Lists.{AreRising, sites_of}
+use Rattle.rv_meaning.specs.{declared.numbers.Numbers.Numbers, Leading.led_by, Numbers.number_in}
 
 -- the site of the memory of a `pre` or `current`, where the flows have these numbers
 abbrev mutual

@@ -2,21 +2,13 @@
 -- (Halbwachs, Caspi, Raymond and Pilaud 1991: a program is its equations.)
 use Rattle.std.specs.Prelude.{◌≡◌, ℕ, ◌+◌, ◌<◌, ◌≤◌, ◌↔◌, ◌⊎◌, true, false, List, [], ◌∷◌, ◌++◌, length, Option, Some, IsSome, slice_get, slice_index_or}
 use Rattle.std.specs.Prelude.{None as Nothing}
-use Rattle.std.specs.Ordering.{nat_cmp}
-use Rattle.std.specs.Cmp.Lexicographic.{slice_cmp}
+use Rattle.std.specs.{Ordering.nat_cmp, Cmp.Lexicographic.slice_cmp, List.Contains}
 use Rattle.std.specs.FinMap as map
-use Rattle.std.specs.List.{Contains}
-use Rattle.rv_base.specs.declared.value.Value.{Value}
-use Rattle.rv_base.specs.declared.value.Value.TheVariants.{Flag}
-use Rattle.rv_tree.specs.Tree.{Tree, AssertionTree, ProgramTree}
-use Rattle.rv_tree.specs.Places.{Identifier, Sites, flows}
-use Rattle.rv_tree.specs.Delays.{Delay, node_delays}
-use Rattle.rv_types.specs.declared.typed.Kind.{Kind}
-use Rattle.rv_types.specs.declared.typed.Clock.TheVariants.{Base}
-use Rattle.rv_types.specs.Kinds.{decl_kinds}
-use Rattle.rv_types.specs.Values.{HasKind, operand_kind}
+use Rattle.rv_base.specs.{declared.value.Value.Value, declared.value.Value.TheVariants.Flag}
+use Rattle.rv_tree.specs.{Tree.Tree, Tree.AssertionTree, Tree.ProgramTree, Places.Identifier, Places.Sites, Places.flows, Delays.Delay, Delays.node_delays}
 use Rattle.rv_types.specs.Instances.{CallTree, Right, IsRight, IsArgument, calls, clock_of, Instance, place, absolute, clock_of_arguments, node_of, IsInstance}
 use Rattle.rv_types.specs.Instances.{IsFlow}
+use Rattle.rv_types.specs.{declared.typed.Kind.Kind, declared.typed.Clock.TheVariants.Base, Kinds.decl_kinds, Values.HasKind, Values.operand_kind}
 use Rattle.rv_meaning.specs.Meaning.{Cells, is_there, kept_place, value, right_value}
 
 -- what the flows have at one instant: each place has a value, or is absent

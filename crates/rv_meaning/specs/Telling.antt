@@ -1,19 +1,14 @@
 -- What tells the type of an expression that has one.
-use Rattle.std.specs.Prelude.{ℕ, ◌+◌, cond, List, [], ◌∷◌, reverse, unwrap_or, length, Option, Some, slice_get}
-use Rattle.std.specs.Prelude.{None as Nothing}
+use Rattle.std.specs.Prelude.{ℕ, ◌+◌, cond, List, [], ◌∷◌, reverse, unwrap_or, length, Option, Some, slice_get, None as Nothing}
 use Rattle.std.specs.Option.{option_map}
-use Rattle.rv_tree.specs.declared.tree.TypeDecl.{TypeDecl}
-use Rattle.rv_tree.specs.declared.tree.Op.{Op}
+use Rattle.rv_tree.specs.{declared.tree.TypeDecl.TypeDecl, declared.tree.Op.Op, Tree.Tree, Tree.Node, Tree.Form, Tree.True, Tree.False, Tree.Number, Tree.Named}
+use Rattle.rv_tree.specs.{Tree.Not, Tree.Minus, Tree.Pre, Tree.Current, Tree.When, Tree.Binary, Tree.If, Tree.AtMostOne, Tree.Call, Tree.ConstantTree}
+use Rattle.rv_tree.specs.{Tree.NodeTree, Tree.ProgramTree, Places.Identifier, Places.Sites, Places.index_of, Places.is_same, Places.site_of}
 use Rattle.rv_tree.specs.declared.tree.Op.TheVariants as op
-use Rattle.rv_tree.specs.Tree.{Tree, Node, Form, True, False, Number, Named, Not, Minus, Pre, Current, When, Binary, If, AtMostOne, Call, ConstantTree}
-use Rattle.rv_tree.specs.Tree.{NodeTree, ProgramTree}
-use Rattle.rv_tree.specs.Places.{Identifier, Sites, index_of, is_same, site_of}
-use Rattle.rv_types.specs.declared.typed.Kind.{Kind}
+use Rattle.rv_types.specs.{declared.typed.Kind.Kind, Names.is_declared, Names.labels_of}
 use Rattle.rv_types.specs.declared.typed.Kind.TheVariants as kind
-use Rattle.rv_types.specs.Names.{is_declared, labels_of}
-use Rattle.rv_meaning.specs.declared.kinds.Teller.{Teller}
+use Rattle.rv_meaning.specs.{declared.kinds.Teller.Teller, Leading.node_texts, Leading.operand_in_node, Leading.callee_at, Leading.led_by}
 use Rattle.rv_meaning.specs.declared.kinds.Teller.TheVariants as declared
-use Rattle.rv_meaning.specs.Leading.{node_texts, operand_in_node, callee_at, led_by}
 
 -- the type itself, the name of a flow, constant or label, or the name of the node that is called
 pub data Telling : Type 0 where

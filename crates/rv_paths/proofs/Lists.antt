@@ -1,11 +1,7 @@
 -- What holds of each element of a list.
 use Rattle.std.proofs.Common.{◌≡◌, ℕ, ◌<◌, ◌^◌, ◌-◌, ℤ, pos, List, All, length, reverse, get_or, subst, sym, arith, ⊎_elim}
-use Rattle.std.proofs.lemmas.Bool.{cases_lt}
-use Rattle.std.proofs.lemmas.List.{get_or-reverse, length-reverse, get_or_past}
-use Rattle.rv_rows.specs.Forms.{number}
-use Rattle.rv_rows.specs.declared.linear.Row.{Row}
-use Rattle.rv_rows.specs.Rows.{RowWithin}
-use Rattle.rv_rows.specs.Tight.{Fits}
+use Rattle.std.proofs.{lemmas.Bool.cases_lt, lemmas.List.get_or-reverse, lemmas.List.length-reverse, lemmas.List.get_or_past}
+use Rattle.rv_rows.specs.{Forms.number, declared.linear.Row.Row, Rows.RowWithin, Tight.Fits}
 use Rattle.rv_poly.specs.Whole.{IsInReplay}
 use Rattle.rv_paths.specs.Joining.{AreJoined}
 use Rattle.rv_poly.proofs.WholeLemmas.{replay-zero}

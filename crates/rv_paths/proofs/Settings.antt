@@ -1,20 +1,12 @@
 -- The setting of a search in a store that is the same, and its parts.
 use Rattle.std.proofs.Common.{◌≡◌, ℕ, zero, suc, List, Option, Some, None, Result, Ok, Err, IfOk, IfSome, slice_get, subst, sym}
-use Rattle.rv_diagram.specs.Nodes.{Diagrams, IsMeant, IsOrderedOver}
-use Rattle.rv_diagram.specs.declared.frozen.Frozen.{Frozen}
-use Rattle.rv_proofs.specs.Systems.{System}
-use Rattle.rv_proofs.specs.Ranges.{IsControlSet}
-use Rattle.rv_proofs.specs.Cases.{IsCase, AreCases}
-use Rattle.rv_proofs.specs.declared.report.Case.{Case}
-use Rattle.rv_symbolic.specs.declared.relation.Relation.{Relation}
-use Rattle.rv_symbolic.specs.declared.relation.Parts.{Parts}
+use Rattle.rv_diagram.specs.{Nodes.Diagrams, Nodes.IsMeant, Nodes.IsOrderedOver, declared.frozen.Frozen.Frozen}
+use Rattle.rv_proofs.specs.{Systems.System, Ranges.IsControlSet, Cases.IsCase, Cases.AreCases, declared.report.Case.Case}
 use Rattle.rv_symbolic.specs.Represented.{IsRelationOf, parts_of}
-use Rattle.rv_symbolic.specs.Linked.{AreRefs}
+use Rattle.rv_symbolic.specs.{declared.relation.Relation.Relation, declared.relation.Parts.Parts, Linked.AreRefs}
 use Rattle.rv_cases.specs.declared.asking.Questions.{Questions}
-use Rattle.rv_paths.specs.declared.tree.Plan.{Plan}
-use Rattle.rv_paths.specs.declared.tree.Node.{Node}
-use Rattle.rv_paths.specs.Candidates.{IsSearchOf}
 use Rattle.rv_paths.specs.Searching.{AreUsable, AreNodes, IsPlanOf, IsSetting, cases_of}
+use Rattle.rv_paths.specs.{declared.tree.Plan.Plan, declared.tree.Node.Node, Candidates.IsSearchOf}
 use Rattle.rv_proofs.proofs.Judging.{All-at as all_at}
 
 pub relation_there : (s : System) (old new : Diagrams) (r : Relation) → new ≡ old → IsRelationOf s old r → IsRelationOf s new r

@@ -1,13 +1,9 @@
 -- What a search for a candidate is given, and the shape and the range of what it finds.
 use Rattle.std.specs.Prelude.{◌≡◌, ℕ, ◌-◌, ◌<◌, ◌^◌, List, length, All, Some, slice_get}
-use Rattle.rv_diagram.specs.Nodes.{Diagrams}
-use Rattle.rv_diagram.specs.declared.frozen.Frozen.{Frozen}
-use Rattle.rv_proofs.specs.Systems.{System}
-use Rattle.rv_proofs.specs.Ranges.{IsControlSet}
-use Rattle.rv_symbolic.specs.declared.relation.Relation.{Relation}
-use Rattle.rv_symbolic.specs.Represented.{IsRelationOf}
-use Rattle.rv_cases.specs.declared.asking.Questions.{Questions}
-use Rattle.rv_cases.specs.Questions.{AreQuestions}
+use Rattle.rv_diagram.specs.{Nodes.Diagrams, declared.frozen.Frozen.Frozen}
+use Rattle.rv_proofs.specs.{Systems.System, Ranges.IsControlSet}
+use Rattle.rv_symbolic.specs.{declared.relation.Relation.Relation, Represented.IsRelationOf}
+use Rattle.rv_cases.specs.{declared.asking.Questions.Questions, Questions.AreQuestions}
 use Rattle.rv_poly.specs.Whole.{IsInReplay}
 use Rattle.rv_paths.specs.declared.trace.Candidate.{Candidate}
 

@@ -1,7 +1,6 @@
 -- The rows that are joined along a path.
 use Rattle.std.specs.Prelude.{◌≡◌, ℕ, List, length, All}
-use Rattle.rv_rows.specs.declared.linear.Row.{Row}
-use Rattle.rv_rows.specs.Tight.{Fits}
+use Rattle.rv_rows.specs.{declared.linear.Row.Row, Tight.Fits}
 
 -- The row has so many columns, and is within the limits of kept rows.
 pub record IsJoinedRow (width : ℕ) (r : Row) : Type 0 where

@@ -1,15 +1,9 @@
 -- The tree of a search, and the cases that it follows.
 use Rattle.std.specs.Prelude.{◌≡◌, ℕ, zero, suc, List, [], ◌∷◌, Some, All, slice_get}
-use Rattle.rv_diagram.specs.Nodes.{Diagrams}
-use Rattle.rv_diagram.specs.declared.frozen.Frozen.{Frozen}
-use Rattle.rv_proofs.specs.Systems.{System}
-use Rattle.rv_proofs.specs.Ranges.{IsControlSet}
-use Rattle.rv_proofs.specs.Cases.{IsCase}
-use Rattle.rv_proofs.specs.declared.report.Case.{Case}
-use Rattle.rv_symbolic.specs.declared.relation.Relation.{Relation}
-use Rattle.rv_symbolic.specs.Represented.{IsRelationOf}
-use Rattle.rv_paths.specs.declared.tree.Plan.{Plan}
-use Rattle.rv_paths.specs.declared.tree.Node.{Node}
+use Rattle.rv_diagram.specs.{Nodes.Diagrams, declared.frozen.Frozen.Frozen}
+use Rattle.rv_proofs.specs.{Systems.System, Ranges.IsControlSet, Cases.IsCase, declared.report.Case.Case}
+use Rattle.rv_symbolic.specs.{declared.relation.Relation.Relation, Represented.IsRelationOf}
+use Rattle.rv_paths.specs.{declared.tree.Plan.Plan, declared.tree.Node.Node}
 
 -- Each is a case that may be handed in.
 abbrev pub AreUsable : System → List Case → Type 0

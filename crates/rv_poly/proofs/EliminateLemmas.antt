@@ -1,31 +1,19 @@
 -- Rows of the step of Fourier and Motzkin that are handed in one after the other.
 use Rattle.std.proofs.Common.{◌≡◌, ◌⊎◌, ℕ, ◌+◌, ◌*◌, ◌≤◌, ◌<◌, ◌^◌, ℤ, pos, ◌+ℤ◌, ◌-ℤ◌, ◌*ℤ◌, ◌≤ℤ◌, ◌<ℤ◌, Bool, true, false, List, [], ◌∷◌, ◌++◌, length}
 use Rattle.std.proofs.Common.{get_or, take, All, FitsSigned, arith, refl, ap, sym, ◌∙◌, subst, inl, inr}
-use Rattle.std.specs.Prelude.{int_lt, T}
-use Rattle.std.specs.Ordering.{int_eq}
-use Rattle.std.specs.List.{Contains, count_by}
-use Rattle.std.proofs.lemmas.Int.{ints}
-use Rattle.std.proofs.lemmas.Bool.{cases_lt}
-use Rattle.std.proofs.lemmas.Bool.Decides.{Decides-int_eq}
-use Rattle.std.proofs.Math.Seq.{take-length}
-use Rattle.std.proofs.Math.Nat.{mul-le-mul, mul-le-mul_right}
+use Rattle.std.proofs.lemmas.Int.{ints, unsigned_abs-mul, fits_signed_mul, fits_signed_from_abs}
 use Rattle.std.proofs.lemmas.List.{length-append, length-take-le, length_push, get_or_default, get_or_past}
-use Rattle.std.proofs.lemmas.List.Sums.{count_by_more_yes, count_by_more_no, count_by-le-length}
 use Rattle.std.proofs.lemmas.List.Elements.{All-nil, All-push, All-append, All-contains, Contains-get_or, Contains-append_left, Contains-append_right}
 use Rattle.std.proofs.lemmas.List.Elements.{Contains-append_cases, Contains-push, Contains-push_cases}
-use Rattle.rv_rows.specs.declared.linear.Row.{Row}
-use Rattle.std.specs.Int.RustNames.{unsigned_abs}
-use Rattle.std.proofs.lemmas.Int.{unsigned_abs-mul, fits_signed_mul, fits_signed_from_abs}
-use Rattle.std.specs.Int.{w128}
-use Rattle.std.proofs.Math.IntN.{*ℤ-zero}
-use Rattle.rv_rows.specs.Rows.{coefficient}
-use Rattle.rv_rows.specs.Tight.{Fits}
-use Rattle.rv_poly.specs.declared.eliminate.Eliminated.{Eliminated}
-use Rattle.rv_rows.proofs.IntLemmas.{abs-add}
-use Rattle.rv_poly.specs.Polys.{IsPoly, rows_width}
+use Rattle.std.proofs.{lemmas.Bool.cases_lt, lemmas.Bool.Decides.Decides-int_eq, Math.Seq.take-length, Math.Nat.mul-le-mul, Math.Nat.mul-le-mul_right}
+use Rattle.std.proofs.{lemmas.List.Sums.count_by_more_yes, lemmas.List.Sums.count_by_more_no, lemmas.List.Sums.count_by-le-length, Math.IntN.*ℤ-zero}
+use Rattle.std.specs.{Prelude.int_lt, Prelude.T, Ordering.int_eq, List.Contains, List.count_by, Int.RustNames.unsigned_abs, Int.w128}
+use Rattle.rv_rows.specs.{declared.linear.Row.Row, Rows.coefficient, Tight.Fits}
 use Rattle.rv_poly.specs.Projection.{IsCombined, IsStepRow, free, pair, AreStepRows, HasStepRows}
 use Rattle.rv_poly.specs.Elimination.{AreKept, IsFreeTaken, AreFreeTaken, IsPairTaken, ArePairsTaken, IsRowPaired, AreRowsPaired, IsRowWithin, positives}
 use Rattle.rv_poly.specs.Elimination.{negatives, zeros}
+use Rattle.rv_poly.specs.{declared.eliminate.Eliminated.Eliminated, Polys.IsPoly, Polys.rows_width}
+use Rattle.rv_rows.proofs.IntLemmas.{abs-add}
 use Rattle.rv_poly.proofs.ListLemmas.{one_width}
 
 abbrev step_of : List Row → ℕ → Eliminated

@@ -1,15 +1,10 @@
 -- Lists of rows of one width, and points that grow number by number.
 use Rattle.std.proofs.Common.{◌≡◌, ℕ, zero, suc, ◌≤◌, ◌<◌, ◌^◌, ℤ, pos, ◌-ℤ◌, ◌≤ℤ◌, ◌<ℤ◌, List, [], ◌∷◌, ◌++◌, length, get_or, slice_get, None, Some, Option}
 use Rattle.std.proofs.Common.{IfSome, All, arith, refl, ap, sym, ◌∙◌, subst}
-use Rattle.std.proofs.lemmas.Int.{ints}
-use Rattle.std.proofs.lemmas.List.{length_push, get_or_append_left}
-use Rattle.std.proofs.lemmas.List.Elements.{All-push, All-nil}
-use Rattle.std.proofs.lemmas.Option.{get_or_from_slice_get}
-use Rattle.rv_rows.specs.declared.linear.Row.{Row}
-use Rattle.rv_rows.specs.Tight.{Fits, IsTightened}
-use Rattle.rv_poly.specs.Whole.{IsInReplay}
-use Rattle.rv_poly.specs.Points.{HasPoint}
-use Rattle.rv_poly.specs.Guides.{IsGuide, IsGuided, IsTrail, IsWholePoint}
+use Rattle.std.proofs.{lemmas.Int.ints, lemmas.List.length_push, lemmas.List.get_or_append_left, lemmas.List.Elements.All-push, lemmas.List.Elements.All-nil}
+use Rattle.std.proofs.{lemmas.Option.get_or_from_slice_get}
+use Rattle.rv_rows.specs.{declared.linear.Row.Row, Tight.Fits, Tight.IsTightened}
+use Rattle.rv_poly.specs.{Whole.IsInReplay, Points.HasPoint, Guides.IsGuide, Guides.IsGuided, Guides.IsTrail, Guides.IsWholePoint}
 
 pub guide-none : (width : ℕ) → IsGuide width []
 guide-none width = record { fits = All-nil Fits; widths = All-nil (λ r. length r.coefficients ≡ width) }

@@ -1,30 +1,20 @@
 -- Bounds of left sides after updates, and the images of moves.
 use Rattle.std.proofs.Common.{◌≡◌, ◌⊎◌, ℕ, zero, suc, ◌+◌, ◌*◌, ◌≤◌, ◌<◌, ◌^◌, ℤ, pos, ◌+ℤ◌, ◌-ℤ◌, ◌*ℤ◌, ◌≤ℤ◌, List, [], ◌∷◌, ◌++◌, length, map, take, get_or}
 use Rattle.std.proofs.Common.{All, Option, Some, None, FitsSigned, arith, refl, ap, sym, ◌∙◌, subst, inl, inr}
-use Rattle.std.specs.Prelude.{IfSome}
-use Rattle.std.specs.Int.{w128}
-use Rattle.std.specs.Int.RustNames.{unsigned_abs}
-use Rattle.std.proofs.Math.IntN.{*ℤ-zero}
-use Rattle.std.proofs.Math.Nat.{mul-le-mul}
-use Rattle.std.proofs.lemmas.Bool.{cases_lt}
 use Rattle.std.proofs.lemmas.Int.{ints, unsigned_abs-mul, fits_signed_from_abs}
 use Rattle.std.proofs.lemmas.List.{length-map, length-take, length_push, get_or-map, get_or_append_left, get_or_push, get_or_default, get_or_past, same_lists}
 use Rattle.std.proofs.lemmas.List.Elements.{All-map, All-nil, All-push, All-take, All-head, All-tail, All-append}
-use Rattle.rv_rows.specs.declared.linear.Row.{Row}
-use Rattle.rv_rows.specs.declared.linear.Form.{Form}
-use Rattle.rv_rows.specs.Rows.{dot, Holds, coefficient}
+use Rattle.std.proofs.{Math.IntN.*ℤ-zero, Math.Nat.mul-le-mul, lemmas.Bool.cases_lt}
+use Rattle.std.specs.{Prelude.IfSome, Int.w128, Int.RustNames.unsigned_abs}
 use Rattle.rv_rows.specs.Forms.{number, value, values, IsSubstituted, CanSubstitute, SumsStay, FormWithin}
 use Rattle.rv_rows.specs.Multipliers.{ShowsAtOnce, by_none, by_one, by_two}
-use Rattle.rv_rows.specs.Tight.{Fits}
-use Rattle.rv_rows.proofs.IntLemmas.{abs-add, mul_comm_int, mul_add}
+use Rattle.rv_rows.specs.{declared.linear.Row.Row, declared.linear.Form.Form, Rows.dot, Rows.Holds, Rows.coefficient, Tight.Fits}
 use Rattle.rv_rows.proofs.RowLemmas.{dot-cons, get_or-tail, dot-none, tail_of}
-use Rattle.rv_rows.proofs.FormLemmas.{substituted_same}
+use Rattle.rv_rows.proofs.{IntLemmas.abs-add, IntLemmas.mul_comm_int, IntLemmas.mul_add, FormLemmas.substituted_same}
 use Rattle.rv_seek.specs.Least.{bounded}
-use Rattle.rv_poly.specs.Points.{HasPoint}
-use Rattle.rv_poly.specs.Closing.{AreClosing}
 use Rattle.rv_poly.specs.Images.{IsImage, AreUpdates, ShowsAfter, AreMoves, IsNarrow, StaysWithin, IsCut, AreCut}
-use Rattle.rv_poly.proofs.EliminateLemmas.{number_within}
-use Rattle.rv_poly.proofs.ClosingLemmas.{own_shown, covers-side}
+use Rattle.rv_poly.specs.{Points.HasPoint, Closing.AreClosing}
+use Rattle.rv_poly.proofs.{EliminateLemmas.number_within, ClosingLemmas.own_shown, ClosingLemmas.covers-side}
 
 -- a sum of products is at most as many products of the greatest numbers
 dot-within : (a b m : ℕ) → a * b ≡ m → (cs xs : List ℤ) → All (λ c. unsigned_abs c ≤ a) cs → All (λ x. unsigned_abs x ≤ b) xs

@@ -1,11 +1,8 @@
 -- Rows with 1 or -1 at one or two columns that are added one after the other.
 use Rattle.std.proofs.Common.{◌≡◌, ◌⊎◌, ℕ, ◌+◌, ◌≤◌, ◌<◌, ◌^◌, ℤ, pos, negsuc, Bool, true, false, List, length, All, arith, refl, ap, sym, ◌∙◌, subst, inl, inr}
-use Rattle.std.specs.Prelude.{if◌then◌else◌, nat_eq}
-use Rattle.std.specs.Int.RustNames.{unsigned_abs}
-use Rattle.std.proofs.lemmas.Bool.{cases_lt}
-use Rattle.std.proofs.lemmas.List.{same_lists, get_or_default}
-use Rattle.rv_rows.specs.declared.linear.Row.{Row}
-use Rattle.rv_rows.specs.Forms.{number}
+use Rattle.std.proofs.{lemmas.Bool.cases_lt, lemmas.List.same_lists, lemmas.List.get_or_default}
+use Rattle.std.specs.{Prelude.if◌then◌else◌, Prelude.nat_eq, Int.RustNames.unsigned_abs}
+use Rattle.rv_rows.specs.{declared.linear.Row.Row, Forms.number}
 use Rattle.rv_poly.specs.Closing.{KeepsSide, KeepsUnit, KeepsPair, IsSideAdded, IsGrown, unit_number, IsUnitSide, IsUnitAdded, IsPairAdded, AreAxesAdded}
 use Rattle.rv_poly.specs.Closing.{ArePairsAdded, AreDiagonalsAdded, AreUnitsAdded}
 use Rattle.rv_poly.proofs.ClosingLemmas.{grown-none, grown-more, grown-one, keeps-later, keeps-added}

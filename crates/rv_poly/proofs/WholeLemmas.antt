@@ -1,24 +1,17 @@
 -- Rows with at most one coefficient other than 0, and the numbers that they allow.
 use Rattle.std.proofs.Common.{◌≡◌, ◌⊎◌, ℕ, zero, suc, ◌+◌, ◌≤◌, ◌<◌, ◌^◌, ℤ, pos, negsuc, ◌+ℤ◌, ◌-ℤ◌, ◌*ℤ◌, ◌≤ℤ◌, ◌<ℤ◌, List, [], ◌∷◌, ◌++◌, length, take}
 use Rattle.std.proofs.Common.{get_or, All, FitsSigned, arith, refl, ap, sym, ◌∙◌, subst, inl, inr, Bool, true, false, IsTrue}
-use Rattle.std.specs.Int.{w128}
-use Rattle.std.specs.Int.RustNames.{unsigned_abs}
-use Rattle.std.proofs.Math.IntN.{*ℤ-zero, zero-*ℤ}
-use Rattle.std.proofs.Math.Nat.{mul-le-mul}
-use Rattle.std.proofs.lemmas.Bool.{cases_lt, false≢true}
 use Rattle.std.proofs.lemmas.Int.{ints, by_lt_z, unsigned_abs-mul, fits_signed_from_abs}
 use Rattle.std.proofs.lemmas.List.{get_or_default, get_or_past, get_or_append_left, get_or_push, length_push, get_or-take, length-take, take_all}
 use Rattle.std.proofs.lemmas.List.Elements.{All-push, All-nil, All-take}
-use Rattle.rv_rows.specs.declared.linear.Row.{Row}
-use Rattle.rv_rows.specs.Rows.{dot, Holds, coefficient}
-use Rattle.rv_rows.specs.Forms.{number}
+use Rattle.std.proofs.{Math.IntN.*ℤ-zero, Math.IntN.zero-*ℤ, Math.Nat.mul-le-mul, lemmas.Bool.cases_lt, lemmas.Bool.false≢true}
+use Rattle.std.specs.{Int.w128, Int.RustNames.unsigned_abs}
+use Rattle.rv_rows.specs.{declared.linear.Row.Row, Rows.dot, Rows.Holds, Rows.coefficient, Forms.number}
 use Rattle.rv_rows.proofs.IntLemmas.{mul_comm_int, mul_mono, below_next}
 use Rattle.rv_rows.proofs.RowLemmas.{dot-cons, get_or-tail, dot-none, tail_of}
-use Rattle.rv_poly.specs.declared.spans.Span.{Span}
-use Rattle.rv_poly.specs.Points.{HasPoint}
 use Rattle.rv_poly.specs.Whole.{IsInReplay, IsSingle, IsSpanCut, IsNarrowed, IsSpanOf, IsCandidate}
-use Rattle.rv_poly.proofs.Lines.{mul_neg}
-use Rattle.rv_poly.proofs.EliminateLemmas.{number_within}
+use Rattle.rv_poly.specs.{declared.spans.Span.Span, Points.HasPoint}
+use Rattle.rv_poly.proofs.{Lines.mul_neg, EliminateLemmas.number_within}
 use Rattle.rv_base.proofs.Numbers.{zero_add}
 
 pub replay-abs : (z : ℤ) → IsInReplay z → unsigned_abs z ≤ 2 ^ 63

@@ -1,13 +1,8 @@
 -- How the rows of the step of Fourier and Motzkin are kept, or dropped and counted, and how many there are.
 use Rattle.std.specs.Prelude.{◌≡◌, ◌⊎◌, ℕ, ◌<◌, ◌≤◌, ◌+◌, ◌*◌, pos, ◌≤ℤ◌, ◌<ℤ◌, List, [], ◌∷◌, length, take, All, slice_index_or, int_lt}
-use Rattle.std.specs.Ordering.{int_eq}
-use Rattle.std.specs.List.{Contains, count_by}
-use Rattle.std.specs.Int.RustNames.{unsigned_abs}
-use Rattle.rv_rows.specs.declared.linear.Row.{Row}
-use Rattle.rv_rows.specs.Rows.{coefficient}
-use Rattle.rv_rows.specs.Tight.{Fits}
-use Rattle.rv_poly.specs.declared.eliminate.Eliminated.{Eliminated}
-use Rattle.rv_poly.specs.Projection.{IsCombined}
+use Rattle.std.specs.{Ordering.int_eq, List.Contains, List.count_by, Int.RustNames.unsigned_abs}
+use Rattle.rv_rows.specs.{declared.linear.Row.Row, Rows.coefficient, Tight.Fits}
+use Rattle.rv_poly.specs.{declared.eliminate.Eliminated.Eliminated, Projection.IsCombined}
 
 -- How many of the rows have a positive, a negative and no coefficient at column k.
 abbrev pub positives : ℕ → List Row → ℕ

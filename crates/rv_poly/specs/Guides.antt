@@ -1,9 +1,7 @@
 -- Lists of rows by which the numbers of a point are chosen, and the points that are chosen so.
 use Rattle.std.specs.Prelude.{◌≡◌, ℕ, ◌≤◌, ℤ, List, length, All}
-use Rattle.rv_rows.specs.declared.linear.Row.{Row}
-use Rattle.rv_rows.specs.Tight.{Fits}
-use Rattle.rv_poly.specs.Points.{HasPoint}
-use Rattle.rv_poly.specs.Whole.{IsInReplay}
+use Rattle.rv_rows.specs.{declared.linear.Row.Row, Tight.Fits}
+use Rattle.rv_poly.specs.{Points.HasPoint, Whole.IsInReplay}
 
 -- The rows have one width and are within the limits of a kept row.
 pub record IsGuide (width : ℕ) (rows : List Row) : Type 0 where

@@ -1,10 +1,7 @@
 -- Whole points whose numbers a trace may have, and how the numbers of a column that single rows allow are found.
 use Rattle.std.specs.Prelude.{◌≡◌, ℕ, ◌<◌, ◌^◌, ℤ, pos, ◌-ℤ◌, ◌*ℤ◌, ◌≤ℤ◌, ◌<ℤ◌, List, length, All, slice_index_or}
-use Rattle.rv_rows.specs.declared.linear.Row.{Row}
-use Rattle.rv_rows.specs.Rows.{coefficient}
-use Rattle.rv_rows.specs.Forms.{number}
-use Rattle.rv_poly.specs.Points.{HasPoint}
-use Rattle.rv_poly.specs.declared.spans.Span.{Span}
+use Rattle.rv_rows.specs.{declared.linear.Row.Row, Rows.coefficient, Forms.number}
+use Rattle.rv_poly.specs.{Points.HasPoint, declared.spans.Span.Span}
 
 -- The number is one that a value of a trace may have: from -2^63 to 2^63 - 1.
 pub record IsInReplay (z : ℤ) : Type 0 where

@@ -2,12 +2,9 @@
 use Rattle.std.proofs.Common.{◌≡◌, ℕ, ◌+◌, ◌<◌, [], length, sym, ◌∙◌, subst, arith}
 use Rattle.std.proofs.lemmas.List.{get_or-take, length-take, length-take-le}
 use Rattle.rv_base.specs.declared.value.Trace.{Trace}
-use Rattle.rv_tree.specs.Tree.{ProgramTree}
-use Rattle.rv_tree.specs.Places.{Identifier}
-use Rattle.rv_types.specs.Instances.{node_of}
-use Rattle.rv_types.specs.Kinds.{decl_kinds}
-use Rattle.rv_replay.specs.Replays.{IsFalsifiedAt}
-use Rattle.rv_replay.specs.Traces.{AreTyped, IsTrace, given}
+use Rattle.rv_tree.specs.{Tree.ProgramTree, Places.Identifier}
+use Rattle.rv_types.specs.{Instances.node_of, Kinds.decl_kinds}
+use Rattle.rv_replay.specs.{Replays.IsFalsifiedAt, Traces.AreTyped, Traces.IsTrace, Traces.given}
 use Rattle.rv_probe.specs.Probes.{cut}
 
 module _ (program : ProgramTree) (main : Identifier) (t : Trace) (k : ℕ) where

@@ -1,29 +1,15 @@
 -- What an answer says of the probes.
-use Rattle.std.proofs.Common.{◌≡◌, ℕ, ◌+◌, ◌≤◌, ◌^◌, Bool, true, List, length, take, refl, sym, ◌∙◌, ap, subst, arith, inl, inr}
-use Rattle.std.proofs.Common.{Option, Some, None as Nothing}
-use Rattle.std.specs.Prelude.{◌↔◌, ℤ, pos, unsigned_abs, Result, Ok, Err, IfOk}
-use Rattle.std.specs.List.{Contains}
-use Rattle.rv_base.specs.declared.memory.Memory.{Memory}
-use Rattle.rv_base.specs.declared.value.Trace.{Trace}
-use Rattle.rv_base.specs.declared.value.Value.{Value}
-use Rattle.rv_tree.specs.Tree.{ProgramTree}
-use Rattle.rv_tree.specs.Places.{Identifier}
-use Rattle.rv_tree.specs.SourceTrees.{IsSourceTree}
-use Rattle.rv_types.specs.declared.typed.Typed.{Typed}
-use Rattle.rv_types.specs.Instances.{name_at, IsNode}
-use Rattle.rv_types.specs.Settled.{IsSettled}
-use Rattle.rv_types.specs.WellFormed.{AreWell}
-use Rattle.rv_instances.specs.declared.answer.Order.{Order}
-use Rattle.rv_instances.specs.Fitting.{Fits}
-use Rattle.rv_flat.specs.declared.flat.Flat.{Flat}
-use Rattle.rv_flat.specs.FlatOf.{IsFlatOf}
-use Rattle.rv_replay.specs.Replays.{IsFalsifiedAt}
-use Rattle.rv_replay.specs.Traces.{IsFlatTrace, IsTrace}
-use Rattle.rv_replay.proofs.FlatTraces.{InputsOfFlat, StatesOfFlat}
-use Rattle.rv_replay.proofs.Sources.{observed}
+use Rattle.std.proofs.Common.{◌≡◌, ℕ, ◌+◌, ◌≤◌, ◌^◌, Bool, true, List, length, take, refl, sym, ◌∙◌, ap, subst, arith, inl, inr, Option, Some, None as Nothing}
+use Rattle.std.specs.{Prelude.◌↔◌, Prelude.ℤ, Prelude.pos, Prelude.unsigned_abs, Prelude.Result, Prelude.Ok, Prelude.Err, Prelude.IfOk, List.Contains}
+use Rattle.rv_base.specs.{declared.memory.Memory.Memory, declared.value.Trace.Trace, declared.value.Value.Value}
+use Rattle.rv_tree.specs.{Tree.ProgramTree, Places.Identifier, SourceTrees.IsSourceTree}
+use Rattle.rv_types.specs.{declared.typed.Typed.Typed, Instances.name_at, Instances.IsNode, Settled.IsSettled, WellFormed.AreWell}
+use Rattle.rv_instances.specs.{declared.answer.Order.Order, Fitting.Fits}
+use Rattle.rv_flat.specs.{declared.flat.Flat.Flat, FlatOf.IsFlatOf}
+use Rattle.rv_replay.specs.{Replays.IsFalsifiedAt, Traces.IsFlatTrace, Traces.IsTrace}
+use Rattle.rv_replay.proofs.{FlatTraces.InputsOfFlat, FlatTraces.StatesOfFlat, Sources.observed}
 use Rattle.rv_probe.specs.Probes.{FalsifiesAt, HasFalsifyingProbe, IsCutProbe, IsProbeNumber, NeverFalsifies, cut, have_values, probe_of}
-use Rattle.rv_probe.proofs.Cuts.{cut_count, cut_falsified, cut_trace}
-use Rattle.rv_probe.proofs.Typed.{flat_probe, have_of, number_within}
+use Rattle.rv_probe.proofs.{Cuts.cut_count, Cuts.cut_falsified, Cuts.cut_trace, Typed.flat_probe, Typed.have_of, Typed.number_within}
 
 -- the law by which a trace of a flat system is one of its program
 abbrev pub TracesOfProgram : Type 0

@@ -2,8 +2,7 @@
 use Rattle.std.proofs.Common.{◌≡◌, ℕ, Bool, List, map, replicate, ◌∙◌, ap}
 use Rattle.std.specs.Prelude.{ℤ}
 use Rattle.rv_base.specs.declared.value.Value.{Value}
-use Rattle.rv_flat.specs.declared.flat.Flat.{Flat}
-use Rattle.rv_flat.specs.Steps.{input_kinds, memory_kinds}
+use Rattle.rv_flat.specs.{declared.flat.Flat.Flat, Steps.input_kinds, Steps.memory_kinds}
 use Rattle.rv_probe.specs.Probes.{probe_of, probe_value, probe_within}
 
 pub made : (f : Flat) (b : Bool) (c d : ℤ) → d ≡ c → (n : ℕ) (starts : List Value) (instants : List (List Value))

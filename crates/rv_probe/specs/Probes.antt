@@ -1,18 +1,13 @@
 -- The probes of a flat system: a handful of fixed traces, and which of them falsify.
-use Rattle.std.specs.Prelude.{◌≡◌, ◌⊎◌, ℕ, ◌+◌, ◌≤◌, nat_lt, ℤ, pos, Bool, true, ◌&&◌}
-use Rattle.std.specs.Prelude.{List, map, length, replicate, take, slice_index_or}
+use Rattle.std.specs.Prelude.{◌≡◌, ◌⊎◌, ℕ, ◌+◌, ◌≤◌, nat_lt, ℤ, pos, Bool, true, ◌&&◌, List, map, length, replicate, take, slice_index_or}
 use Rattle.std.specs.List.{Contains, list_all}
-use Rattle.rv_base.specs.declared.value.Trace.{Trace}
-use Rattle.rv_base.specs.declared.value.Value.{Value}
 use Rattle.rv_base.specs.declared.value.Value.TheVariants.{Flag, Label, Whole}
-use Rattle.rv_tree.specs.Tree.{ProgramTree}
-use Rattle.rv_tree.specs.Places.{Identifier}
+use Rattle.rv_base.specs.{declared.value.Trace.Trace, declared.value.Value.Value}
+use Rattle.rv_tree.specs.{Tree.ProgramTree, Places.Identifier}
 use Rattle.rv_types.specs.declared.typed.Kind.{Kind}
 use Rattle.rv_types.specs.declared.typed.Kind.TheVariants as kind
-use Rattle.rv_flat.specs.declared.flat.Flat.{Flat}
-use Rattle.rv_flat.specs.Steps.{input_kinds, label_counts, memory_kinds}
-use Rattle.rv_replay.specs.Replays.{IsFalsifiedAt}
-use Rattle.rv_replay.specs.Traces.{IsTrace}
+use Rattle.rv_flat.specs.{declared.flat.Flat.Flat, Steps.input_kinds, Steps.label_counts, Steps.memory_kinds}
+use Rattle.rv_replay.specs.{Replays.IsFalsifiedAt, Traces.IsTrace}
 
 -- what a probe has of a type: this truth value, this number, or the first label
 abbrev pub probe_value : Bool → ℤ → Kind → Value

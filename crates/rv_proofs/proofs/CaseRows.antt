@@ -1,16 +1,12 @@
 -- The rows of a valuation of a case.
 use Rattle.std.proofs.Common.{◌≡◌, ℕ, zero, suc, ◌+◌, ◌<◌, ◌≤◌, pos, List, [], ◌∷◌, ◌++◌, length, take, get_or, Some, None, slice_get, arith, refl, sym, ap}
 use Rattle.std.proofs.Common.{◌∙◌, ◌⊎◌, inl, inr}
-use Rattle.std.proofs.lemmas.Bool.{cases_lt}
-use Rattle.std.proofs.lemmas.List.{take_more, take_all, append-nil}
-use Rattle.std.proofs.lemmas.Option.{same_Some, slice_get-get_or, get_or_from_slice_get}
-use Rattle.rv_diagram.specs.Nodes.{Valuation}
-use Rattle.rv_diagram.specs.declared.frozen.Frozen.{Frozen}
+use Rattle.std.proofs.{lemmas.Bool.cases_lt, lemmas.List.take_more, lemmas.List.take_all, lemmas.List.append-nil, lemmas.Option.same_Some}
+use Rattle.std.proofs.{lemmas.Option.slice_get-get_or, lemmas.Option.get_or_from_slice_get}
+use Rattle.rv_diagram.specs.{Nodes.Valuation, declared.frozen.Frozen.Frozen}
 use Rattle.rv_rows.specs.declared.linear.Row.{Row}
 use Rattle.rv_proofs.specs.Systems.{System, rows_among, rows_of, held_row}
-use Rattle.rv_proofs.specs.Scopes.{IsIn}
-use Rattle.rv_proofs.specs.Cases.{AreCaseTests, IsCaseOf, AreCases}
-use Rattle.rv_proofs.specs.declared.report.Case.{Case}
+use Rattle.rv_proofs.specs.{Scopes.IsIn, Cases.AreCaseTests, Cases.IsCaseOf, Cases.AreCases, declared.report.Case.Case}
 
 pub one_case : (s : System) (from : Frozen) (cases : List Case) (i j : ℕ) (b c : Case) (v : Valuation) → AreCases s from cases
     → slice_get cases i ≡ Some b → slice_get cases j ≡ Some c → IsIn b.condition v → IsIn c.condition v → b ≡ c

@@ -1,30 +1,18 @@
 -- A closed good box claim, and a left partition.
 use Rattle.std.proofs.Common.{◌≡◌, ◌≢◌, ℕ, zero, suc, ◌+◌, ◌<◌, ℤ, pos, negsuc, ◌≤ℤ◌, List, [], ◌∷◌, length, Bool, true, false, not, cond, Some, IsTrue}
 use Rattle.std.proofs.Common.{slice_get, arith, refl, sym, subst, ◌⊎◌, inl, inr}
-use Rattle.std.proofs.lemmas.Int.{ints}
-use Rattle.std.proofs.Math.IntN.{zero-*ℤ}
-use Rattle.rv_proofs.proofs.Settling.{settled_from_implied}
-use Rattle.std.proofs.lemmas.List.Elements.{All-nil}
-use Rattle.std.proofs.lemmas.Option.{same_Some, none-some}
-use Rattle.rv_diagram.specs.Nodes.{Valuation, node_at, value_among, IsPlaced}
-use Rattle.rv_diagram.specs.declared.frozen.Frozen.{Frozen}
-use Rattle.rv_rows.specs.Tight.{Fits}
-use Rattle.rv_proofs.specs.Systems.{IsState}
-use Rattle.rv_proofs.specs.Counts.{HasLoop, HasLocationCounts, HasEntryCounts, IsLoop}
-use Rattle.rv_proofs.specs.Scopes.{IsIn, IsSettled}
-use Rattle.rv_proofs.specs.Implied.{IsImplied}
+use Rattle.std.proofs.{lemmas.Int.ints, Math.IntN.zero-*ℤ, lemmas.List.Elements.All-nil, lemmas.Option.same_Some, lemmas.Option.none-some}
+use Rattle.rv_proofs.proofs.{Settling.settled_from_implied, Sampling.all_one, Sampling.when_false, Sampling.when_true, Sampling.each-nil, Sampling.each-cons}
+use Rattle.rv_diagram.specs.{Nodes.Valuation, Nodes.node_at, Nodes.value_among, Nodes.IsPlaced, declared.frozen.Frozen.Frozen}
+use Rattle.rv_rows.specs.{Tight.Fits, Forms.number, Forms.value, Rows.Holds}
 use Rattle.rv_proofs.specs.Ranges.{IsControlSet, IsRecord, HasDivisor, AreKept, IsEntryInRange, IsLocationInRange}
 use Rattle.rv_proofs.specs.Accepted.{IsEntry, IsIncluded, IsCovered, Leads, IsStepKind, IsDeadKind, IsObserved, AreImplied}
-use Rattle.rv_proofs.specs.declared.certificate.Location.{Location}
-use Rattle.rv_proofs.specs.declared.certificate.Entry.{Entry}
-use Rattle.rv_proofs.proofs.Sampling.{all_one, when_false, when_true, each-nil, each-cons}
 use Rattle.rv_proofs.specs.Samples.{counting, counting_row, at_most_ten, rising, steps_on, bare, undecided, row1, form1, node, everywhere, is_false_at}
 use Rattle.rv_proofs.specs.Samples.{is_true_at}
-use Rattle.rv_proofs.specs.Boxes.{IsBoxClaim, HasOneColumn, IsInBox, IsClosed, IsGood}
-use Rattle.rv_proofs.specs.Left.{IsLeftPartition, IsFailingStep, IsUnrefuted}
+use Rattle.rv_proofs.specs.{Systems.IsState, Counts.HasLoop, Counts.HasLocationCounts, Counts.HasEntryCounts, Counts.IsLoop, Scopes.IsIn, Scopes.IsSettled}
+use Rattle.rv_proofs.specs.{Implied.IsImplied, declared.certificate.Location.Location, declared.certificate.Entry.Entry, Boxes.IsBoxClaim, Boxes.HasOneColumn}
+use Rattle.rv_proofs.specs.{Boxes.IsInBox, Boxes.IsClosed, Boxes.IsGood, Left.IsLeftPartition, Left.IsFailingStep, Left.IsUnrefuted}
 use Rattle.std.specs.List.{Contains}
-use Rattle.rv_rows.specs.Forms.{number, value}
-use Rattle.rv_rows.specs.Rows.{Holds}
 
 -- the box claim
 one_point : (point : List ℤ) → length point ≡ 1 → (x : ℤ) × (point ≡ x ∷ [])

@@ -1,26 +1,20 @@
 -- Closed good claims imply safety.
 use Rattle.std.proofs.Common.{◌≡◌, ◌≢◌, ℕ, zero, suc, ◌+◌, ◌<◌, ◌≤◌, ℤ, pos, negsuc, ◌+ℤ◌, ◌*ℤ◌, ◌≤ℤ◌, Bool, true, false, List, [], ◌∷◌, length, get_or, Option}
 use Rattle.std.proofs.Common.{Some, None, IsTrue, arith, refl, sym, ap, ◌∙◌, subst, ◌⊎◌, inl, inr, add-one}
-use Rattle.std.specs.List.{Contains}
-use Rattle.std.proofs.lemmas.Int.{ints}
-use Rattle.std.proofs.lemmas.Bool.{cases_lt}
 use Rattle.std.proofs.lemmas.List.{get_or-map, get_or_past, get_or_append_left, get_or_push, length_push}
 use Rattle.std.proofs.lemmas.List.Elements.{All-nil, All-append, Contains-get_or}
+use Rattle.std.proofs.{lemmas.Int.ints, lemmas.Bool.cases_lt}
+use Rattle.std.specs.List.{Contains}
 use Rattle.rv_diagram.specs.Nodes.{Valuation}
-use Rattle.rv_rows.specs.declared.linear.Row.{Row}
-use Rattle.rv_rows.specs.declared.linear.Form.{Form}
-use Rattle.rv_rows.specs.declared.farkas.Multipliers.{Multipliers}
 use Rattle.rv_rows.specs.Rows.{dot, Holds, coefficient, row_at}
-use Rattle.rv_rows.specs.Forms.{number, value, values}
 use Rattle.rv_rows.specs.Multipliers.{ShowsAtOnce, by_none, by_one, by_two, AreShutAtOnce}
-use Rattle.rv_rows.proofs.RowLemmas.{proves_sound}
-use Rattle.rv_rows.proofs.FormLemmas.{substituted_same}
+use Rattle.rv_rows.specs.{declared.linear.Row.Row, declared.linear.Form.Form, declared.farkas.Multipliers.Multipliers, Forms.number, Forms.value, Forms.values}
+use Rattle.rv_rows.proofs.{RowLemmas.proves_sound, FormLemmas.substituted_same}
 use Rattle.rv_proofs.specs.Systems.{System, IsSystem, Agrees, rows_among, rows_of, held_row, updates_among, updates_of}
 use Rattle.rv_proofs.specs.Runs.{AllHold, IsAbstractRun, AreAllowedBefore, IsSafeSystem}
 use Rattle.rv_proofs.specs.Boxes.{BoxClaim, IsBoxClaim, IsInBox, IsTaken, IsClosed, HasGoodBox}
 use Rattle.rv_proofs.specs.RowClaims.{RowClaim, IsRowClaim, premises_at, IsRowTaken, IsRowClosed, HasGoodRows}
-use Rattle.rv_proofs.proofs.Sampling.{prove_one, prove_none, all_one, all_two}
-use Rattle.rv_proofs.proofs.Moved.{dot-read}
+use Rattle.rv_proofs.proofs.{Sampling.prove_one, Sampling.prove_none, Sampling.all_one, Sampling.all_two, Moved.dot-read}
 
 -- what a box claim keeps
 record InBoxClaim (s : System) (c : BoxClaim) (v : Valuation) (point : List ℤ) : Type 0 where

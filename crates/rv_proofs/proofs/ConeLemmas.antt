@@ -1,15 +1,10 @@
 -- The cone of rows along a direction.
 use Rattle.std.proofs.Common.{◌≡◌, ℕ, ◌+◌, ℤ, pos, ◌+ℤ◌, ◌-ℤ◌, ◌*ℤ◌, ◌≤ℤ◌, List, [], ◌∷◌, arith, refl, sym, ap, ◌∙◌}
-use Rattle.std.proofs.lemmas.Int.{ints}
-use Rattle.std.proofs.lemmas.List.Elements.{All-weaker}
-use Rattle.std.proofs.Math.IntN.{zero-*ℤ, *ℤ-zero}
-use Rattle.rv_rows.specs.declared.linear.Row.{Row}
-use Rattle.rv_rows.specs.Rows.{dot, Holds}
-use Rattle.rv_rows.specs.Forms.{number}
+use Rattle.std.proofs.{lemmas.Int.ints, lemmas.List.Elements.All-weaker, Math.IntN.zero-*ℤ, Math.IntN.*ℤ-zero}
+use Rattle.rv_rows.specs.{declared.linear.Row.Row, Rows.dot, Rows.Holds, Forms.number}
 use Rattle.rv_rows.proofs.IntLemmas.{mul_add, add_mul, add_swap, mul_comm_int, mul_assoc_int}
 use Rattle.rv_rows.proofs.RowLemmas.{tail_of, get_or-tail}
-use Rattle.rv_proofs.specs.Runs.{AllHold}
-use Rattle.rv_proofs.specs.Cones.{IsInCone, IsMoved}
+use Rattle.rv_proofs.specs.{Runs.AllHold, Cones.IsInCone, Cones.IsMoved}
 use Rattle.rv_proofs.proofs.Moved.{dot-tail}
 
 dot-moved : (cs t x y : List ℤ) → IsMoved t x y → dot cs y ≡ dot cs x +ℤ dot cs t

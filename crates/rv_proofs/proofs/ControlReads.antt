@@ -1,11 +1,7 @@
 -- A diagram reads the variables of its nodes alone.
 use Rattle.std.proofs.Common.{◌≡◌, ℕ, zero, suc, ◌<◌, ◌≤◌, List, length, arith, refl, sym, ◌∙◌}
-use Rattle.rv_diagram.specs.declared.Triple.{Triple}
-use Rattle.rv_diagram.specs.declared.frozen.Frozen.{Frozen}
-use Rattle.rv_diagram.specs.Nodes.{Valuation, node_at, value_among, value_of}
-use Rattle.rv_proofs.specs.Systems.{System, HasSameState, IsSameValuation}
-use Rattle.rv_proofs.specs.Scopes.{IsIn}
-use Rattle.rv_proofs.specs.Ranges.{IsControlSet, IsCondition}
+use Rattle.rv_diagram.specs.{declared.Triple.Triple, declared.frozen.Frozen.Frozen, Nodes.Valuation, Nodes.node_at, Nodes.value_among, Nodes.value_of}
+use Rattle.rv_proofs.specs.{Systems.System, Systems.HasSameState, Systems.IsSameValuation, Scopes.IsIn, Ranges.IsControlSet, Ranges.IsCondition}
 
 pub value_among-reads : (nodes : List Triple) (v w : Valuation) → ((i : ℕ) → i < length nodes → v (node_at nodes i).var ≡ w (node_at nodes i).var)
     → (n : ℕ) → n ≤ length nodes → (r : ℕ) → value_among nodes n v r ≡ value_among nodes n w r

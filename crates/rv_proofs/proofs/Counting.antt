@@ -1,31 +1,22 @@
 -- The sample certificate of the counter with a loop is accepted.
 use Rattle.std.proofs.Common.{◌≡◌, ℕ, zero, suc, ◌+◌, ◌<◌, ◌≤◌, ◌^◌, ℤ, pos, negsuc, ◌+ℤ◌, ◌-ℤ◌, ◌*ℤ◌, List, [], ◌∷◌, ◌++◌, length, Bool, true, false, not}
 use Rattle.std.proofs.Common.{Some, All, slice_get, get_or, arith, refl, sym, ap, ◌∙◌, subst, ◌⊎◌, inl, inr}
-use Rattle.std.proofs.lemmas.Int.{ints}
-use Rattle.std.proofs.Math.IntN.{*ℤ-zero}
-use Rattle.rv_proofs.proofs.Settling.{settled_from_implied}
-use Rattle.rv_rows.specs.Rows.{row_at, coefficient}
 use Rattle.std.proofs.lemmas.List.Elements.{All-nil, All-cons, All-contains}
-use Rattle.std.proofs.lemmas.Option.{same_Some, none-some}
-use Rattle.std.specs.Int.RustNames.{unsigned_abs}
-use Rattle.rv_diagram.specs.Nodes.{Valuation, node_at, value_among, IsPlaced, IsOrderedOver, IsFrom}
-use Rattle.rv_rows.specs.declared.linear.Row.{Row}
-use Rattle.rv_rows.specs.Tight.{Fits}
-use Rattle.rv_rows.specs.Multipliers.{Proves}
-use Rattle.rv_proofs.specs.Systems.{IsState, IsRead}
-use Rattle.rv_proofs.specs.Counts.{HasLoop, HasCounts, HasLocationCounts, HasEntryCounts, IsLoop}
-use Rattle.rv_proofs.specs.Scopes.{IsIn, IsInScope, IsSettled, IsSettledTest, IsSettledUpdate, Implication, refutation, before, after, NamesTest}
-use Rattle.rv_proofs.specs.Implied.{IsImplied, AreTestRows}
-use Rattle.rv_proofs.specs.Ranges.{IsControlSet, IsCondition, IsRecord, HasDivisor, AreKept, IsEntryInRange, IsLocationInRange}
-use Rattle.rv_proofs.specs.Accepted.{IsAccepted, IsEntry, IsInitial, IsIncluded, IsCovered, AreProved, Leads, IsStepKind, IsDeadKind, IsObserved, AreImplied}
-use Rattle.rv_proofs.specs.declared.certificate.Location.{Location}
-use Rattle.rv_proofs.specs.declared.certificate.Entry.{Entry}
-use Rattle.rv_proofs.specs.declared.certificate.EntryKind.TheVariants.{Go}
+use Rattle.std.proofs.{lemmas.Int.ints, Math.IntN.*ℤ-zero, lemmas.Option.same_Some, lemmas.Option.none-some}
 use Rattle.rv_proofs.proofs.Sampling.{all_one, all_two, after_one, record_two, record_one, record_none, all_settled, none_named, prove_one, prove_none}
 use Rattle.rv_proofs.proofs.Sampling.{refute_two, when_false, both_true, second_true, each-nil, each-cons}
+use Rattle.rv_proofs.proofs.{Settling.settled_from_implied, Claiming.at_everywhere, Claiming.at_false, Claiming.at_true, Claiming.off_is, Claiming.on_is}
+use Rattle.rv_rows.specs.{Rows.row_at, Rows.coefficient, declared.linear.Row.Row, Tight.Fits, Multipliers.Proves}
+use Rattle.std.specs.Int.RustNames.{unsigned_abs}
+use Rattle.rv_diagram.specs.Nodes.{Valuation, node_at, value_among, IsPlaced, IsOrderedOver, IsFrom}
+use Rattle.rv_proofs.specs.Counts.{HasLoop, HasCounts, HasLocationCounts, HasEntryCounts, IsLoop}
+use Rattle.rv_proofs.specs.Scopes.{IsIn, IsInScope, IsSettled, IsSettledTest, IsSettledUpdate, Implication, refutation, before, after, NamesTest}
+use Rattle.rv_proofs.specs.Ranges.{IsControlSet, IsCondition, IsRecord, HasDivisor, AreKept, IsEntryInRange, IsLocationInRange}
+use Rattle.rv_proofs.specs.Accepted.{IsAccepted, IsEntry, IsInitial, IsIncluded, IsCovered, AreProved, Leads, IsStepKind, IsDeadKind, IsObserved, AreImplied}
 use Rattle.rv_proofs.specs.Samples.{counting, counting_row, counted, at_first, at_later, counting_on, standing_still, above_ten, names_unsettled, row1, form1}
 use Rattle.rv_proofs.specs.Samples.{by_one, by_two, by_none, node, everywhere, counts_on, stands_still, is_false_at}
-use Rattle.rv_proofs.proofs.Claiming.{at_everywhere, at_false, at_true, off_is, on_is}
+use Rattle.rv_proofs.specs.{Systems.IsState, Systems.IsRead, Implied.IsImplied, Implied.AreTestRows, declared.certificate.Location.Location}
+use Rattle.rv_proofs.specs.{declared.certificate.Entry.Entry, declared.certificate.EntryKind.TheVariants.Go}
 
 counts_on-is : (v : Valuation) → IsIn counts_on v → (v 2 ≡ true) × (v 3 ≡ true)
 unfolding value_among

@@ -1,45 +1,26 @@
 -- The certificate of the document of two counters is accepted, and two that differ from it in a record are refused.
 use Rattle.std.proofs.Common.{◌≡◌, ◌≢◌, ℕ, zero, suc, ◌+◌, ◌<◌, ◌≤◌, ◌^◌, ℤ, pos, negsuc, ◌≤ℤ◌, ◌<ℤ◌, ◌+ℤ◌, ◌-ℤ◌, ◌*ℤ◌, map, List, [], ◌∷◌, ◌++◌, length, Bool}
-use Rattle.std.proofs.Common.{true, false, not, cond, Some, All, IsTrue, slice_get, arith, refl, sym, ap, ◌∙◌, subst, ◌⊎◌, inl, inr}
-use Rattle.std.proofs.lemmas.Int.{ints}
-use Rattle.std.proofs.Math.IntN.{*ℤ-zero}
-use Rattle.rv_proofs.proofs.Settling.{settled_from_implied}
-use Rattle.rv_rows.specs.Rows.{row_at, coefficient}
-use Rattle.std.proofs.lemmas.List.Elements.{All-nil, All-contains}
-use Rattle.std.proofs.lemmas.Option.{same_Some, none-some}
-use Rattle.std.specs.Int.RustNames.{unsigned_abs}
-use Rattle.rv_diagram.specs.Nodes.{Valuation, node_at, value_among, IsPlaced, IsOrderedOver}
-use Rattle.rv_rows.specs.declared.linear.Row.{Row}
-use Rattle.rv_rows.specs.declared.farkas.Multipliers.{Multipliers}
-use Rattle.rv_rows.specs.Tight.{Fits}
-use Rattle.rv_rows.specs.Multipliers.{Proves}
-use Rattle.rv_proofs.specs.Systems.{IsState, IsRead}
-use Rattle.rv_proofs.specs.Counts.{HasLoop, HasCounts, HasLocationCounts, HasEntryCounts, IsLoop}
-use Rattle.rv_proofs.specs.Scopes.{IsIn, IsInScope, IsSettled, IsSettledTest, IsSettledUpdate, Implication, refutation, after, NamesTest, implications}
-use Rattle.rv_proofs.specs.Implied.{IsImplied, AreTestRows}
-use Rattle.rv_proofs.specs.Ranges.{IsControlSet, IsCondition, IsRecord, HasDivisor, AreKept, IsEntryInRange, IsLocationInRange}
-use Rattle.rv_proofs.specs.Accepted.{IsAccepted, IsEntry, IsInitial, IsIncluded, IsCovered, AreProved, Leads, IsStepKind, IsDeadKind, IsObserved, AreImplied}
-use Rattle.rv_proofs.specs.declared.certificate.Location.{Location}
-use Rattle.rv_proofs.specs.declared.certificate.Entry.{Entry}
+use Rattle.std.proofs.Common.{true, false, not, cond, Some, All, IsTrue, slice_get, arith, refl, sym, ap, ◌∙◌, subst, ◌⊎◌, inl, inr, ◌-◌, slice_index_or}
+use Rattle.std.proofs.lemmas.Option.{same_Some, none-some, get_or_from_slice_get, slice_get_within}
+use Rattle.std.proofs.{lemmas.Int.ints, Math.IntN.*ℤ-zero, lemmas.List.Elements.All-nil, lemmas.List.Elements.All-contains}
 use Rattle.rv_proofs.proofs.Sampling.{all_one, all_two, record_two, record_one, record_none, none_named, prove_one, prove_none, refute_two, when_false}
 use Rattle.rv_proofs.proofs.Sampling.{both_true, each-nil, each-cons}
+use Rattle.rv_proofs.proofs.{Settling.settled_from_implied, Claiming.at_false, Claiming.at_true, Claiming.off_is, Claiming.on_is, Counting.placed_one}
+use Rattle.rv_rows.specs.Rows.{row_at, coefficient, dot}
+use Rattle.rv_rows.specs.{declared.linear.Row.Row, declared.farkas.Multipliers.Multipliers, Tight.Fits, Multipliers.Proves, Multipliers.Refutes, Forms.number}
+use Rattle.std.specs.Int.RustNames.{unsigned_abs}
+use Rattle.rv_diagram.specs.Nodes.{Valuation, node_at, value_among, IsPlaced, IsOrderedOver, ComesBefore, valuation_of}
+use Rattle.rv_proofs.specs.Counts.{HasLoop, HasCounts, HasLocationCounts, HasEntryCounts, IsLoop}
+use Rattle.rv_proofs.specs.Scopes.{IsIn, IsInScope, IsSettled, IsSettledTest, IsSettledUpdate, Implication, refutation, after, NamesTest, implications}
+use Rattle.rv_proofs.specs.Ranges.{IsControlSet, IsCondition, IsRecord, HasDivisor, AreKept, IsEntryInRange, IsLocationInRange}
+use Rattle.rv_proofs.specs.Accepted.{IsAccepted, IsEntry, IsInitial, IsIncluded, IsCovered, AreProved, Leads, IsStepKind, IsDeadKind, IsObserved, AreImplied}
 use Rattle.rv_proofs.specs.Samples.{by_one, by_two, by_none, node}
 use Rattle.rv_proofs.specs.Counters.{row2, form2, pair_row, paired, both_hold, less_fails, more_fails, less, more, begins, begins_low, begins_high, beginning}
 use Rattle.rv_proofs.specs.Counters.{goes_on, drops_low, drops_high, going, filed, wrong_weight, misfiled, cut_short}
 use Rattle.rv_proofs.specs.Verdicts.{Fails, IsUncovered, IsNotIncluded, IsTarget, IsBefore, IsVerdict, place, word_of}
-use Rattle.rv_proofs.specs.declared.verdict.Reason.{Reason}
-use Rattle.rv_proofs.specs.declared.verdict.Verdict.TheVariants.{Rejected}
-use Rattle.rv_diagram.specs.Nodes.{ComesBefore}
-use Rattle.std.proofs.lemmas.Option.{get_or_from_slice_get, slice_get_within}
-use Rattle.std.proofs.Common.{◌-◌, slice_index_or}
+use Rattle.rv_proofs.specs.{Systems.IsState, Systems.IsRead, Implied.IsImplied, Implied.AreTestRows, Implied.form_at, declared.certificate.Location.Location}
+use Rattle.rv_proofs.specs.{declared.certificate.Entry.Entry, declared.verdict.Reason.Reason, declared.verdict.Verdict.TheVariants.Rejected}
 use Rattle.rv_proofs.specs.declared.verdict.Reason.TheVariants as reason
-use Rattle.rv_rows.specs.Forms.{number}
-use Rattle.rv_rows.specs.Rows.{dot}
-use Rattle.rv_rows.specs.Multipliers.{Refutes}
-use Rattle.rv_diagram.specs.Nodes.{valuation_of}
-use Rattle.rv_proofs.specs.Implied.{form_at}
-use Rattle.rv_proofs.proofs.Claiming.{at_false, at_true, off_is, on_is}
-use Rattle.rv_proofs.proofs.Counting.{placed_one}
 
 both-is : (v : Valuation) → IsIn both_hold v → (v 3 ≡ true) × (v 4 ≡ true)
 unfolding value_among

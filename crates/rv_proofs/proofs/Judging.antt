@@ -1,24 +1,16 @@
 -- There is one right verdict.
-use Rattle.std.proofs.Common.{◌≡◌, ℕ, zero, suc, ◌-◌, ◌<◌, ◌≤◌, Bool, true, false, List, [], ◌∷◌, length, get_or, All, Some, slice_get, arith, refl}
-use Rattle.std.proofs.Common.{sym, ap, ◌∙◌, subst, ◌⊎◌, inl, inr}
-use Rattle.std.proofs.lemmas.Bool.{cases_lt}
-use Rattle.std.proofs.lemmas.List.Elements.{Contains-get_or}
+use Rattle.std.proofs.Common.{◌≡◌, ℕ, zero, suc, ◌-◌, ◌<◌, ◌≤◌, Bool, true, false, List, [], ◌∷◌, length, get_or, All, Some, slice_get, arith, refl, sym, ap}
+use Rattle.std.proofs.Common.{◌∙◌, subst, ◌⊎◌, inl, inr}
 use Rattle.std.proofs.lemmas.Option.{same_Some, slice_get_within, get_or_from_slice_get}
+use Rattle.std.proofs.{lemmas.Bool.cases_lt, lemmas.List.Elements.Contains-get_or}
 use Rattle.rv_diagram.specs.Nodes.{Valuation, valuation_of, ComesBefore}
-use Rattle.rv_proofs.specs.Systems.{System}
-use Rattle.rv_proofs.specs.Scopes.{IsIn, IsInScope, implications}
-use Rattle.rv_proofs.specs.Implied.{IsImplied}
 use Rattle.rv_proofs.specs.Accepted.{IsAccepted, IsEntry, AreImplied, IsStepKind, IsDeadKind, Leads}
-use Rattle.rv_proofs.specs.Left.{IsLeftPartition, IsFailingStep, IsUnrefuted}
 use Rattle.rv_proofs.specs.Verdicts.{IsTarget, Fails, place, word_of, IsBefore, IsFirst, IsVerdict}
-use Rattle.rv_proofs.specs.declared.certificate.Certificate.{Certificate}
-use Rattle.rv_proofs.specs.declared.certificate.Location.{Location}
-use Rattle.rv_proofs.specs.declared.certificate.Entry.{Entry}
-use Rattle.rv_proofs.specs.declared.certificate.EntryKind.{EntryKind}
-use Rattle.rv_proofs.specs.declared.certificate.EntryKind.TheVariants.{Dead, Go, Loop}
-use Rattle.rv_proofs.specs.declared.verdict.Verdict.{Verdict}
-use Rattle.rv_proofs.specs.declared.verdict.Verdict.TheVariants.{Accepted, Rejected}
-use Rattle.rv_proofs.specs.declared.verdict.Reason.{Reason}
+use Rattle.rv_proofs.specs.{Systems.System, Scopes.IsIn, Scopes.IsInScope, Scopes.implications, Implied.IsImplied, Left.IsLeftPartition, Left.IsFailingStep}
+use Rattle.rv_proofs.specs.{Left.IsUnrefuted, declared.certificate.Certificate.Certificate, declared.certificate.Location.Location}
+use Rattle.rv_proofs.specs.{declared.certificate.Entry.Entry, declared.certificate.EntryKind.EntryKind, declared.certificate.EntryKind.TheVariants.Dead}
+use Rattle.rv_proofs.specs.{declared.certificate.EntryKind.TheVariants.Go, declared.certificate.EntryKind.TheVariants.Loop, declared.verdict.Verdict.Verdict}
+use Rattle.rv_proofs.specs.{declared.verdict.Verdict.TheVariants.Accepted, declared.verdict.Verdict.TheVariants.Rejected, declared.verdict.Reason.Reason}
 use Rattle.rv_proofs.specs.declared.verdict.Reason.TheVariants as reason
 use Rattle.rv_proofs.proofs.Filed.{not_true_false}
 

@@ -1,14 +1,8 @@
 -- The layers of a claim, from one to the next.
 use Rattle.std.proofs.Common.{◌≡◌, ◌↔◌, ℕ, zero, suc, ◌<◌, ◌≤◌, List, [], length, get_or, Some, slice_get, arith, subst, ◌⊎◌, inl, inr}
-use Rattle.std.proofs.lemmas.Bool.{cases_lt}
-use Rattle.std.proofs.lemmas.Option.{slice_get_within, slice_get-get_or}
-use Rattle.rv_diagram.specs.Nodes.{Valuation}
-use Rattle.rv_diagram.specs.declared.frozen.Frozen.{Frozen}
-use Rattle.rv_proofs.specs.Systems.{System}
-use Rattle.rv_proofs.specs.Scopes.{IsIn}
-use Rattle.rv_proofs.specs.Boxes.{BoxClaim}
-use Rattle.rv_proofs.specs.Cases.{IsInitialSet}
-use Rattle.rv_proofs.specs.Reached.{Reaches, AreLayers, IsReachedNext}
+use Rattle.std.proofs.{lemmas.Bool.cases_lt, lemmas.Option.slice_get_within, lemmas.Option.slice_get-get_or}
+use Rattle.rv_diagram.specs.{Nodes.Valuation, declared.frozen.Frozen.Frozen}
+use Rattle.rv_proofs.specs.{Systems.System, Scopes.IsIn, Boxes.BoxClaim, Cases.IsInitialSet, Reached.Reaches, Reached.AreLayers, Reached.IsReachedNext}
 
 pub first_layer : (s : System) (c : BoxClaim) (sets : List Frozen) (set : Frozen) → AreLayers s c sets → slice_get sets zero ≡ Some set → IsInitialSet s set
 first_layer s c sets set layers at = record {

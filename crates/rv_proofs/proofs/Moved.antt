@@ -1,21 +1,13 @@
 -- Rows after the updates.
 use Rattle.std.proofs.Common.{◌≡◌, ◌≢◌, ℕ, zero, suc, ◌<◌, ℤ, pos, negsuc, ◌+ℤ◌, ◌*ℤ◌, List, [], ◌∷◌, length, get_or, arith, refl, ap, sym, ◌∙◌, ◌⊎◌, inl, inr}
 use Rattle.std.proofs.Common.{add-one}
-use Rattle.std.proofs.Math.IntN.{zero-*ℤ, *ℤ-zero}
-use Rattle.std.proofs.lemmas.Int.{ints}
-use Rattle.std.proofs.lemmas.List.{get_or-map}
+use Rattle.std.proofs.{Math.IntN.zero-*ℤ, Math.IntN.*ℤ-zero, lemmas.Int.ints, lemmas.List.get_or-map}
 use Rattle.rv_diagram.specs.Nodes.{Valuation}
-use Rattle.rv_rows.specs.declared.linear.Row.{Row}
-use Rattle.rv_rows.specs.declared.linear.Form.{Form}
-use Rattle.rv_rows.specs.Rows.{dot, Holds, coefficient}
 use Rattle.rv_rows.specs.Forms.{number, value, values, IsSubstituted}
-use Rattle.rv_rows.proofs.RowLemmas.{tail_of, dot-none, get_or-tail}
-use Rattle.rv_rows.proofs.FormLemmas.{substituted_same}
-use Rattle.rv_proofs.specs.Systems.{System}
+use Rattle.rv_rows.specs.{declared.linear.Row.Row, declared.linear.Form.Form, Rows.dot, Rows.Holds, Rows.coefficient}
+use Rattle.rv_rows.proofs.{RowLemmas.tail_of, RowLemmas.dot-none, RowLemmas.get_or-tail, FormLemmas.substituted_same}
 use Rattle.rv_proofs.specs.Scopes.{IsInScope, after}
-use Rattle.rv_proofs.specs.Implied.{AreForms}
-use Rattle.rv_proofs.specs.declared.certificate.Location.{Location}
-use Rattle.rv_proofs.specs.declared.certificate.Entry.{Entry}
+use Rattle.rv_proofs.specs.{Systems.System, Implied.AreForms, declared.certificate.Location.Location, declared.certificate.Entry.Entry}
 
 -- a number is 0 or not
 pub zero_or : (z : ℤ) → (z ≡ pos 0) ⊎ (z ≢ pos 0)

@@ -1,23 +1,15 @@
 -- Multipliers look at the premises that they name alone.
 use Rattle.std.proofs.Common.{◌≡◌, ℕ, zero, suc, ◌-◌, ◌<◌, ◌≤◌, ℤ, pos, List, [], ◌∷◌, ◌++◌, length, get_or, All, Option, Some, None, arith, refl, ap, sym, ◌∙◌}
 use Rattle.std.proofs.Common.{◌⊎◌, inl, inr, unwrap_or}
-use Rattle.std.proofs.lemmas.Bool.{cases_lt}
-use Rattle.std.proofs.lemmas.Int.{ints}
 use Rattle.std.proofs.lemmas.List.{get_or_append_left, get_or-append_right, get_or_push, length_push}
 use Rattle.std.proofs.lemmas.List.Elements.{All-head, All-tail, All-append, All-push, All-nil, Contains-get_or}
+use Rattle.std.proofs.{lemmas.Bool.cases_lt, lemmas.Int.ints}
 use Rattle.rv_diagram.specs.Nodes.{Valuation}
-use Rattle.rv_rows.specs.declared.linear.Row.{Row}
-use Rattle.rv_rows.specs.declared.farkas.Weight.{Weight}
-use Rattle.rv_rows.specs.declared.farkas.Multipliers.{Multipliers}
-use Rattle.rv_rows.specs.Rows.{Holds, coefficient, row_at}
-use Rattle.rv_rows.specs.Multipliers.{weighted, Proves, Refutes}
+use Rattle.rv_rows.specs.{declared.linear.Row.Row, declared.farkas.Weight.Weight, declared.farkas.Multipliers.Multipliers, Rows.Holds, Rows.coefficient}
+use Rattle.rv_rows.specs.{Rows.row_at, Multipliers.weighted, Multipliers.Proves, Multipliers.Refutes}
 use Rattle.rv_rows.proofs.RowLemmas.{proves_sound, refutes_sound}
-use Rattle.rv_proofs.specs.Systems.{System, Agrees}
-use Rattle.rv_proofs.specs.Runs.{AllHold}
-use Rattle.rv_proofs.specs.Scopes.{IsInScope, Implication, NamesTest}
-use Rattle.rv_proofs.specs.Implied.{AreTestRows}
-use Rattle.rv_proofs.specs.declared.certificate.Location.{Location}
-use Rattle.rv_proofs.specs.declared.certificate.Entry.{Entry}
+use Rattle.rv_proofs.specs.{Systems.System, Systems.Agrees, Runs.AllHold, Scopes.IsInScope, Scopes.Implication, Scopes.NamesTest, Implied.AreTestRows}
+use Rattle.rv_proofs.specs.{declared.certificate.Location.Location, declared.certificate.Entry.Entry}
 
 -- the weights name the same rows in both lists
 abbrev pub NameSame : List Row → List Row → List Weight → Type 0

@@ -1,23 +1,14 @@
 -- Whichever rows and forms stand for the settled tests and updates, an implication holds with all of them or with none.
 use Rattle.std.proofs.Common.{◌≡◌, ◌≢◌, ◌↔◌, ℕ, ◌-◌, ◌<◌, ◌≤◌, ℤ, pos, ◌-ℤ◌, ◌*ℤ◌, List, [], ◌++◌, length, get_or, map, arith, refl, sym, ap, ◌∙◌, ◌⊎◌, inl}
 use Rattle.std.proofs.Common.{inr, Bool, true, false, MatchBool}
-use Rattle.std.proofs.lemmas.Bool.{cases_lt}
 use Rattle.std.proofs.lemmas.List.{get_or_append_left, get_or-append_right, get_or-map}
-use Rattle.std.proofs.lemmas.List.Elements.{Contains-get_or}
-use Rattle.std.proofs.lemmas.Option.{same_Some}
-use Rattle.rv_rows.specs.declared.linear.Row.{Row}
-use Rattle.rv_rows.specs.declared.linear.Form.{Form}
-use Rattle.rv_rows.specs.declared.farkas.Multipliers.{Multipliers}
-use Rattle.rv_rows.specs.Rows.{dot, coefficient, row_at}
-use Rattle.rv_rows.specs.Forms.{number, IsSubstituted}
-use Rattle.rv_rows.specs.Multipliers.{Proves}
-use Rattle.rv_proofs.specs.Systems.{System}
+use Rattle.std.proofs.{lemmas.Bool.cases_lt, lemmas.List.Elements.Contains-get_or, lemmas.Option.same_Some}
+use Rattle.rv_rows.specs.{declared.linear.Row.Row, declared.linear.Form.Form, declared.farkas.Multipliers.Multipliers, Rows.dot, Rows.coefficient, Rows.row_at}
+use Rattle.rv_rows.specs.{Forms.number, Forms.IsSubstituted, Multipliers.Proves}
 use Rattle.rv_proofs.specs.Scopes.{IsSettledTest, IsSettledUpdate, Wanted, refutation, before, after, Implication, NamesTest}
 use Rattle.rv_proofs.specs.Implied.{AreTestRows, AreForms, form_at, IsShown, IsShownWith, IsImplied, HasBefore}
-use Rattle.rv_proofs.specs.declared.certificate.Location.{Location}
-use Rattle.rv_proofs.specs.declared.certificate.Entry.{Entry}
-use Rattle.rv_proofs.proofs.Named.{NameSame, Proves-named, Refutes-named}
-use Rattle.rv_proofs.proofs.Moved.{dot-read}
+use Rattle.rv_proofs.specs.{Systems.System, declared.certificate.Location.Location, declared.certificate.Entry.Entry}
+use Rattle.rv_proofs.proofs.{Named.NameSame, Named.Proves-named, Named.Refutes-named, Moved.dot-read}
 
 -- a proof reads the coefficients and the bound of the wanted row
 pub Proves-wanted : (rows : List Row) (r q : Row) (m : Multipliers) → ((k : ℕ) → coefficient k r ≡ coefficient k q) → r.bound ≡ q.bound → Proves rows r m

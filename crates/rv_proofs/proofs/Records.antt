@@ -1,15 +1,9 @@
 -- Multipliers and rows of a document are within the limits of the checker of multipliers.
 use Rattle.std.proofs.Common.{◌≡◌, ℕ, ◌≤◌, ◌^◌, ℤ, pos, ◌≤ℤ◌, List, length, All, arith}
-use Rattle.std.proofs.lemmas.Int.{ints}
-use Rattle.std.proofs.lemmas.List.Elements.{All-weaker}
+use Rattle.std.proofs.{lemmas.Int.ints, lemmas.List.Elements.All-weaker}
 use Rattle.std.specs.Int.RustNames.{unsigned_abs}
-use Rattle.rv_rows.specs.declared.linear.Row.{Row}
-use Rattle.rv_rows.specs.declared.farkas.Multipliers.{Multipliers}
-use Rattle.rv_rows.specs.Rows.{RowWithin}
-use Rattle.rv_rows.specs.Tight.{Fits}
-use Rattle.rv_rows.specs.Multipliers.{WeightsWithin}
-use Rattle.rv_proofs.specs.Systems.{System}
-use Rattle.rv_proofs.specs.Ranges.{IsRecord, AreKept}
+use Rattle.rv_rows.specs.{declared.linear.Row.Row, declared.farkas.Multipliers.Multipliers, Rows.RowWithin, Tight.Fits, Multipliers.WeightsWithin}
+use Rattle.rv_proofs.specs.{Systems.System, Ranges.IsRecord, Ranges.AreKept}
 
 small : (z : ℤ) (n : ℕ) → pos 1 ≤ℤ z → z ≤ℤ pos n → unsigned_abs z ≤ n
 small z n h k = omega (arith, ints)

@@ -1,30 +1,18 @@
 -- A certificate with a loop that is checked from `entry` alone, of a system that is not safe.
 use Rattle.std.proofs.Common.{◌≡◌, ℕ, zero, suc, ◌+◌, ◌<◌, ℤ, pos, negsuc, List, [], ◌∷◌, ◌++◌, Bool, true, false, not, Some, slice_get, arith, refl, sym, ap}
 use Rattle.std.proofs.Common.{◌∙◌, subst}
-use Rattle.std.proofs.lemmas.Int.{ints}
-use Rattle.rv_rows.specs.Rows.{row_at}
-use Rattle.std.proofs.lemmas.Option.{same_Some, none-some}
+use Rattle.std.proofs.{lemmas.Int.ints, lemmas.Option.same_Some, lemmas.Option.none-some}
+use Rattle.rv_rows.specs.{Rows.row_at, Rows.Holds, declared.linear.Row.Row, Multipliers.Proves, Forms.number, Forms.value}
 use Rattle.rv_diagram.specs.Nodes.{Valuation, value_among}
-use Rattle.rv_rows.specs.declared.linear.Row.{Row}
-use Rattle.rv_rows.specs.Multipliers.{Proves}
-use Rattle.rv_proofs.specs.Systems.{HasSameState}
-use Rattle.rv_proofs.specs.Counts.{HasLoop, IsLoop}
 use Rattle.rv_proofs.specs.Scopes.{IsIn, IsInScope, IsSettledTest, IsSettledUpdate, Implication, refutation, after}
-use Rattle.rv_proofs.specs.Implied.{IsImplied}
 use Rattle.rv_proofs.specs.Accepted.{IsEntry, IsInitial, IsIncluded, IsCovered, AreProved, Leads, IsStepKind, IsDeadKind, IsObserved, AreImplied}
-use Rattle.rv_proofs.specs.declared.certificate.Location.{Location}
-use Rattle.rv_proofs.specs.declared.certificate.Entry.{Entry}
-use Rattle.rv_proofs.specs.declared.certificate.EntryKind.TheVariants.{Go}
-use Rattle.rv_proofs.proofs.Sampling.{all_one, all_two, after_one, all_settled, none_named, prove_one, prove_none, refute_two, when_false, when_true, each-nil}
-use Rattle.rv_proofs.proofs.Sampling.{each-cons}
 use Rattle.rv_proofs.specs.Samples.{rising, rising_row, unsound, rises, above_one, starts_rising, goes_on_rising, LoopFromEntry, IsGoKind, IsAcceptedFromEntry}
 use Rattle.rv_proofs.specs.Samples.{row1, form1, by_one, by_two, by_none, everywhere, is_false_at, is_true_at}
-use Rattle.rv_proofs.specs.Runs.{IsAbstractRun, IsSafeSystem}
-use Rattle.rv_proofs.specs.Systems.{Agrees}
-use Rattle.rv_rows.specs.Forms.{number, value}
-use Rattle.rv_rows.specs.Rows.{Holds}
-use Rattle.rv_proofs.proofs.Claiming.{at_everywhere, at_false, at_true, off_is, on_is}
-use Rattle.rv_proofs.proofs.Counting.{same_column}
+use Rattle.rv_proofs.specs.{Systems.HasSameState, Systems.Agrees, Counts.HasLoop, Counts.IsLoop, Implied.IsImplied, declared.certificate.Location.Location}
+use Rattle.rv_proofs.specs.{declared.certificate.Entry.Entry, declared.certificate.EntryKind.TheVariants.Go, Runs.IsAbstractRun, Runs.IsSafeSystem}
+use Rattle.rv_proofs.proofs.Sampling.{all_one, all_two, after_one, all_settled, none_named, prove_one, prove_none, refute_two, when_false, when_true, each-nil}
+use Rattle.rv_proofs.proofs.Sampling.{each-cons}
+use Rattle.rv_proofs.proofs.{Claiming.at_everywhere, Claiming.at_false, Claiming.at_true, Claiming.off_is, Claiming.on_is, Counting.same_column}
 
 -- a run whose fourth instant is bad
 vs : ℕ → Valuation

@@ -1,16 +1,11 @@
 -- The sums of a kept row after the updates stay small.
 use Rattle.std.proofs.Common.{◌≡◌, ℕ, ◌*◌, ◌<◌, ◌≤◌, ◌^◌, min, ℤ, pos, ◌-ℤ◌, ◌*ℤ◌, List, [], ◌∷◌, All, map, length, take, arith, sym, ◌∙◌, ◌⊎◌, inl, inr}
-use Rattle.std.specs.Int.RustNames.{unsigned_abs}
 use Rattle.std.proofs.Math.Nat.{suc-mul, mul-le-mul, mul-le-mul_right}
-use Rattle.std.proofs.lemmas.Int.{ints, unsigned_abs-mul}
-use Rattle.std.proofs.lemmas.Bool.{cases_lt}
-use Rattle.std.proofs.lemmas.List.{get_or_past, length-take}
 use Rattle.std.proofs.lemmas.List.Elements.{All-head, All-tail, All-map, All-take, All-weaker, All-get_or, All-from_get_or}
-use Rattle.rv_rows.specs.declared.linear.Row.{Row}
-use Rattle.rv_rows.specs.declared.linear.Form.{Form}
-use Rattle.rv_rows.specs.Rows.{dot, RowWithin}
+use Rattle.std.proofs.{lemmas.Int.ints, lemmas.Int.unsigned_abs-mul, lemmas.Bool.cases_lt, lemmas.List.get_or_past, lemmas.List.length-take}
+use Rattle.std.specs.Int.RustNames.{unsigned_abs}
 use Rattle.rv_rows.specs.Forms.{number, forms_width, IsSubstituted, SumsStay, CanSubstitute}
-use Rattle.rv_rows.specs.Tight.{Fits}
+use Rattle.rv_rows.specs.{declared.linear.Row.Row, declared.linear.Form.Form, Rows.dot, Rows.RowWithin, Tight.Fits}
 use Rattle.rv_rows.proofs.IntLemmas.{abs-add}
 use Rattle.rv_proofs.specs.Systems.{System, IsSystem, HasLimits, IsUpdate, IsTestRow}
 

@@ -1,19 +1,12 @@
 -- The row claim of two counters is closed and good.
 use Rattle.std.proofs.Common.{◌≡◌, ℕ, zero, suc, ℤ, pos, negsuc, ◌+ℤ◌, ◌*ℤ◌, map, List, [], ◌∷◌, Bool, true, false, cond, Some, slice_get, get_or, arith, refl}
 use Rattle.std.proofs.Common.{sym, ap, ◌∙◌, subst, inl, inr}
-use Rattle.std.proofs.lemmas.Int.{ints}
-use Rattle.std.proofs.Math.IntN.{*ℤ-zero}
-use Rattle.rv_rows.specs.Rows.{coefficient}
-use Rattle.std.proofs.lemmas.Option.{same_Some, none-some}
+use Rattle.std.proofs.{lemmas.Int.ints, Math.IntN.*ℤ-zero, lemmas.Option.same_Some, lemmas.Option.none-some}
+use Rattle.rv_rows.specs.{Rows.coefficient, Rows.dot, declared.linear.Row.Row, declared.linear.Form.Form, Forms.number, Forms.IsSubstituted}
+use Rattle.rv_rows.specs.{Multipliers.ShowsAtOnce, Multipliers.AreShutAtOnce}
 use Rattle.rv_diagram.specs.Nodes.{Valuation}
-use Rattle.rv_rows.specs.declared.linear.Row.{Row}
 use Rattle.rv_proofs.specs.Counters.{row2, form2, pair_row, paired, less, more, equal_rows}
-use Rattle.rv_rows.specs.declared.linear.Form.{Form}
-use Rattle.rv_rows.specs.Forms.{number, IsSubstituted}
-use Rattle.rv_rows.specs.Rows.{dot}
-use Rattle.rv_proofs.specs.Systems.{updates_of}
-use Rattle.rv_proofs.specs.RowClaims.{IsCandidate, IsRowClaim, premises_at, IsRowClosed, IsRowGood}
-use Rattle.rv_rows.specs.Multipliers.{ShowsAtOnce, AreShutAtOnce}
+use Rattle.rv_proofs.specs.{Systems.updates_of, RowClaims.IsCandidate, RowClaims.IsRowClaim, RowClaims.premises_at, RowClaims.IsRowClosed, RowClaims.IsRowGood}
 use Rattle.rv_rows.specs.Multipliers as shows
 use Rattle.std.specs.List.{Contains}
 

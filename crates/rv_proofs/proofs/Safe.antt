@@ -4,25 +4,16 @@ use Rattle.std.proofs.Common.{◌⊎◌, inl, inr, add-one}
 use Rattle.std.proofs.lemmas.List.Elements.{All-append, All-head, All-tail, All-nil, All-cons}
 use Rattle.std.proofs.lemmas.Option.{slice_get-get_or, same_Some}
 use Rattle.rv_diagram.specs.Nodes.{Valuation}
-use Rattle.rv_rows.specs.declared.linear.Row.{Row}
-use Rattle.rv_rows.specs.declared.farkas.Multipliers.{Multipliers}
-use Rattle.rv_rows.specs.Rows.{Holds}
-use Rattle.rv_rows.specs.Forms.{number, value}
+use Rattle.rv_rows.specs.{declared.linear.Row.Row, declared.farkas.Multipliers.Multipliers, Rows.Holds, Forms.number, Forms.value}
 use Rattle.rv_rows.proofs.RowLemmas.{proves_sound}
-use Rattle.rv_proofs.specs.Systems.{System, Agrees, HasSameState}
-use Rattle.rv_proofs.specs.Counts.{HasLoop, IsLoopKind, HasKindCounts}
 use Rattle.rv_proofs.specs.Scopes.{IsIn, IsInScope, refutation, before, after, each, implications, rows_into}
-use Rattle.rv_proofs.specs.Implied.{IsImplied}
 use Rattle.rv_proofs.specs.Accepted.{AreProved, IsIncluded, IsAccepted, IsEntry, Leads, IsStepKind, IsDeadKind, IsObserved}
 use Rattle.rv_proofs.specs.Runs.{AllHold, IsStepBy, IsWithin, IsInvariant, KeepsInvariant, IsSafeSystem}
-use Rattle.rv_proofs.specs.declared.certificate.Certificate.{Certificate}
-use Rattle.rv_proofs.specs.declared.certificate.Location.{Location}
-use Rattle.rv_proofs.specs.declared.certificate.Entry.{Entry}
-use Rattle.rv_proofs.specs.declared.certificate.EntryKind.{EntryKind}
-use Rattle.rv_proofs.specs.declared.certificate.EntryKind.TheVariants.{Dead, Go, Loop}
-use Rattle.rv_proofs.proofs.Named.{proved-holds, refuted-none}
-use Rattle.rv_proofs.proofs.Moved.{moved-holds}
-use Rattle.rv_proofs.proofs.ControlReads.{control_same}
+use Rattle.rv_proofs.specs.{Systems.System, Systems.Agrees, Systems.HasSameState, Counts.HasLoop, Counts.IsLoopKind, Counts.HasKindCounts, Implied.IsImplied}
+use Rattle.rv_proofs.specs.{declared.certificate.Certificate.Certificate, declared.certificate.Location.Location, declared.certificate.Entry.Entry}
+use Rattle.rv_proofs.specs.{declared.certificate.EntryKind.EntryKind, declared.certificate.EntryKind.TheVariants.Dead}
+use Rattle.rv_proofs.specs.{declared.certificate.EntryKind.TheVariants.Go, declared.certificate.EntryKind.TheVariants.Loop}
+use Rattle.rv_proofs.proofs.{Named.proved-holds, Named.refuted-none, Moved.moved-holds, ControlReads.control_same}
 use Rattle.rv_base.proofs.Lists.{all_left as All-front, all_right as All-back}
 
 -- the rows that multipliers prove hold where the premises do

@@ -1,23 +1,17 @@
 -- The samples are systems.
-use Rattle.std.proofs.Common.{◌≡◌, ℕ, zero, suc, ◌<◌, ◌≤◌, ◌^◌, ℤ, pos, negsuc, ◌*ℤ◌, ◌≤ℤ◌, ◌<ℤ◌, ◌+ℤ◌, length, Bool, true, false, not, Some, arith, refl}
-use Rattle.std.proofs.Common.{ap, subst}
-use Prim.Native.Nat.{◌∣◌}
-use Rattle.std.proofs.Math.Nat.{one-dvd}
-use Rattle.std.proofs.lemmas.Int.{ints}
-use Rattle.std.proofs.lemmas.Nat.Gcd.{dvd-zero}
-use Rattle.std.proofs.lemmas.List.Elements.{All-from_get_or}
+use Rattle.std.proofs.Common.{◌≡◌, ℕ, zero, suc, ◌<◌, ◌≤◌, ◌^◌, ℤ, pos, negsuc, ◌*ℤ◌, ◌≤ℤ◌, ◌<ℤ◌, ◌+ℤ◌, length, Bool, true, false, not, Some, arith, refl, ap}
+use Rattle.std.proofs.Common.{subst}
 use Rattle.std.proofs.lemmas.Option.{same_Some, none-some}
+use Rattle.std.proofs.{Math.Nat.one-dvd, lemmas.Int.ints, lemmas.Nat.Gcd.dvd-zero, lemmas.List.Elements.All-from_get_or}
+use Prim.Native.Nat.{◌∣◌}
 use Rattle.std.specs.Int.RustNames.{unsigned_abs}
 use Rattle.rv_diagram.specs.Nodes.{Valuation}
-use Rattle.rv_rows.specs.declared.linear.Row.{Row}
-use Rattle.rv_rows.specs.Rows.{coefficient}
-use Rattle.rv_rows.specs.Tight.{IsTightened}
+use Rattle.rv_rows.specs.{declared.linear.Row.Row, Rows.coefficient, Tight.IsTightened}
 use Rattle.rv_proofs.specs.Systems.{System, IsSystem, IsTestRow, IsUpdate, IsState, IsRead, IsSameValuation}
 use Rattle.rv_proofs.specs.Samples.{counting, counting_row, rising, rising_row, row1, form1}
 use Rattle.rv_proofs.specs.Counters.{paired, paired_row, paired_update, row2, form2}
-use Rattle.rv_proofs.proofs.Sampling.{all_one, all_two}
 use Rattle.rv_proofs.proofs.Counting.{three_read, tick_state, two_read}
-use Rattle.rv_proofs.proofs.Filed.{four_read, three_read as paired_three_read}
+use Rattle.rv_proofs.proofs.{Sampling.all_one, Sampling.all_two, Filed.four_read, Filed.three_read as paired_three_read}
 use Rattle.rv_base.proofs.Truths.{of_not_true}
 
 -- a row with a coefficient of magnitude 1 is tight, and so is one without coefficients other than 0

@@ -1,24 +1,14 @@
 -- Facts of lists that are written out.
 use Rattle.std.proofs.Common.{◌≡◌, ◌≢◌, ◌^◌, ◌-ℤ◌, map, ℕ, zero, suc, ◌+◌, ◌<◌, ℤ, pos, ◌≤ℤ◌, ◌<ℤ◌, ◌*ℤ◌, ◌+ℤ◌, List, [], ◌∷◌, ◌++◌, length, Bool, true, false}
 use Rattle.std.proofs.Common.{cond, Some, All, slice_get, arith, refl, sym, ap, subst}
-use Rattle.std.proofs.lemmas.Int.{ints}
 use Rattle.std.proofs.lemmas.List.Elements.{All-nil, All-cons, All-contains}
-use Rattle.std.proofs.lemmas.Option.{same_Some, none-some}
+use Rattle.std.proofs.{lemmas.Int.ints, lemmas.Option.same_Some, lemmas.Option.none-some, Math.IntN.*ℤ-zero}
 use Rattle.std.specs.List.{Contains}
-use Rattle.rv_rows.specs.declared.linear.Row.{Row}
-use Rattle.rv_rows.specs.declared.farkas.Weight.{Weight}
-use Rattle.rv_rows.specs.declared.farkas.Multipliers.{Multipliers}
-use Rattle.rv_rows.specs.Rows.{coefficient, row_at, dot}
-use Rattle.std.proofs.Math.IntN.{*ℤ-zero}
-use Rattle.rv_rows.specs.Forms.{number}
-use Rattle.rv_rows.specs.Multipliers.{weighted, Proves, Refutes}
-use Rattle.rv_proofs.specs.Ranges.{IsRecord}
+use Rattle.rv_rows.specs.{declared.linear.Row.Row, declared.farkas.Weight.Weight, declared.farkas.Multipliers.Multipliers, Rows.coefficient, Rows.row_at}
+use Rattle.rv_rows.specs.{Rows.dot, Forms.number, Multipliers.weighted, Multipliers.Proves, Multipliers.Refutes}
 use Rattle.rv_proofs.specs.Samples.{by_one, by_two, by_none, row1, form1}
-use Rattle.rv_proofs.specs.Systems.{System}
-use Rattle.rv_proofs.specs.Scopes.{IsSettledTest, IsSettledUpdate, Implication, after}
-use Rattle.rv_proofs.specs.Implied.{AreTestRows, IsImplied, form_at}
-use Rattle.rv_proofs.specs.declared.certificate.Location.{Location}
-use Rattle.rv_proofs.specs.declared.certificate.Entry.{Entry}
+use Rattle.rv_proofs.specs.{Ranges.IsRecord, Systems.System, Scopes.IsSettledTest, Scopes.IsSettledUpdate, Scopes.Implication, Scopes.after}
+use Rattle.rv_proofs.specs.{Implied.AreTestRows, Implied.IsImplied, Implied.form_at, declared.certificate.Location.Location, declared.certificate.Entry.Entry}
 
 module _ {X : Type 0} (P : X → Type 0) where
   pub each-nil : (k : ℕ) (y : X) → slice_get [] k ≡ Some y → P y

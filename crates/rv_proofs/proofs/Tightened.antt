@@ -1,16 +1,11 @@
 -- A tightened row with exactly one coefficient has 1 or -1.
 use Rattle.std.proofs.Common.{◌≡◌, ◌≢◌, ℕ, zero, suc, ◌*◌, ◌<◌, ◌≤◌, ℤ, pos, negsuc, length, arith, refl, ap, ◌∙◌, subst, ◌⊎◌, inl, inr}
-use Prim.Native.Nat.{◌∣◌}
-use Rattle.std.proofs.Math.Nat.{mul-le-mul_left}
-use Rattle.std.proofs.lemmas.Int.{ints, unsigned_abs-mul}
 use Rattle.std.proofs.lemmas.Nat.Gcd.{dvd_refl, dvd-zero, dvd_antisymm, le_of_dvd}
-use Rattle.std.proofs.lemmas.Bool.{cases_lt, cases_eq}
-use Rattle.std.proofs.lemmas.List.{get_or_past}
-use Rattle.std.proofs.lemmas.List.Elements.{All-from_get_or}
+use Rattle.std.proofs.{Math.Nat.mul-le-mul_left, lemmas.Int.ints, lemmas.Int.unsigned_abs-mul, lemmas.Bool.cases_lt, lemmas.Bool.cases_eq}
+use Rattle.std.proofs.{lemmas.List.get_or_past, lemmas.List.Elements.All-from_get_or}
+use Prim.Native.Nat.{◌∣◌}
 use Rattle.std.specs.Int.RustNames.{unsigned_abs}
-use Rattle.rv_rows.specs.declared.linear.Row.{Row}
-use Rattle.rv_rows.specs.Rows.{coefficient}
-use Rattle.rv_rows.specs.Tight.{IsTightened, IsCommonDivisor, IsDivided}
+use Rattle.rv_rows.specs.{declared.linear.Row.Row, Rows.coefficient, Tight.IsTightened, Tight.IsCommonDivisor, Tight.IsDivided}
 use Rattle.rv_proofs.specs.Boxes.{IsUnitAt, HasUnit}
 use Rattle.rv_proofs.proofs.Moved.{zero_or}
 use Rattle.rv_base.proofs.Numbers.{one_cases, size_zero}

@@ -2,9 +2,7 @@
 use Rattle.std.specs.Prelude.{◌≡◌, ◌≢◌, ◌⊎◌, ℕ, ◌<◌, ℤ, pos, negsuc, ◌≤ℤ◌, List, length, Bool, true, Option, Some, IsTrue}
 use Rattle.std.specs.List.{Contains}
 use Rattle.rv_diagram.specs.Nodes.{Valuation}
-use Rattle.rv_rows.specs.declared.linear.Row.{Row}
-use Rattle.rv_rows.specs.Rows.{Holds, coefficient}
-use Rattle.rv_rows.specs.Forms.{number, value}
+use Rattle.rv_rows.specs.{declared.linear.Row.Row, Rows.Holds, Rows.coefficient, Forms.number, Forms.value}
 use Rattle.rv_proofs.specs.Systems.{System, HasSameState}
 
 -- A set of control states, and for each integer memory an optional lower and upper bound.

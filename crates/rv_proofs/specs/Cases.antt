@@ -1,15 +1,11 @@
 -- Cases of a system: what an instant is throughout a condition, and cases that part the allowed valuations of a set of
 -- control states. Images and preimages of sets of control states by a case, and the set of the initial ones.
-use Rattle.std.specs.Prelude.{◌≡◌, ◌↔◌, ℕ, ◌<◌, List, length, Some, IsTrue, slice_get}
-use Rattle.std.specs.Prelude.{None as Nothing}
+use Rattle.std.specs.Prelude.{◌≡◌, ◌↔◌, ℕ, ◌<◌, List, length, Some, IsTrue, slice_get, None as Nothing}
 use Rattle.std.specs.List.{Contains}
-use Rattle.rv_diagram.specs.Nodes.{Valuation}
-use Rattle.rv_diagram.specs.declared.frozen.Frozen.{Frozen}
+use Rattle.rv_diagram.specs.{Nodes.Valuation, declared.frozen.Frozen.Frozen}
 use Rattle.rv_rows.specs.declared.linear.Row.{Row}
 use Rattle.rv_proofs.specs.Systems.{System, HasSameState, updates_of}
-use Rattle.rv_proofs.specs.Scopes.{IsIn}
-use Rattle.rv_proofs.specs.Ranges.{IsControlSet, IsCondition}
-use Rattle.rv_proofs.specs.declared.report.Case.{Case}
+use Rattle.rv_proofs.specs.{Scopes.IsIn, Ranges.IsControlSet, Ranges.IsCondition, declared.report.Case.Case}
 
 -- A case that may be handed in: its condition is an ordered diagram that reads no next copy, and is true of allowed
 -- valuations only.

@@ -1,18 +1,11 @@
 -- Two counters that rise together: the system, the certificate of its document, and two that are refused.
 --     x = 0 -> pre x + 1;  y = 0 -> pre y + 1;  ok = x = y;
-use Rattle.std.specs.Prelude.{ℕ, zero, suc, ℤ, pos, negsuc, List, [], ◌∷◌, Bool, true, false, not, if◌then◌else◌, Option, Some}
-use Rattle.std.specs.Prelude.{None as Nothing}
-use Rattle.rv_diagram.specs.Nodes.{Valuation}
-use Rattle.rv_diagram.specs.declared.frozen.Frozen.{Frozen}
-use Rattle.rv_rows.specs.declared.linear.Row.{Row}
-use Rattle.rv_rows.specs.declared.linear.Form.{Form}
-use Rattle.rv_proofs.specs.Systems.{System}
-use Rattle.rv_proofs.specs.RowClaims.{RowClaim}
+use Rattle.std.specs.Prelude.{ℕ, zero, suc, ℤ, pos, negsuc, List, [], ◌∷◌, Bool, true, false, not, if◌then◌else◌, Option, Some, None as Nothing}
+use Rattle.rv_diagram.specs.{Nodes.Valuation, declared.frozen.Frozen.Frozen}
+use Rattle.rv_rows.specs.{declared.linear.Row.Row, declared.linear.Form.Form}
 use Rattle.rv_proofs.specs.Samples.{by_one, by_two, by_none, node, is_true_at, is_false_at}
-use Rattle.rv_proofs.specs.declared.certificate.Certificate.{Certificate}
-use Rattle.rv_proofs.specs.declared.certificate.Location.{Location}
-use Rattle.rv_proofs.specs.declared.certificate.Entry.{Entry}
-use Rattle.rv_proofs.specs.declared.certificate.EntryKind.TheVariants.{Dead, Go}
+use Rattle.rv_proofs.specs.{Systems.System, RowClaims.RowClaim, declared.certificate.Certificate.Certificate, declared.certificate.Location.Location}
+use Rattle.rv_proofs.specs.{declared.certificate.Entry.Entry, declared.certificate.EntryKind.TheVariants.Dead, declared.certificate.EntryKind.TheVariants.Go}
 
 abbrev pub row2 : ℤ → ℤ → ℤ → Row
 row2 a b c = record { coefficients = a ∷ b ∷ []; bound = c }

@@ -2,15 +2,10 @@
 use Rattle.std.specs.Prelude.{◌≡◌, ◌⊎◌, ℕ, ◌<◌, false, List, length, Some, slice_get, All}
 use Rattle.std.specs.List.{Contains}
 use Rattle.rv_diagram.specs.Nodes.{Valuation}
-use Rattle.rv_proofs.specs.Systems.{System, HasSameState}
-use Rattle.rv_proofs.specs.Scopes.{IsIn, IsInScope}
 use Rattle.rv_proofs.specs.Accepted.{IsPartition, IsEntry, IsStepKind, IsDeadKind, IsObserved, AreImplied}
-use Rattle.rv_proofs.specs.declared.certificate.Certificate.{Certificate}
-use Rattle.rv_proofs.specs.declared.certificate.Location.{Location}
-use Rattle.rv_proofs.specs.declared.certificate.Entry.{Entry}
-use Rattle.rv_proofs.specs.declared.report.LeftReport.{LeftReport}
-use Rattle.rv_proofs.specs.declared.report.Why.{Why}
-use Rattle.rv_proofs.specs.declared.report.Why.TheVariants.{Locations, Stuck}
+use Rattle.rv_proofs.specs.{Systems.System, Systems.HasSameState, Scopes.IsIn, Scopes.IsInScope, declared.certificate.Certificate.Certificate}
+use Rattle.rv_proofs.specs.{declared.certificate.Location.Location, declared.certificate.Entry.Entry, declared.report.LeftReport.LeftReport}
+use Rattle.rv_proofs.specs.{declared.report.Why.Why, declared.report.Why.TheVariants.Locations, declared.report.Why.TheVariants.Stuck}
 
 -- The observer is false throughout the scope.
 abbrev pub IsNeverObserved : System → Location → Entry → Type 0

@@ -1,13 +1,9 @@
 -- The least closed box claim, its control states by the step at which they are first reached, and claims of systems
 -- without integers.
-use Rattle.std.specs.Prelude.{◌≡◌, ◌↔◌, ℕ, zero, suc, ◌<◌, ◌≤◌, ℤ, ◌≤ℤ◌, List, length, Bool, Some, IsTrue, slice_get}
-use Rattle.std.specs.Prelude.{None as Nothing}
-use Rattle.rv_diagram.specs.Nodes.{Valuation}
-use Rattle.rv_diagram.specs.declared.frozen.Frozen.{Frozen}
-use Rattle.rv_proofs.specs.Systems.{System, HasSameState}
-use Rattle.rv_proofs.specs.Scopes.{IsIn}
-use Rattle.rv_proofs.specs.Ranges.{IsControlSet}
+use Rattle.std.specs.Prelude.{◌≡◌, ◌↔◌, ℕ, zero, suc, ◌<◌, ◌≤◌, ℤ, ◌≤ℤ◌, List, length, Bool, Some, IsTrue, slice_get, None as Nothing}
+use Rattle.rv_diagram.specs.{Nodes.Valuation, declared.frozen.Frozen.Frozen}
 use Rattle.rv_proofs.specs.Boxes.{BoxClaim, IsBoxClaim, IsTaken, IsClosed}
+use Rattle.rv_proofs.specs.{Systems.System, Systems.HasSameState, Scopes.IsIn, Ranges.IsControlSet}
 
 -- The system has no integers: no memories, no inputs and no comparisons.
 pub record HasNoIntegers (s : System) : Type 0 where

@@ -2,10 +2,7 @@
 use Rattle.std.specs.Prelude.{◌≡◌, ◌⊎◌, ℕ, ◌<◌, ◌≤◌, ℤ, pos, negsuc, ◌≤ℤ◌, List, ◌++◌, length, Bool, Some, IsTrue, if◌then◌else◌, slice_get}
 use Rattle.std.specs.List.{Contains}
 use Rattle.rv_diagram.specs.Nodes.{Valuation}
-use Rattle.rv_rows.specs.declared.linear.Row.{Row}
-use Rattle.rv_rows.specs.Rows.{coefficient}
-use Rattle.rv_rows.specs.Forms.{IsSubstituted}
-use Rattle.rv_rows.specs.Multipliers.{ShowsAtOnce, AreShutAtOnce}
+use Rattle.rv_rows.specs.{declared.linear.Row.Row, Rows.coefficient, Forms.IsSubstituted, Multipliers.ShowsAtOnce, Multipliers.AreShutAtOnce}
 use Rattle.rv_proofs.specs.Systems.{System, HasSameState, rows_of, updates_of}
 
 abbrev pub IsUnit : ℤ → Type 0

@@ -1,15 +1,9 @@
 -- Runs of a system, and the invariant that a certificate gives them.
 use Rattle.std.specs.Prelude.{◌≡◌, ◌⊎◌, ℕ, ◌+◌, ◌<◌, ℤ, List, Some, IsTrue, slice_get, All}
 use Rattle.rv_diagram.specs.Nodes.{Valuation}
-use Rattle.rv_rows.specs.declared.linear.Row.{Row}
-use Rattle.rv_rows.specs.Rows.{Holds}
-use Rattle.rv_rows.specs.Forms.{number, value}
-use Rattle.rv_proofs.specs.Systems.{System, Agrees, HasSameState}
-use Rattle.rv_proofs.specs.Counts.{HasLoop}
-use Rattle.rv_proofs.specs.Scopes.{IsIn, IsInScope}
-use Rattle.rv_proofs.specs.declared.certificate.Certificate.{Certificate}
-use Rattle.rv_proofs.specs.declared.certificate.Location.{Location}
-use Rattle.rv_proofs.specs.declared.certificate.Entry.{Entry}
+use Rattle.rv_rows.specs.{declared.linear.Row.Row, Rows.Holds, Forms.number, Forms.value}
+use Rattle.rv_proofs.specs.{Systems.System, Systems.Agrees, Systems.HasSameState, Counts.HasLoop, Scopes.IsIn, Scopes.IsInScope}
+use Rattle.rv_proofs.specs.{declared.certificate.Certificate.Certificate, declared.certificate.Location.Location, declared.certificate.Entry.Entry}
 
 -- Each row of the list holds at the point.
 abbrev pub AllHold : List Row → List ℤ → Type 0

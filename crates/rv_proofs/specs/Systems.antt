@@ -2,14 +2,10 @@
 -- one and a flat system gives the same.
 use Rattle.std.specs.Prelude.{◌≡◌, ℕ, zero, suc, ◌+◌, ◌*◌, ◌^◌, ◌<◌, ◌≤◌, ℤ, List, [], ◌∷◌, ◌++◌, length, Bool, true, false, Option, Some, IsTrue, All}
 use Rattle.std.specs.Prelude.{None as Nothing}
+use Rattle.std.specs.Int.RustNames.{unsigned_abs}
 use Rattle.rv_base.specs.Limits.{heaviest}
 use Rattle.rv_diagram.specs.Nodes.{Valuation}
-use Rattle.rv_rows.specs.declared.linear.Row.{Row}
-use Rattle.rv_rows.specs.declared.linear.Form.{Form}
-use Rattle.std.specs.Int.RustNames.{unsigned_abs}
-use Rattle.rv_rows.specs.Rows.{Holds}
-use Rattle.rv_rows.specs.Forms.{FormWithin}
-use Rattle.rv_rows.specs.Tight.{IsTightened}
+use Rattle.rv_rows.specs.{declared.linear.Row.Row, declared.linear.Form.Form, Rows.Holds, Forms.FormWithin, Tight.IsTightened}
 
 -- A system of valuations. A valuation gives a truth value to each diagram variable; state bit i is variable 2i, and
 -- variable 2i + 1 is its next copy, which nothing reads. The columns are the integer memories and then the integer

@@ -1,9 +1,8 @@
 -- What is proved of the least closed row claim of a system.
 use Rattle.std.proofs.Common.{◌≡◌, ℤ, List, [], Bool, true, false, refl, sym, ◌∙◌, subst, true≢false}
 use Rattle.rv_diagram.specs.Nodes.{Valuation, Diagrams}
-use Rattle.rv_proofs.specs.Systems.{System}
-use Rattle.rv_proofs.specs.Left.{IsLeftPartition}
 use Rattle.rv_proofs.specs.RowClaims.{RowClaim, IsRowTaken, IsRowGood, IsLeastRowClosed, HasGoodRows}
+use Rattle.rv_proofs.specs.{Systems.System, Left.IsLeftPartition}
 use Rattle.rv_symbolic.specs.declared.relation.Relation.{Relation}
 use Rattle.rv_cases.specs.declared.asking.Questions.{Questions}
 use Rattle.rv_claimed.specs.declared.answer.Claimed.{Claimed}

@@ -1,22 +1,13 @@
 -- A flat system lists as many columns as its system has.
 use Rattle.std.proofs.Common.{◌≡◌, inl, inr, ℕ, zero, suc, ◌+◌, ◌<◌, Bool, true, false, cond, List, [], ◌∷◌, ◌++◌, length, map, get_or, refl, sym, ap, ◌∙◌}
 use Rattle.std.proofs.Common.{subst, arith}
-use Rattle.std.specs.List.{Contains}
 use Rattle.std.proofs.lemmas.List.{length-map, length-append}
-use Rattle.rv_tree.specs.Tree.{ProgramTree}
-use Rattle.rv_tree.specs.Places.{Identifier, Sites}
-use Rattle.rv_types.specs.declared.typed.Kind.{Kind}
-use Rattle.rv_types.specs.Kinds.{decl_kinds}
-use Rattle.rv_types.specs.Variables.{is_integer}
-use Rattle.rv_types.specs.Instances.{node_of}
+use Rattle.std.specs.List.{Contains}
+use Rattle.rv_tree.specs.{Tree.ProgramTree, Places.Identifier, Places.Sites}
 use Rattle.rv_types.specs.Lists.{MemoryAt, AreMemories, AreRising, IsAny, memory_places, Column, KeptColumn, InputColumn, memory_columns, input_columns}
-use Rattle.rv_types.specs.Needs.{IsBefore}
+use Rattle.rv_types.specs.{declared.typed.Kind.Kind, Kinds.decl_kinds, Variables.is_integer, Instances.node_of, Needs.IsBefore}
 use Rattle.rv_agreement.specs.Valuations.{whole_count}
-use Rattle.rv_flat.specs.declared.flat.Flat.{Flat}
-use Rattle.rv_flat.specs.declared.parts.FlatMemory.{FlatMemory}
-use Rattle.rv_flat.specs.FlatOf.{IsFlatOf}
-use Rattle.rv_flat.specs.Lists.{column_of}
-use Rattle.rv_flat.specs.Systems.{memory_of, kept_of}
+use Rattle.rv_flat.specs.{declared.flat.Flat.Flat, declared.parts.FlatMemory.FlatMemory, FlatOf.IsFlatOf, Lists.column_of, Systems.memory_of, Systems.kept_of}
 use Rattle.rv_flat.proofs.Earliest.{not_itself}
 use Rattle.rv_control.specs.Control.{control_of}
 use Rattle.rv_types.proofs.Members.{at_head, cons_cases, in_tail, nothing_in}

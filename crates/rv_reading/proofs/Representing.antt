@@ -1,38 +1,24 @@
 -- References of what a flat system is have the meanings of its system of valuations.
 use Rattle.std.proofs.Common.{◌≡◌, ◌∙◌, ◌≤◌, ◌^◌, ℕ, ℤ, All, List, [], length, sym, ap, arith}
-use Rattle.std.proofs.lemmas.List.{length-map}
+use Rattle.std.proofs.lemmas.List.{length-map, nil_from_length}
 use Rattle.rv_diagram.specs.Nodes.{Diagrams}
-use Rattle.rv_agreement.specs.Agreement.{IsWell}
-use Rattle.rv_agreement.specs.Trees.{System}
-use Rattle.rv_agreement.specs.Valuations.{Valuation, IsSymbolic}
-use Rattle.rv_flat.specs.declared.flat.Flat.{Flat}
-use Rattle.rv_flat.specs.FlatInstants.{system_of}
-use Rattle.rv_flat.specs.Lists.{variable_of}
-use Rattle.rv_proofs.specs.Systems.{IsSystem}
+use Rattle.rv_agreement.specs.{Agreement.IsWell, Trees.System, Valuations.Valuation, Valuations.IsSymbolic}
+use Rattle.rv_flat.specs.{declared.flat.Flat.Flat, FlatInstants.system_of, Lists.variable_of}
+use Rattle.rv_proofs.specs.{Systems.IsSystem, Counts.HasFree, Ranges.IsInRange, Reached.HasNoIntegers, declared.certificate.Certificate.Certificate}
 use Rattle.rv_proofs.specs.Systems as proofs
-use Rattle.rv_control.specs.Control.{control_of}
-use Rattle.rv_control.specs.Named.{named}
-use Rattle.rv_control.specs.Symbolic.{symbolic}
-use Rattle.rv_symbolic.specs.Represented.{AreParts, HaveRefs}
-use Rattle.rv_symbolic.specs.declared.relation.Parts.{Parts}
-use Rattle.rv_symbolic.specs.Growing.{Extends}
-use Rattle.rv_cases.specs.declared.asking.Questions.{Questions}
-use Rattle.rv_cases.specs.Questions.{AreQuestions}
+use Rattle.rv_control.specs.{Control.control_of, Named.named, Symbolic.symbolic}
+use Rattle.rv_symbolic.specs.{Represented.AreParts, Represented.HaveRefs, declared.relation.Parts.Parts, Growing.Extends}
+use Rattle.rv_cases.specs.{declared.asking.Questions.Questions, Questions.AreQuestions}
 use Rattle.rv_cases.proofs.Keeping.{questions_later}
 use Rattle.rv_bits.specs.Whole.{ArePartsRead}
-use Rattle.rv_proofs.specs.Counts.{HasFree}
-use Rattle.rv_proofs.specs.Ranges.{IsInRange}
-use Rattle.rv_proofs.specs.Reached.{HasNoIntegers}
-use Rattle.rv_proofs.specs.declared.certificate.Certificate.{Certificate}
 use Rattle.rv_accept.specs.Passing.{IsGiven}
 use Rattle.rv_reading.specs.declared.reading.Reading.{Reading}
+use Rattle.rv_reading.specs.Read.{flat_of, system_read, diagrams_of, relation_of, questions_of, IsRead}
 use Rattle.rv_boxes.specs.Passing.{IsPassOf}
 use Rattle.rv_paths.specs.Candidates.{IsSearchOf}
 use Rattle.rv_reading.specs.Analysing as analysing
 use Rattle.std.specs.Int.RustNames.{unsigned_abs}
-use Rattle.rv_reading.specs.Read.{flat_of, system_read, diagrams_of, relation_of, questions_of, IsRead}
 use Rattle.rv_forms.proofs.Kept.{to_terms}
-use Rattle.std.proofs.lemmas.List.{nil_from_length}
 
 module _ (f : Flat) (well : IsWell (system_of f)) (computed : (s : System) (w : Valuation) → IsWell s → IsSymbolic s w (symbolic s w)) (a b : Diagrams)
     (p : Parts)

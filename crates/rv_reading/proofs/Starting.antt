@@ -1,10 +1,8 @@
 -- Whether a system has an initial control state, by what is picked of them; and that each claim is good where it has none.
 use Rattle.std.proofs.Common.{◌≡◌, ℕ, ℤ, List, [], Bool, true, false, Option, Some, None, sym, ◌∙◌, refl, true≢false, arith}
 use Rattle.std.specs.Prelude.{MatchOption, is_some}
-use Rattle.rv_diagram.specs.declared.Triple.{Triple}
-use Rattle.rv_diagram.specs.Nodes.{Valuation, value_of, valuation_of, IsLeast}
-use Rattle.rv_proofs.specs.Systems.{System}
-use Rattle.rv_proofs.specs.RowClaims.{HasGoodRows}
+use Rattle.rv_diagram.specs.{declared.Triple.Triple, Nodes.Valuation, Nodes.value_of, Nodes.valuation_of, Nodes.IsLeast}
+use Rattle.rv_proofs.specs.{Systems.System, RowClaims.HasGoodRows}
 use Rattle.rv_reading.specs.Analysing.{HasStarts}
 
 module _ (s : System) (nodes : List Triple) (variables a : ℕ) (means : (v : Valuation) → value_of nodes a v ≡ s.initial v) where

@@ -2,14 +2,9 @@
 use Rattle.std.specs.Prelude.{◌≡◌, ◌≤◌, ◌^◌, ℤ, Bool, true, false, List, [], All, IsTrue}
 use Rattle.std.specs.Int.RustNames.{unsigned_abs}
 use Rattle.rv_diagram.specs.Nodes.{Valuation, Diagrams}
-use Rattle.rv_proofs.specs.Systems.{System}
-use Rattle.rv_proofs.specs.Accepted.{IsAccepted}
-use Rattle.rv_proofs.specs.Left.{IsLeftPartition}
-use Rattle.rv_proofs.specs.RowClaims.{HasGoodRows}
-use Rattle.rv_symbolic.specs.declared.relation.Relation.{Relation}
-use Rattle.rv_symbolic.specs.Represented.{IsRelationOf}
-use Rattle.rv_cases.specs.declared.asking.Questions.{Questions}
-use Rattle.rv_cases.specs.Questions.{AreQuestions}
+use Rattle.rv_proofs.specs.{Systems.System, Accepted.IsAccepted, Left.IsLeftPartition, RowClaims.HasGoodRows}
+use Rattle.rv_symbolic.specs.{declared.relation.Relation.Relation, Represented.IsRelationOf}
+use Rattle.rv_cases.specs.{declared.asking.Questions.Questions, Questions.AreQuestions}
 use Rattle.rv_walk.specs.Plain.{ArePlain}
 use Rattle.rv_claimed.specs.declared.answer.Claimed.{Claimed}
 

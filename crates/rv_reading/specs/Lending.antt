@@ -1,10 +1,8 @@
 -- What becomes of a reading whose store is lent.
-use Rattle.std.specs.Prelude.{[]}
-use Rattle.std.specs.Borrow.{Lends, MutBor, Fml}
+use Rattle.std.specs.{Prelude.[], Borrow.Lends, Borrow.MutBor, Borrow.Fml}
 use Rattle.rv_diagram.specs.Nodes.{Diagrams}
 use Rattle.rv_diagram.specs.contracts.store.Store as store
-use Rattle.rv_reading.specs.declared.reading.Reading.{Reading}
-use Rattle.rv_reading.specs.contracts.reading.Reading.{the_row}
+use Rattle.rv_reading.specs.{declared.reading.Reading.Reading, contracts.reading.Reading.the_row}
 use mir.Syntax.{named}
 
 -- The reading ends with the store that is left, and is otherwise as it was.

@@ -4,10 +4,8 @@ use Rattle.rv_diagram.specs.Nodes.{Diagrams}
 use Rattle.rv_proofs.specs.Systems.{System}
 use Rattle.rv_flat.specs.declared.flat.Flat.{Flat}
 use Rattle.rv_control.specs.Control.{control_of}
-use Rattle.rv_symbolic.specs.Represented.{IsRelationOf}
-use Rattle.rv_symbolic.specs.declared.relation.Relation.{Relation}
-use Rattle.rv_cases.specs.declared.asking.Questions.{Questions}
-use Rattle.rv_cases.specs.Questions.{AreQuestions, AreDistinct}
+use Rattle.rv_symbolic.specs.{Represented.IsRelationOf, declared.relation.Relation.Relation}
+use Rattle.rv_cases.specs.{declared.asking.Questions.Questions, Questions.AreQuestions, Questions.AreDistinct}
 use Rattle.rv_reading.specs.declared.reading.Reading.{Reading}
 
 -- the flat system of a reading, what it is at a valuation, its relation in the store, the store, and its questions

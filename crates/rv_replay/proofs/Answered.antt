@@ -1,11 +1,8 @@
 -- What an answer says, and which answers there are, want of memory left out.
 use Rattle.std.proofs.Common.{◌≡◌, inl, inr, refl, subst}
 use Rattle.std.specs.Prelude.{Result, Ok, Err}
-use Rattle.rv_replay.specs.declared.replayed.Replayed.{Replayed}
-use Rattle.rv_replay.specs.declared.replayed.ReplayFault.{ReplayFault}
 use Rattle.rv_replay.specs.declared.replayed.ReplayFault.TheVariants.{Outgrown, Memory}
-use Rattle.rv_replay.specs.Playing.{AnswersUnlessMemory}
-use Rattle.rv_replay.specs.Replays.{IsUnlessMemory}
+use Rattle.rv_replay.specs.{declared.replayed.Replayed.Replayed, declared.replayed.ReplayFault.ReplayFault, Playing.AnswersUnlessMemory, Replays.IsUnlessMemory}
 
 unless : (P : Result Replayed ReplayFault → Type 0) (a : Result Replayed ReplayFault) → AnswersUnlessMemory P a → (a ≡ Err Memory → ⊥) → P a
 unless P (Ok a) h other = h

@@ -1,37 +1,21 @@
 -- What is played over a flat system is what the trace does to its program, and nothing else is.
 use Rattle.std.proofs.Common.{◌≡◌, inl, inr, ℕ, zero, suc, ◌+◌, ◌<◌, ◌≤◌, true, false, List, [], map, length, get_or, refl, sym, ◌∙◌, ap, subst, arith, Some}
+use Rattle.std.proofs.{lemmas.Bool.cases_order, lemmas.List.ext_get_or, lemmas.List.length-map, Math.Nat.eq-or-lt_of_le}
 use Rattle.std.specs.Prelude.{Result, Ok, Err}
-use Rattle.std.proofs.lemmas.Bool.{cases_order}
-use Rattle.std.proofs.lemmas.List.{ext_get_or, length-map}
-use Rattle.std.proofs.Math.Nat.{eq-or-lt_of_le}
-use Rattle.rv_base.specs.declared.value.Place.{Place}
-use Rattle.rv_base.specs.declared.value.Trace.{Trace}
-use Rattle.rv_base.specs.declared.value.Value.{Value}
-use Rattle.rv_base.specs.declared.value.Value.TheVariants.{Flag}
-use Rattle.rv_tree.specs.Tree.{ProgramTree}
-use Rattle.rv_tree.specs.Places.{Identifier, Sites}
-use Rattle.rv_types.specs.Instances.{IsNode, node_of}
-use Rattle.rv_types.specs.Lists.{MemoryAt}
-use Rattle.rv_types.specs.Needs.{IsSequence}
-use Rattle.rv_types.specs.WellFormed.{AreWell}
+use Rattle.rv_base.specs.{declared.value.Place.Place, declared.value.Trace.Trace, declared.value.Value.Value, declared.value.Value.TheVariants.Flag}
+use Rattle.rv_tree.specs.{Tree.ProgramTree, Places.Identifier, Places.Sites}
+use Rattle.rv_types.specs.{Instances.IsNode, Instances.node_of, Lists.MemoryAt, Needs.IsSequence, WellFormed.AreWell}
 use Rattle.rv_meaning.specs.Runs.{History, AreInputs, AreStarts, AssertionsHold, IsRun, observed}
-use Rattle.rv_flat.specs.declared.flat.Flat.{Flat}
-use Rattle.rv_flat.specs.declared.state.State.{State}
 use Rattle.rv_flat.specs.FlatInstants.{Row, memory_places, nth, places, IsFlatInstant, IsFlatNext}
-use Rattle.rv_flat.specs.FlatOf.{first_values, flat_inputs, IsFlatBroken}
-use Rattle.rv_flat.specs.FlatRuns.{AreStepsOf, IsBrokenAt}
-use Rattle.rv_flat.specs.Steps.{IsFlatStart, IsGrown, IsInRange, IsLeast}
-use Rattle.rv_flat.specs.Systems.{memory_of}
-use Rattle.rv_flat.proofs.OneRow.{only_row}
-use Rattle.rv_flat.proofs.Running.{RunIsInstants, StatesOfRun, one_next}
-use Rattle.rv_replay.specs.declared.replayed.Replayed.{Replayed}
+use Rattle.rv_flat.specs.{declared.flat.Flat.Flat, declared.state.State.State, FlatOf.first_values, FlatOf.flat_inputs, FlatOf.IsFlatBroken}
+use Rattle.rv_flat.specs.{FlatRuns.AreStepsOf, FlatRuns.IsBrokenAt, Steps.IsFlatStart, Steps.IsGrown, Steps.IsInRange, Steps.IsLeast, Systems.memory_of}
+use Rattle.rv_flat.proofs.{OneRow.only_row, Running.RunIsInstants, Running.StatesOfRun, Running.one_next}
 use Rattle.rv_replay.specs.declared.replayed.Replayed.TheVariants.{Falsified, AssertionFails, NeverFalse}
-use Rattle.rv_replay.specs.declared.replayed.ReplayFault.{ReplayFault}
 use Rattle.rv_replay.specs.declared.replayed.ReplayFault.TheVariants.{Outgrown, Memory}
-use Rattle.rv_replay.specs.Observers.{IsObserved}
 use Rattle.rv_replay.specs.Playing.{IsEnd, outgrown, fails, falsified, IsPlayed, never, ends, goes_on, IsPlayedOf}
 use Rattle.rv_replay.specs.Replays.{FailsAt, GoesOn, HasOutgrown, IsFalsifiedAt, IsReplay, OutgrowsAt, Plays, StaysWithin}
 use Rattle.rv_replay.specs.Traces.{Fixes, IsFlatTrace, IsTrace, given}
+use Rattle.rv_replay.specs.{declared.replayed.Replayed.Replayed, declared.replayed.ReplayFault.ReplayFault, Observers.IsObserved}
 use Rattle.rv_replay.proofs.FlatSteps.{FlatPasses, KeepsWithin, StepsGiveRun, outgrown_here, outgrown_there, passes_here, passes_there, run_rows, run_states}
 use Rattle.rv_replay.proofs.FlatSteps.{run_steps, stays_within}
 use Rattle.rv_replay.proofs.FlatTraces.{InputsOfFlat, StatesOfFlat, are_inputs, are_starts, flat_trace, inputs_flat, starts_flat, starts_same, trace_fixes}

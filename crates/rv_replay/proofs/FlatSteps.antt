@@ -1,39 +1,23 @@
 -- The steps of a flat system along a trace, and the run of its program.
 use Rattle.std.proofs.Common.{◌≡◌, ℕ, zero, suc, ◌+◌, ◌<◌, ◌≤◌, ◌↔◌, ℤ, Bool, true, false, cond, List, [], ◌∷◌, map, length, get_or, refl, sym, ◌∙◌, ap, subst}
-use Rattle.std.proofs.Common.{arith, Option, Some, IsSome}
-use Rattle.std.proofs.Common.{None as Nothing}
-use Rattle.std.specs.FinMap.{empty}
+use Rattle.std.proofs.Common.{arith, Option, Some, IsSome, None as Nothing}
+use Rattle.std.proofs.{lemmas.Int.ints, lemmas.List.get_or-map, lemmas.List.get_or_default, lemmas.List.length-map}
+use Rattle.std.specs.{FinMap.empty, List.Contains}
 use Rattle.std.specs.FinMap as finite
-use Rattle.std.specs.List.{Contains}
-use Rattle.std.proofs.lemmas.Int.{ints}
-use Rattle.std.proofs.lemmas.List.{get_or-map, get_or_default, length-map}
 use Rattle.rv_base.specs.declared.value.Value.{Value}
 use Rattle.rv_base.specs.declared.value.Value.TheVariants.{Flag, Label, Whole}
-use Rattle.rv_tree.specs.Tree.{ProgramTree}
-use Rattle.rv_tree.specs.Places.{Identifier, Sites, index_of}
-use Rattle.rv_tree.specs.Delays.{Delay, node_delays}
-use Rattle.rv_types.specs.declared.typed.Clock.TheVariants.{Base}
-use Rattle.rv_types.specs.Instances.{Instance, clock_in, IsInstance}
-use Rattle.rv_types.specs.Lists.{MemoryAt, memory_at}
-use Rattle.rv_meaning.specs.Meaning.{content, is_there, kept_place}
-use Rattle.rv_meaning.specs.Runs.{History, cell, cells, observed, AssertionsHold, IsRun}
+use Rattle.rv_tree.specs.{Tree.ProgramTree, Places.Identifier, Places.Sites, Places.index_of, Delays.Delay, Delays.node_delays}
+use Rattle.rv_types.specs.{declared.typed.Clock.TheVariants.Base, Instances.Instance, Instances.clock_in, Instances.IsInstance, Lists.MemoryAt, Lists.memory_at}
+use Rattle.rv_meaning.specs.{Meaning.content, Meaning.is_there, Meaning.kept_place, Runs.History, Runs.cell, Runs.cells, Runs.observed, Runs.AssertionsHold}
+use Rattle.rv_meaning.specs.{Runs.IsRun, Instants.State as Brought, Instants.IsInstant, Following.held_before, Following.IsStateAt}
 use Rattle.rv_meaning.specs.Runs as runs
-use Rattle.rv_meaning.specs.Instants.{State as Brought, IsInstant}
-use Rattle.rv_meaning.specs.Following.{held_before, IsStateAt}
-use Rattle.rv_flat.specs.declared.flat.Flat.{Flat}
-use Rattle.rv_flat.specs.declared.parts.FlatMemory.{FlatMemory}
-use Rattle.rv_flat.specs.declared.state.State.{State}
 use Rattle.rv_flat.specs.FlatInstants.{Row, is_on_at, memory_items, memory_places, nth, nth_item, places, value_at, IsFlatNext}
-use Rattle.rv_flat.specs.FlatOf.{flat_inputs, flat_state, row_of, IsFlatBroken}
-use Rattle.rv_flat.specs.FlatRuns.{AreStepsOf, IsBrokenAt}
-use Rattle.rv_flat.specs.Lists.{tick_places}
 use Rattle.rv_flat.specs.Steps.{flow, memory, IsFlatStart, IsGrown, IsInRange, IsWithin}
-use Rattle.rv_flat.specs.Systems.{memory_of}
-use Rattle.rv_flat.proofs.Running.{RunIsInstants, StatesOfRun, all_false, same_kept}
-use Rattle.rv_flat.proofs.Typing.{memory_found}
+use Rattle.rv_flat.specs.{declared.flat.Flat.Flat, declared.parts.FlatMemory.FlatMemory, declared.state.State.State, FlatOf.flat_inputs, FlatOf.flat_state}
+use Rattle.rv_flat.specs.{FlatOf.row_of, FlatOf.IsFlatBroken, FlatRuns.AreStepsOf, FlatRuns.IsBrokenAt, Lists.tick_places, Systems.memory_of}
+use Rattle.rv_flat.proofs.{Running.RunIsInstants, Running.StatesOfRun, Running.all_false, Running.same_kept, Typing.memory_found}
 use Rattle.rv_step.specs.Ranges.{is_outside}
-use Rattle.rv_replay.specs.Observers.{IsObserved}
-use Rattle.rv_replay.specs.Replays.{HasOutgrown}
+use Rattle.rv_replay.specs.{Observers.IsObserved, Replays.HasOutgrown}
 use Rattle.rv_replay.specs.Replays as replays
 use Rattle.rv_step.proofs.OneStep.{inside}
 

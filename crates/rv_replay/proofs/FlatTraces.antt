@@ -1,34 +1,19 @@
 -- A trace of a program is one of its flat system, and the other way.
 use Rattle.std.proofs.Common.{◌≡◌, ℕ, zero, suc, ◌<◌, ◌≤◌, Bool, false, List, [], ◌∷◌, map, length, get_or, refl, sym, ◌∙◌, ap, subst, arith, Some, slice_get}
+use Rattle.std.proofs.{lemmas.List.ext_get_or, lemmas.List.get_or-map, lemmas.List.length-map, lemmas.Option.slice_get_within}
 use Rattle.std.specs.List.{Contains}
-use Rattle.std.proofs.lemmas.List.{ext_get_or, get_or-map, length-map}
-use Rattle.std.proofs.lemmas.Option.{slice_get_within}
-use Rattle.rv_base.specs.declared.value.Trace.{Trace}
-use Rattle.rv_base.specs.declared.value.Value.{Value}
-use Rattle.rv_base.specs.declared.value.Value.TheVariants.{Flag}
-use Rattle.rv_tree.specs.Tree.{ProgramTree}
-use Rattle.rv_tree.specs.Places.{Identifier, Sites, index_of}
-use Rattle.rv_types.specs.declared.typed.Kind.{Kind}
-use Rattle.rv_types.specs.Instances.{IsNode, node_of}
-use Rattle.rv_types.specs.Kinds.{decl_kinds, kind_in_program}
-use Rattle.rv_types.specs.Lists.{MemoryAt, memory_at, memory_places}
-use Rattle.rv_types.specs.Values.{HasKind}
-use Rattle.rv_types.specs.WellFormed.{AreWell}
-use Rattle.rv_meaning.specs.Runs.{AreInputs, AreStarts}
-use Rattle.rv_meaning.specs.Instants.{State as Brought, AreGiven}
-use Rattle.rv_flat.specs.declared.flat.Flat.{Flat}
-use Rattle.rv_flat.specs.declared.parts.FlatMemory.{FlatMemory}
-use Rattle.rv_flat.specs.declared.state.State.{State}
-use Rattle.rv_flat.specs.FlatInstants.{tick_clocks}
-use Rattle.rv_flat.specs.FlatInstants as instants
-use Rattle.rv_flat.specs.FlatOf.{first_values, flat_inputs, flat_state, IsFlatOf}
+use Rattle.rv_base.specs.{declared.value.Trace.Trace, declared.value.Value.Value, declared.value.Value.TheVariants.Flag}
+use Rattle.rv_tree.specs.{Tree.ProgramTree, Places.Identifier, Places.Sites, Places.index_of}
+use Rattle.rv_types.specs.{declared.typed.Kind.Kind, Instances.IsNode, Instances.node_of, Kinds.decl_kinds, Kinds.kind_in_program, Lists.MemoryAt}
+use Rattle.rv_types.specs.{Lists.memory_at, Lists.memory_places, Values.HasKind, WellFormed.AreWell}
+use Rattle.rv_meaning.specs.{Runs.AreInputs, Runs.AreStarts, Instants.State as Brought, Instants.AreGiven}
 use Rattle.rv_flat.specs.Steps.{AreValues, IsInRange, IsState, input_kinds, memory_kinds}
-use Rattle.rv_flat.specs.Systems.{memory_of}
-use Rattle.rv_flat.proofs.TickList.{number_at}
-use Rattle.rv_flat.proofs.Typing.{length-values, memory_kth, value_kth}
+use Rattle.rv_flat.specs.{declared.flat.Flat.Flat, declared.parts.FlatMemory.FlatMemory, declared.state.State.State, FlatInstants.tick_clocks}
+use Rattle.rv_flat.specs.{FlatOf.first_values, FlatOf.flat_inputs, FlatOf.flat_state, FlatOf.IsFlatOf, Systems.memory_of}
+use Rattle.rv_flat.specs.FlatInstants as instants
+use Rattle.rv_flat.proofs.{TickList.number_at, Typing.length-values, Typing.memory_kth, Typing.value_kth}
 use Rattle.rv_replay.specs.Traces.{Fixes, IsFlatTrace, IsTrace, given, kinds_of}
-use Rattle.rv_replay.proofs.Observers.{InputsOfProgram, StatesOfProgram}
-use Rattle.rv_replay.proofs.Orders.{one_listing}
+use Rattle.rv_replay.proofs.{Observers.InputsOfProgram, Observers.StatesOfProgram, Orders.one_listing}
 use Rattle.rv_flatten.proofs.CountedVariables.{placed}
 
 abbrev pub StatesOfFlat : Type 0

@@ -4,28 +4,17 @@ use Rattle.std.proofs.Common.{None as Nothing}
 use Rattle.std.proofs.lemmas.List.{get_or-map, length-map}
 use Rattle.rv_base.specs.declared.value.Value.{Value}
 use Rattle.rv_base.specs.declared.value.Value.TheVariants.{Flag, Label, Whole}
-use Rattle.rv_tree.specs.Tree.{ProgramTree}
-use Rattle.rv_tree.specs.Places.{Identifier, Sites, site_of}
-use Rattle.rv_types.specs.declared.typed.Kind.{Kind}
-use Rattle.rv_types.specs.declared.typed.Kind.TheVariants as kind
-use Rattle.rv_types.specs.declared.typed.Clock.{Clock}
-use Rattle.rv_types.specs.declared.typed.Clock.TheVariants.{Base}
-use Rattle.rv_types.specs.Clocks.{clock_at}
+use Rattle.rv_tree.specs.{Tree.ProgramTree, Places.Identifier, Places.Sites, Places.site_of}
 use Rattle.rv_types.specs.Instances.{Instance, absolute, clock_of, main_instance, node_of, place, is_main, IsNode}
-use Rattle.rv_types.specs.Kinds.{decl_kinds, flow_kinds, kind_in_program}
-use Rattle.rv_types.specs.Needs.{IsSequence}
-use Rattle.rv_types.specs.Scopes.{is_observer}
-use Rattle.rv_types.specs.Values.{HasKind}
-use Rattle.rv_types.specs.WellFormed.{AreWell}
-use Rattle.rv_meaning.specs.Runs.{Instant, cell, observer_place, AreStarts}
-use Rattle.rv_meaning.specs.Instants.{State as Brought, is_on_in, AreGiven, IsInstant}
-use Rattle.rv_meaning.specs.Following.{IsTypedInstant}
+use Rattle.rv_types.specs.{declared.typed.Kind.Kind, declared.typed.Clock.Clock, declared.typed.Clock.TheVariants.Base, Clocks.clock_at, Kinds.decl_kinds}
+use Rattle.rv_types.specs.{Kinds.flow_kinds, Kinds.kind_in_program, Needs.IsSequence, Scopes.is_observer, Values.HasKind, WellFormed.AreWell}
+use Rattle.rv_types.specs.declared.typed.Kind.TheVariants as kind
+use Rattle.rv_meaning.specs.{Runs.Instant, Runs.cell, Runs.observer_place, Runs.AreStarts, Instants.State as Brought, Instants.is_on_in, Instants.AreGiven}
+use Rattle.rv_meaning.specs.{Instants.IsInstant, Following.IsTypedInstant}
 use Rattle.rv_meaning.proofs.FlowSites.{FlowAt, flow_at, output_base, output_kind}
-use Rattle.rv_flat.specs.declared.flat.Flat.{Flat}
-use Rattle.rv_flat.specs.declared.state.State.{State}
 use Rattle.rv_flat.specs.FlatInstants.{Row, nth, places, IsFlatInstant}
 use Rattle.rv_flat.specs.FlatOf.{flat_inputs, flat_state, instant_of, IsFlatOf}
-use Rattle.rv_flat.specs.Steps.{AreValues, IsState, input_kinds}
+use Rattle.rv_flat.specs.{declared.flat.Flat.Flat, declared.state.State.State, Steps.AreValues, Steps.IsState, Steps.input_kinds}
 use Rattle.rv_flat.proofs.Running.{within_places}
 use Rattle.rv_replay.specs.Observers.{HasTruth, IsObserved}
 use Rattle.rv_flatten.proofs.Assembled.{first_is_flag}

@@ -1,13 +1,10 @@
 -- Places stand in one order, so memories have one list, and there is one least place.
 use Rattle.std.proofs.Common.{◌≡◌, ◌⊎◌, inl, inr, suc, ◌<◌, List, [], ◌∷◌, length, refl, sym, subst, arith}
+use Rattle.std.proofs.{lemmas.Bool.cases_order, lemmas.List.length-map}
 use Rattle.std.specs.List.{Contains}
-use Rattle.std.proofs.lemmas.Bool.{cases_order}
-use Rattle.std.proofs.lemmas.List.{length-map}
 use Rattle.rv_base.specs.declared.value.Place.{Place}
-use Rattle.rv_tree.specs.Tree.{ProgramTree}
-use Rattle.rv_tree.specs.Places.{Identifier, Sites}
-use Rattle.rv_types.specs.Lists.{MemoryAt, AreMemories, AreRising, IsAny, memory_places}
-use Rattle.rv_types.specs.Needs.{IsBefore}
+use Rattle.rv_tree.specs.{Tree.ProgramTree, Places.Identifier, Places.Sites}
+use Rattle.rv_types.specs.{Lists.MemoryAt, Lists.AreMemories, Lists.AreRising, Lists.IsAny, Lists.memory_places, Needs.IsBefore}
 use Rattle.rv_flat.specs.Steps.{IsLeast}
 use Rattle.rv_flat.proofs.Earliest.{not_itself}
 use Rattle.rv_flatten.proofs.CountedVariables.{placed}

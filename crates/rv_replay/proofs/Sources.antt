@@ -1,37 +1,19 @@
 -- The program of an accepted source is well formed, and its main node has one output, a Boolean one.
-use Rattle.std.proofs.Common.{◌≡◌, Bool, true, false, cond, List, [], ◌∷◌, refl, sym, subst, Option, Some, IsSome, unwrap_or}
-use Rattle.std.proofs.Common.{None as Nothing}
+use Rattle.std.proofs.Common.{◌≡◌, Bool, true, false, cond, List, [], ◌∷◌, refl, sym, subst, Option, Some, IsSome, unwrap_or, None as Nothing}
 use Rattle.std.specs.Prelude.{Result, Err}
 use Rattle.rv_base.specs.declared.value.Trace.{Trace}
-use Rattle.rv_tree.specs.Tree.{NodeTree, ProgramTree}
-use Rattle.rv_tree.specs.Places.{Identifier}
-use Rattle.rv_tree.specs.SourceTrees.{IsSourceTree}
-use Rattle.rv_types.specs.declared.fault.NameFault.{NameFault}
-use Rattle.rv_types.specs.declared.fault.NameFault.TheVariants.{NotObserver}
-use Rattle.rv_types.specs.declared.typed.Typed.{Typed}
-use Rattle.rv_types.specs.Instances.{name_at, no_node, IsNode}
-use Rattle.rv_types.specs.Kinds.{decl_kinds, node_named}
-use Rattle.rv_types.specs.Scopes.{is_observer}
-use Rattle.rv_types.specs.Settled.{IsSettled}
-use Rattle.rv_types.specs.WellFormed.{AreWell}
-use Rattle.rv_instances.specs.declared.answer.Order.{Order}
-use Rattle.rv_instances.specs.Fitting.{Fits}
-use Rattle.rv_flat.specs.declared.flat.Flat.{Flat}
-use Rattle.rv_flat.specs.FlatOf.{IsFlatOf}
-use Rattle.rv_flatten.proofs.GivenParts.{main_name}
-use Rattle.rv_flatten.proofs.MainNames.{is_node}
+use Rattle.rv_tree.specs.{Tree.NodeTree, Tree.ProgramTree, Places.Identifier, SourceTrees.IsSourceTree}
+use Rattle.rv_types.specs.{declared.fault.NameFault.NameFault, declared.fault.NameFault.TheVariants.NotObserver, declared.typed.Typed.Typed, Instances.name_at}
+use Rattle.rv_types.specs.{Instances.no_node, Instances.IsNode, Kinds.decl_kinds, Kinds.node_named, Scopes.is_observer, Settled.IsSettled, WellFormed.AreWell}
+use Rattle.rv_instances.specs.{declared.answer.Order.Order, Fitting.Fits}
+use Rattle.rv_flat.specs.{declared.flat.Flat.Flat, FlatOf.IsFlatOf}
+use Rattle.rv_flatten.proofs.{GivenParts.main_name, MainNames.is_node}
 use Rattle.rv_flat.proofs.Running.{RunIsInstants, StatesOfRun}
-use Rattle.rv_replay.specs.declared.replayed.Replayed.{Replayed}
-use Rattle.rv_replay.specs.declared.replayed.ReplayFault.{ReplayFault}
-use Rattle.rv_replay.specs.declared.replayed.ReplayFault.TheVariants.{Memory}
-use Rattle.rv_replay.specs.Observers.{IsObserved}
-use Rattle.rv_replay.specs.Playing.{AnswersUnlessMemory, IsPlayedOf}
-use Rattle.rv_replay.specs.Replays.{IsReplay, IsUnlessMemory}
-use Rattle.rv_replay.specs.Traces.{IsFlatTrace, IsTrace}
-use Rattle.rv_replay.proofs.Answered.{found, only}
-use Rattle.rv_replay.proofs.Answers.{SomeRun, is_replay, only_replay}
-use Rattle.rv_replay.proofs.FlatSteps.{StepsGiveRun}
-use Rattle.rv_replay.proofs.FlatTraces.{InputsOfFlat, StatesOfFlat, flat_trace}
+use Rattle.rv_replay.specs.{declared.replayed.Replayed.Replayed, declared.replayed.ReplayFault.ReplayFault, declared.replayed.ReplayFault.TheVariants.Memory}
+use Rattle.rv_replay.specs.{Observers.IsObserved, Playing.AnswersUnlessMemory, Playing.IsPlayedOf, Replays.IsReplay, Replays.IsUnlessMemory, Traces.IsFlatTrace}
+use Rattle.rv_replay.specs.{Traces.IsTrace}
+use Rattle.rv_replay.proofs.{Answered.found, Answered.only, Answers.SomeRun, Answers.is_replay, Answers.only_replay, FlatSteps.StepsGiveRun}
+use Rattle.rv_replay.proofs.{FlatTraces.InputsOfFlat, FlatTraces.StatesOfFlat, FlatTraces.flat_trace}
 use Rattle.rv_meaning.proofs.Acceptable.{some_among}
 
 observer_of : (p : ProgramTree) (o : Option NodeTree) → elim o as (λ _. List NameFault)

@@ -1,28 +1,17 @@
 -- One turn of a replay, and its loop.
 use Rattle.std.proofs.Common.{◌≡◌, ℕ, zero, suc, ◌+◌, ◌<◌, ◌≤◌, Bool, true, false, cond, List, [], ◌∷◌, drop, length, get_or, refl, sym, ◌∙◌, ap, subst, arith}
-use Rattle.std.proofs.Common.{Option, Some, slice_get}
-use Rattle.std.proofs.Common.{None as Nothing}
+use Rattle.std.proofs.Common.{Option, Some, slice_get, None as Nothing}
+use Rattle.std.proofs.{lemmas.List.drop_more, lemmas.Option.get_or_from_slice_get, lemmas.Option.slice_get_within}
 use Rattle.std.specs.Prelude.{Result, Ok, Err}
-use Rattle.std.proofs.lemmas.List.{drop_more}
-use Rattle.std.proofs.lemmas.Option.{get_or_from_slice_get, slice_get_within}
-use Rattle.rv_base.specs.declared.value.Place.{Place}
-use Rattle.rv_base.specs.declared.value.Trace.{Trace}
-use Rattle.rv_base.specs.declared.value.Value.{Value}
-use Rattle.rv_base.specs.declared.value.Value.TheVariants.{Flag}
-use Rattle.rv_flat.specs.declared.flat.Flat.{Flat}
-use Rattle.rv_flat.specs.declared.state.State.{State}
-use Rattle.rv_flat.specs.FlatInstants.{is_on, nth}
-use Rattle.rv_flat.specs.FlatOf.{IsFlatBroken}
+use Rattle.rv_base.specs.{declared.value.Place.Place, declared.value.Trace.Trace, declared.value.Value.Value, declared.value.Value.TheVariants.Flag}
 use Rattle.rv_flat.specs.Steps.{AreTaken, IsFlatStart, IsLeastOf}
-use Rattle.rv_step.specs.declared.stepped.Stepped.{Stepped}
-use Rattle.rv_step.specs.Stepping.{IsStepped}
+use Rattle.rv_flat.specs.{declared.flat.Flat.Flat, declared.state.State.State, FlatInstants.is_on, FlatInstants.nth, FlatOf.IsFlatBroken}
+use Rattle.rv_step.specs.{declared.stepped.Stepped.Stepped, Stepping.IsStepped}
 use Rattle.rv_replay.specs.declared.playing.Turn.TheVariants as turn
-use Rattle.rv_replay.specs.declared.replayed.Replayed.{Replayed}
 use Rattle.rv_replay.specs.declared.replayed.Replayed.TheVariants.{Falsified, AssertionFails, NeverFalse}
-use Rattle.rv_replay.specs.declared.replayed.ReplayFault.{ReplayFault}
 use Rattle.rv_replay.specs.declared.replayed.ReplayFault.TheVariants.{Outgrown, Memory}
-use Rattle.rv_replay.specs.Observers.{HasTruth}
 use Rattle.rv_replay.specs.Playing.{AnswersUnlessMemory, IsEnd, IsEndFault, IsPassed, IsPlayed, IsPlayedOf, IsTurn, ends, fails, falsified, goes_on, never}
+use Rattle.rv_replay.specs.{declared.replayed.Replayed.Replayed, declared.replayed.ReplayFault.ReplayFault, Observers.HasTruth}
 
 -- what the observer has, by whether it is on
 its_truth : (o : Option Value) (b : Bool) → ((x : Bool) × (o ≡ Some (Flag x))) → is_on o ≡ b → o ≡ Some (Flag b)

@@ -1,15 +1,9 @@
 -- Flat systems that a replay goes over, and what their observers have.
 use Rattle.std.specs.Prelude.{◌≡◌, Bool, true, Some}
 use Rattle.rv_base.specs.declared.value.Value.TheVariants.{Flag}
-use Rattle.rv_tree.specs.Tree.{ProgramTree}
-use Rattle.rv_tree.specs.Places.{Identifier}
-use Rattle.rv_types.specs.Instances.{IsNode, node_of}
-use Rattle.rv_types.specs.Kinds.{decl_kinds}
-use Rattle.rv_types.specs.Scopes.{is_observer}
-use Rattle.rv_types.specs.WellFormed.{AreWell}
-use Rattle.rv_flat.specs.declared.flat.Flat.{Flat}
-use Rattle.rv_flat.specs.FlatInstants.{Row, nth}
-use Rattle.rv_flat.specs.FlatOf.{IsFlatOf}
+use Rattle.rv_tree.specs.{Tree.ProgramTree, Places.Identifier}
+use Rattle.rv_types.specs.{Instances.IsNode, Instances.node_of, Kinds.decl_kinds, Scopes.is_observer, WellFormed.AreWell}
+use Rattle.rv_flat.specs.{declared.flat.Flat.Flat, FlatInstants.Row, FlatInstants.nth, FlatOf.IsFlatOf}
 
 -- The flat system is that of a well formed program whose main node has one output, a Boolean one.
 pub record IsObserved (program : ProgramTree) (main : Identifier) (f : Flat) : Type 0 where

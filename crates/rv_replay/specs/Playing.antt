@@ -1,21 +1,13 @@
 -- The replay of a trace over a flat system, instant by instant.
 use Rattle.std.specs.Prelude.{◌≡◌, ℕ, ◌+◌, true, false, List, [], ◌∷◌, Some, Result, Ok, Err}
-use Rattle.rv_base.specs.declared.value.Place.{Place}
-use Rattle.rv_base.specs.declared.value.Trace.{Trace}
-use Rattle.rv_base.specs.declared.value.Value.{Value}
-use Rattle.rv_base.specs.declared.value.Value.TheVariants.{Flag}
+use Rattle.rv_base.specs.{declared.value.Place.Place, declared.value.Trace.Trace, declared.value.Value.Value, declared.value.Value.TheVariants.Flag}
 use Rattle.rv_tree.specs.Places.{Sites}
-use Rattle.rv_flat.specs.declared.flat.Flat.{Flat}
-use Rattle.rv_flat.specs.declared.state.State.{State}
-use Rattle.rv_flat.specs.FlatInstants.{Row, nth, IsFlatInstant, IsFlatNext}
-use Rattle.rv_flat.specs.FlatOf.{IsFlatBroken}
-use Rattle.rv_flat.specs.Steps.{IsFlatStart, IsGrown, IsLeast, IsState}
-use Rattle.rv_replay.specs.declared.playing.Turn.{Turn}
+use Rattle.rv_flat.specs.{declared.flat.Flat.Flat, declared.state.State.State, FlatInstants.Row, FlatInstants.nth, FlatInstants.IsFlatInstant}
+use Rattle.rv_flat.specs.{FlatInstants.IsFlatNext, FlatOf.IsFlatBroken, Steps.IsFlatStart, Steps.IsGrown, Steps.IsLeast, Steps.IsState}
 use Rattle.rv_replay.specs.declared.playing.Turn.TheVariants.{Ends, GoesOn}
-use Rattle.rv_replay.specs.declared.replayed.Replayed.{Replayed}
 use Rattle.rv_replay.specs.declared.replayed.Replayed.TheVariants.{Falsified, AssertionFails, NeverFalse}
-use Rattle.rv_replay.specs.declared.replayed.ReplayFault.{ReplayFault}
 use Rattle.rv_replay.specs.declared.replayed.ReplayFault.TheVariants.{Outgrown, Memory}
+use Rattle.rv_replay.specs.{declared.playing.Turn.Turn, declared.replayed.Replayed.Replayed, declared.replayed.ReplayFault.ReplayFault}
 
 module _ (f : Flat) where
   -- The instant with this number, from this state and inputs, ends a replay with this answer.

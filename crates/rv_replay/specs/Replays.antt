@@ -1,24 +1,15 @@
 -- What the replay of a trace answers, by the run that the trace has.
 use Rattle.std.specs.Prelude.{◌≡◌, ℕ, ◌+◌, ◌<◌, ◌≤◌, ◌⊎◌, ℤ, true, length, Some, Result, Ok, Err}
 use Rattle.std.specs.List.{Contains}
-use Rattle.rv_base.specs.declared.value.Place.{Place}
-use Rattle.rv_base.specs.declared.value.Trace.{Trace}
-use Rattle.rv_base.specs.declared.value.Value.{Value}
 use Rattle.rv_base.specs.declared.value.Value.TheVariants.{Flag, Whole}
-use Rattle.rv_tree.specs.Tree.{ProgramTree}
-use Rattle.rv_tree.specs.Places.{Identifier, Sites}
-use Rattle.rv_tree.specs.Delays.{Delay, node_delays}
-use Rattle.rv_types.specs.declared.typed.Clock.TheVariants.{Base}
-use Rattle.rv_types.specs.Instances.{Instance, IsInstance}
-use Rattle.rv_meaning.specs.Meaning.{kept_place, value}
-use Rattle.rv_meaning.specs.Runs.{History, cells, observed, AssertionsHold, Falsifies, IsRun}
-use Rattle.rv_flat.specs.FlatRuns.{IsBrokenAt}
-use Rattle.rv_flat.specs.Steps.{IsLeast, IsWithin}
-use Rattle.rv_replay.specs.declared.replayed.Replayed.{Replayed}
+use Rattle.rv_base.specs.{declared.value.Place.Place, declared.value.Trace.Trace, declared.value.Value.Value}
+use Rattle.rv_tree.specs.{Tree.ProgramTree, Places.Identifier, Places.Sites, Delays.Delay, Delays.node_delays}
+use Rattle.rv_types.specs.{declared.typed.Clock.TheVariants.Base, Instances.Instance, Instances.IsInstance}
+use Rattle.rv_meaning.specs.{Meaning.kept_place, Meaning.value, Runs.History, Runs.cells, Runs.observed, Runs.AssertionsHold, Runs.Falsifies, Runs.IsRun}
+use Rattle.rv_flat.specs.{FlatRuns.IsBrokenAt, Steps.IsLeast, Steps.IsWithin}
 use Rattle.rv_replay.specs.declared.replayed.Replayed.TheVariants.{Falsified, AssertionFails, NeverFalse}
-use Rattle.rv_replay.specs.declared.replayed.ReplayFault.{ReplayFault}
 use Rattle.rv_replay.specs.declared.replayed.ReplayFault.TheVariants.{Outgrown, Memory}
-use Rattle.rv_replay.specs.Traces.{Fixes}
+use Rattle.rv_replay.specs.{declared.replayed.Replayed.Replayed, declared.replayed.ReplayFault.ReplayFault, Traces.Fixes}
 
 module _ (program : ProgramTree) (main : Identifier) where
   -- At an instant of a history the flow at a place has an integer outside the range of traces, or the memory of a `pre` or

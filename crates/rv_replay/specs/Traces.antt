@@ -1,18 +1,9 @@
 -- Traces of a program: which values they have, and the start values and inputs that they fix.
 use Rattle.std.specs.Prelude.{◌≡◌, ℕ, ◌<◌, ◌≤◌, ◌^◌, false, List, [], map, length, Some, slice_get, slice_index_or}
-use Rattle.rv_base.specs.declared.value.Value.{Value}
-use Rattle.rv_base.specs.declared.value.Value.TheVariants.{Flag}
-use Rattle.rv_base.specs.declared.value.Trace.{Trace}
-use Rattle.rv_tree.specs.Tree.{ProgramTree}
-use Rattle.rv_tree.specs.Places.{Identifier, Sites}
-use Rattle.rv_types.specs.declared.typed.Kind.{Kind}
-use Rattle.rv_types.specs.Instances.{node_of}
-use Rattle.rv_types.specs.Kinds.{decl_kinds}
-use Rattle.rv_types.specs.Lists.{MemoryAt, AreMemories, IsAny}
-use Rattle.rv_types.specs.Values.{HasKind}
-use Rattle.rv_flat.specs.declared.flat.Flat.{Flat}
-use Rattle.rv_flat.specs.FlatOf.{first_values}
-use Rattle.rv_flat.specs.Steps.{AreValues, IsInRange, memory_kinds, input_kinds}
+use Rattle.rv_base.specs.{declared.value.Value.Value, declared.value.Value.TheVariants.Flag, declared.value.Trace.Trace}
+use Rattle.rv_tree.specs.{Tree.ProgramTree, Places.Identifier, Places.Sites}
+use Rattle.rv_types.specs.{declared.typed.Kind.Kind, Instances.node_of, Kinds.decl_kinds, Lists.MemoryAt, Lists.AreMemories, Lists.IsAny, Values.HasKind}
+use Rattle.rv_flat.specs.{declared.flat.Flat.Flat, FlatOf.first_values, Steps.AreValues, Steps.IsInRange, Steps.memory_kinds, Steps.input_kinds}
 
 -- One value of each of these types; the integers are from -2^63 to 2^63 - 1.
 pub record AreTyped (program : ProgramTree) (kinds : List Kind) (values : List Value) : Type 0 where

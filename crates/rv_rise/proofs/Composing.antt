@@ -1,24 +1,15 @@
 -- A claim that grows twice, and one that does not grow.
 use Rattle.std.proofs.Common.{◌≡◌, ℕ, ◌+◌, ◌<◌, ◌≤◌, ℤ, ◌≤ℤ◌, Bool, true, false, ◌||◌, List, refl, sym, ap, ◌∙◌, subst, arith, ◌⊎◌, inl, inr, Some, slice_get}
-use Rattle.std.proofs.lemmas.Int.{ints}
-use Rattle.std.proofs.lemmas.Bool.{cases_Bool, cases_lt}
-use Rattle.std.proofs.lemmas.Option.{same_Some}
+use Rattle.std.proofs.{lemmas.Int.ints, lemmas.Bool.cases_Bool, lemmas.Bool.cases_lt, lemmas.Bool.or_parts, lemmas.Option.same_Some}
 use Rattle.rv_diagram.specs.Nodes.{Valuation}
-use Rattle.rv_rows.specs.declared.linear.Row.{Row}
-use Rattle.rv_rows.specs.Rows.{row_at}
+use Rattle.rv_rows.specs.{declared.linear.Row.Row, Rows.row_at}
 use Rattle.rv_seek.specs.Least.{bounded}
-use Rattle.rv_proofs.specs.Systems.{System, updates_of}
-use Rattle.rv_proofs.specs.Scopes.{IsIn}
 use Rattle.rv_proofs.specs.RowClaims.{RowClaim, IsRowTaken, premises_at}
-use Rattle.rv_proofs.specs.declared.report.Case.{Case}
-use Rattle.rv_rise.specs.declared.frame.Frame.{Frame}
-use Rattle.rv_rise.specs.declared.risen.Risen.{Risen}
-use Rattle.rv_rise.specs.Shown.{IsShownAfter}
+use Rattle.rv_proofs.specs.{Systems.System, Systems.updates_of, Scopes.IsIn, declared.report.Case.Case}
 use Rattle.rv_rise.specs.Rounds.{IsKeptRisen, IsHeld, IsAbove, HasGrown, IsInCases, left_of, claim_in}
-use Rattle.rv_rise.proofs.Listing.{IsRowAt, rows_with-has, rows_with-from}
-use Rattle.rv_rise.proofs.Showing.{shown_up}
+use Rattle.rv_rise.specs.{declared.frame.Frame.Frame, declared.risen.Risen.Risen, Shown.IsShownAfter}
+use Rattle.rv_rise.proofs.{Listing.IsRowAt, Listing.rows_with-has, Listing.rows_with-from, Showing.shown_up}
 use Rattle.rv_base.proofs.Truths.{either_then}
-use Rattle.std.proofs.lemmas.Bool.{or_parts}
 
 -- claims above one another
 pub above_same : (c : Risen) → IsAbove c c

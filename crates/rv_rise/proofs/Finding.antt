@@ -2,16 +2,10 @@
 use Rattle.std.proofs.Common.{◌≡◌, ℤ, List, sym, ap, ◌∙◌, subst}
 use Rattle.rv_diagram.specs.declared.frozen.Frozen.{Frozen}
 use Rattle.rv_rows.specs.declared.linear.Row.{Row}
-use Rattle.rv_proofs.specs.Systems.{System}
-use Rattle.rv_proofs.specs.RowClaims.{RowClaim, IsLeastRowClosed}
-use Rattle.rv_proofs.specs.Ranges.{IsControlSet, AreKept}
+use Rattle.rv_proofs.specs.{Systems.System, RowClaims.RowClaim, RowClaims.IsLeastRowClosed, Ranges.IsControlSet, Ranges.AreKept}
 use Rattle.rv_walk.specs.Ends.{has}
-use Rattle.rv_claims.specs.declared.claim.Claim.{Claim}
-use Rattle.rv_claims.specs.Claiming.{claim_of, IsKeptClaim}
-use Rattle.rv_rise.specs.declared.frame.Frame.{Frame}
-use Rattle.rv_rise.specs.declared.risen.Risen.{Risen}
-use Rattle.rv_rise.specs.Sides.{rows_with}
-use Rattle.rv_rise.specs.Rounds.{IsFrameOf, IsLeastRisen, claim_in}
+use Rattle.rv_claims.specs.{declared.claim.Claim.Claim, Claiming.claim_of, Claiming.IsKeptClaim}
+use Rattle.rv_rise.specs.{declared.frame.Frame.Frame, declared.risen.Risen.Risen, Sides.rows_with, Rounds.IsFrameOf, Rounds.IsLeastRisen, Rounds.claim_in}
 use Rattle.rv_rise.proofs.Fitting.{rows_kept}
 
 module _ (s : System) (f : Frame) (thresholds : List ℤ) (x : Risen) (c : Claim) (same : f.thresholds ≡ thresholds) (reached : c.reached ≡ x.reached)

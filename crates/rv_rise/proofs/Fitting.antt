@@ -1,27 +1,16 @@
 -- The premises and the updates of a case, and the numbers of left sides.
-use Rattle.std.proofs.Common.{◌≡◌, ◌≢◌, ℕ, zero, suc, ◌^◌, ◌<◌, ◌≤◌, ℤ, pos, List, [], ◌++◌, length, get_or, All, Option, arith, refl, sym, ap, ◌∙◌, subst}
-use Rattle.std.proofs.Common.{◌⊎◌, inl, inr}
-use Rattle.std.specs.List.{Contains}
-use Rattle.std.specs.Int.RustNames.{unsigned_abs}
-use Rattle.std.proofs.lemmas.Bool.{cases_eq}
-use Rattle.std.proofs.lemmas.Option.{slice_get-get_or}
+use Rattle.std.proofs.Common.{◌≡◌, ◌≢◌, ℕ, zero, suc, ◌^◌, ◌<◌, ◌≤◌, ℤ, pos, List, [], ◌++◌, length, get_or, All, Option, arith, refl, sym, ap, ◌∙◌, subst, ◌⊎◌}
+use Rattle.std.proofs.Common.{inl, inr}
 use Rattle.std.proofs.lemmas.List.Elements.{All-append, All-push, All-weaker, All-nil, All-from_get_or, All-contains, Contains-get_or}
+use Rattle.std.proofs.{lemmas.Bool.cases_eq, lemmas.Option.slice_get-get_or}
+use Rattle.std.specs.{List.Contains, Int.RustNames.unsigned_abs}
 use Rattle.rv_diagram.specs.Nodes.{Valuation}
-use Rattle.rv_rows.specs.declared.linear.Row.{Row}
-use Rattle.rv_rows.specs.declared.linear.Form.{Form}
-use Rattle.rv_rows.specs.Rows.{coefficient, row_at, RowWithin}
-use Rattle.rv_rows.specs.Tight.{Fits}
+use Rattle.rv_rows.specs.{declared.linear.Row.Row, declared.linear.Form.Form, Rows.coefficient, Rows.row_at, Rows.RowWithin, Tight.Fits}
 use Rattle.rv_proofs.specs.Systems.{System, IsSystem, IsUpdate, updates_among}
-use Rattle.rv_proofs.specs.Ranges.{AreKept}
-use Rattle.rv_proofs.specs.RowClaims.{IsUnit, HasOne, HasTwo}
-use Rattle.rv_proofs.specs.Cases.{IsCaseOf}
-use Rattle.rv_proofs.specs.declared.report.Case.{Case}
-use Rattle.rv_proofs.proofs.Rooms.{has_room, stays_small, premise_of_test, premise_of_kept}
-use Rattle.rv_rise.specs.Limits.{AreAmong}
-use Rattle.rv_rise.specs.Shown.{ArePremises, CanMoveAll}
-use Rattle.rv_rise.specs.Sides.{IsSide, AreSides, rows_with}
+use Rattle.rv_proofs.specs.{Ranges.AreKept, RowClaims.IsUnit, RowClaims.HasOne, RowClaims.HasTwo, Cases.IsCaseOf, declared.report.Case.Case}
+use Rattle.rv_proofs.proofs.{Rooms.has_room, Rooms.stays_small, Rooms.premise_of_test, Rooms.premise_of_kept, Claims.updates_long}
+use Rattle.rv_rise.specs.{Limits.AreAmong, Shown.ArePremises, Shown.CanMoveAll, Sides.IsSide, Sides.AreSides, Sides.rows_with}
 use Rattle.rv_rise.proofs.Listing.{IsRowAt, rows_with-from, rows_with-few}
-use Rattle.rv_proofs.proofs.Claims.{updates_long}
 
 abbrev nothing : Row
 nothing = record { coefficients = []; bound = pos 0 }

@@ -1,20 +1,11 @@
 -- Places for images, of which none is there, or which get one.
-use Rattle.std.proofs.Common.{◌≡◌, ℕ, ◌<◌, inl, inr, Bool, true, false, ◌&&◌, List, length, Option, Some, arith, refl, sym, ◌∙◌, ap, subst}
-use Rattle.std.proofs.Common.{None as Nothing}
-use Rattle.std.specs.Prelude.{not, slice_get, slice_index_or, slice_set, IfSome}
-use Rattle.std.specs.Bool.{Decides}
-use Rattle.std.specs.Cmp.Lexicographic.{pointwise}
-use lib.Dec.{eqb}
-use Rattle.std.proofs.lemmas.Bool.{cases_eq}
-use Rattle.std.proofs.lemmas.Bool.Decides.{Decides-eqb}
-use Rattle.std.proofs.lemmas.Slice.Eq.{slice_eq-Decides}
-use Rattle.rv_diagram.specs.declared.Triple.{Triple}
+use Rattle.std.proofs.Common.{◌≡◌, ℕ, ◌<◌, inl, inr, Bool, true, false, ◌&&◌, List, length, Option, Some, arith, refl, sym, ◌∙◌, ap, subst, None as Nothing}
 use Rattle.std.proofs.lemmas.List.{get_or_default, get_or-set_other, get_or-set_same, length-set}
-use Rattle.std.proofs.lemmas.Option.{same_Some}
-use Rattle.rv_diagram.specs.declared.frozen.Frozen.{Frozen}
-use Rattle.rv_proofs.specs.Systems.{System}
-use Rattle.rv_proofs.specs.Cases.{IsImage}
-use Rattle.rv_proofs.specs.declared.report.Case.{Case}
+use Rattle.std.proofs.{lemmas.Bool.cases_eq, lemmas.Bool.Decides.Decides-eqb, lemmas.Slice.Eq.slice_eq-Decides, lemmas.Option.same_Some}
+use Rattle.std.specs.{Prelude.not, Prelude.slice_get, Prelude.slice_index_or, Prelude.slice_set, Prelude.IfSome, Bool.Decides, Cmp.Lexicographic.pointwise}
+use lib.Dec.{eqb}
+use Rattle.rv_diagram.specs.{declared.Triple.Triple, declared.frozen.Frozen.Frozen}
+use Rattle.rv_proofs.specs.{Systems.System, Cases.IsImage, declared.report.Case.Case}
 use Rattle.rv_rise.specs.Imaging.{AreImages, AreNone}
 use Rattle.rv_base.proofs.Truths.{all_three, both_of, of_not_false}
 use Rattle.rv_diagram.proofs.Canon.{same_triple}

@@ -1,24 +1,17 @@
 -- A left side whose columns the updates leave as they are keeps its limit.
-use Rattle.std.proofs.Common.{◌≡◌, ◌≢◌, ℕ, zero, suc, ◌+◌, ◌<◌, ◌≤◌, ℤ, pos, ◌+ℤ◌, ◌-ℤ◌, ◌*ℤ◌, ◌≤ℤ◌, Bool, true, false, List, [], ◌∷◌, ◌++◌, slice_get}
-use Rattle.std.proofs.Common.{length, map, get_or, All, Some, arith, refl, sym, ap, ◌∙◌, subst, ◌⊎◌, inl, inr}
-use Rattle.std.specs.List.{Contains}
-use Rattle.std.proofs.lemmas.Int.{ints}
-use Rattle.std.proofs.lemmas.Bool.{cases_lt, cases_eq}
+use Rattle.std.proofs.Common.{◌≡◌, ◌≢◌, ℕ, zero, suc, ◌+◌, ◌<◌, ◌≤◌, ℤ, pos, ◌+ℤ◌, ◌-ℤ◌, ◌*ℤ◌, ◌≤ℤ◌, Bool, true, false, List, [], ◌∷◌, ◌++◌, slice_get, length}
+use Rattle.std.proofs.Common.{map, get_or, All, Some, arith, refl, sym, ap, ◌∙◌, subst, ◌⊎◌, inl, inr}
 use Rattle.std.proofs.lemmas.List.{get_or_past, get_or-map, get_or_append_left, get_or_push}
 use Rattle.std.proofs.lemmas.Option.{same_Some, slice_get-get_or, get_or_from_slice_get, slice_get_within}
-use Rattle.rv_rows.specs.declared.linear.Row.{Row}
-use Rattle.rv_rows.specs.declared.linear.Form.{Form}
-use Rattle.rv_rows.specs.Rows.{coefficient, row_at, dot}
+use Rattle.std.proofs.{lemmas.Int.ints, lemmas.Bool.cases_lt, lemmas.Bool.cases_eq}
+use Rattle.std.specs.List.{Contains}
 use Rattle.rv_rows.specs.Forms.{number, forms_width, IsSubstituted, CanSubstitute}
-use Rattle.rv_rows.specs.Multipliers.{by_one}
+use Rattle.rv_rows.specs.{declared.linear.Row.Row, declared.linear.Form.Form, Rows.coefficient, Rows.row_at, Rows.dot, Multipliers.by_one}
 use Rattle.rv_rows.proofs.RowLemmas.{dot-none}
-use Rattle.rv_proofs.proofs.Moved.{dot-read, zero_or}
+use Rattle.rv_proofs.proofs.{Moved.dot-read, Moved.zero_or, Rising.points}
 use Rattle.rv_seek.specs.Least.{bounded}
-use Rattle.rv_rise.specs.Shown.{IsShownAfter}
-use Rattle.rv_rise.specs.Limits.{IsLoosened}
-use Rattle.rv_rise.specs.Still.{IsOwn, AreStill, IsStillSide}
+use Rattle.rv_rise.specs.{Shown.IsShownAfter, Limits.IsLoosened, Still.IsOwn, Still.AreStill, Still.IsStillSide}
 use Rattle.rv_cases.proofs.Differing.{no_form}
-use Rattle.rv_proofs.proofs.Rising.{points}
 
 units-here : (n : ℕ) → number n (points n) ≡ pos 1
 unfolding points

@@ -1,17 +1,13 @@
 -- The rows that limits make of left sides.
 use Rattle.std.proofs.Common.{◌≡◌, ℕ, zero, suc, ◌<◌, ◌≤◌, ℤ, List, [], ◌∷◌, ◌++◌, ◌+◌, length, take, Option, Some, slice_get, arith, refl, sym, ap, ◌∙◌, subst}
-use Rattle.std.proofs.Common.{◌⊎◌, inl, inr}
-use Rattle.std.proofs.Common.{None as Nothing}
-use Rattle.std.specs.List.{Contains}
+use Rattle.std.proofs.Common.{◌⊎◌, inl, inr, None as Nothing}
 use Rattle.std.proofs.lemmas.Option.{same_Some, none-some, slice_get_within}
-use Rattle.std.proofs.lemmas.List.{length-take, get_or_past}
-use Rattle.std.proofs.lemmas.Bool.{cases_lt}
 use Rattle.std.proofs.lemmas.List.Elements.{Contains-append_left, Contains-append_right, Contains-append_cases, Contains-push, Contains-push_cases}
-use Rattle.rv_rows.specs.declared.linear.Row.{Row}
-use Rattle.rv_rows.specs.Rows.{row_at}
+use Rattle.std.proofs.{lemmas.List.length-take, lemmas.List.get_or_past, lemmas.Bool.cases_lt}
+use Rattle.std.specs.List.{Contains}
+use Rattle.rv_rows.specs.{declared.linear.Row.Row, Rows.row_at}
 use Rattle.rv_seek.specs.Least.{bounded}
-use Rattle.rv_rise.specs.Limits.{limit_at, AreOwn}
-use Rattle.rv_rise.specs.Sides.{rows_with}
+use Rattle.rv_rise.specs.{Limits.limit_at, Limits.AreOwn, Sides.rows_with}
 use Rattle.rv_base.proofs.Lists.{contains_got, take_push}
 
 -- one side more

@@ -1,42 +1,24 @@
 -- Rounds, and the claim at which they end.
-use Rattle.std.proofs.Common.{◌≡◌, ℕ, ◌+◌, ◌^◌, ◌<◌, ◌≤◌, ℤ, negsuc, ◌≤ℤ◌, ◌<ℤ◌, Bool, true, false, cond, List, [], ◌++◌, length, All, Option, Some}
-use Rattle.std.proofs.Common.{IsTrue, slice_get, arith, lit≤, refl, sym, ap, ◌∙◌, subst, ◌⊎◌, inl, inr}
-use Rattle.std.proofs.Common.{None as Nothing}
-use Rattle.std.specs.List.{Contains}
-use Rattle.std.specs.Int.RustNames.{unsigned_abs}
-use Rattle.std.proofs.lemmas.Int.{ints}
-use Rattle.std.proofs.lemmas.Bool.{cases_lt, cases_Bool}
+use Rattle.std.proofs.Common.{◌≡◌, ℕ, ◌+◌, ◌^◌, ◌<◌, ◌≤◌, ℤ, negsuc, ◌≤ℤ◌, ◌<ℤ◌, Bool, true, false, cond, List, [], ◌++◌, length, All, Option, Some, IsTrue}
+use Rattle.std.proofs.Common.{slice_get, arith, lit≤, refl, sym, ap, ◌∙◌, subst, ◌⊎◌, inl, inr, None as Nothing}
 use Rattle.std.proofs.lemmas.Option.{same_Some, none-some, slice_get_within}
-use Rattle.std.proofs.lemmas.List.{get_or_past, append-nil}
-use Rattle.std.proofs.lemmas.List.Elements.{All-nil, All-contains}
-use Rattle.rv_diagram.specs.Nodes.{Valuation}
-use Rattle.rv_diagram.specs.declared.frozen.Frozen.{Frozen}
-use Rattle.rv_rows.specs.declared.linear.Row.{Row}
-use Rattle.rv_rows.specs.Rows.{row_at}
-use Rattle.rv_rows.specs.Tight.{Fits}
-use Rattle.rv_rows.specs.Multipliers.{AreShutAtOnce}
+use Rattle.std.proofs.{lemmas.Int.ints, lemmas.Bool.cases_lt, lemmas.Bool.cases_Bool, lemmas.List.get_or_past, lemmas.List.append-nil}
+use Rattle.std.proofs.{lemmas.List.Elements.All-nil, lemmas.List.Elements.All-contains}
+use Rattle.std.specs.{List.Contains, Int.RustNames.unsigned_abs}
+use Rattle.rv_diagram.specs.{Nodes.Valuation, declared.frozen.Frozen.Frozen}
+use Rattle.rv_rows.specs.{declared.linear.Row.Row, Rows.row_at, Tight.Fits, Multipliers.AreShutAtOnce}
 use Rattle.rv_seek.specs.Least.{bounded}
 use Rattle.rv_proofs.specs.Systems.{System, IsSystem, HasSameState, rows_of, updates_of}
-use Rattle.rv_proofs.specs.Scopes.{IsIn}
-use Rattle.rv_proofs.specs.Ranges.{AreKept}
 use Rattle.rv_proofs.specs.RowClaims.{RowClaim, HasOne, HasTwo, IsCandidate, IsRowClaim, IsRowTaken, IsRowClosed, HasTighter, premises_at}
-use Rattle.rv_proofs.specs.Cases.{AreCases, IsInitialSet}
-use Rattle.rv_proofs.specs.declared.report.Case.{Case}
+use Rattle.rv_proofs.specs.{Scopes.IsIn, Ranges.AreKept, Cases.AreCases, Cases.IsInitialSet, declared.report.Case.Case}
 use Rattle.rv_proofs.proofs.ControlReads.{control_same}
 use Rattle.rv_walk.specs.Ends.{has}
 use Rattle.rv_claims.specs.Order.{IsBelowClosed}
-use Rattle.rv_rise.specs.declared.frame.Frame.{Frame}
-use Rattle.rv_rise.specs.declared.risen.Risen.{Risen}
-use Rattle.rv_rise.specs.declared.rounds.Others.{Others}
-use Rattle.rv_rise.specs.Orders.{IsLeastAbove}
-use Rattle.rv_rise.specs.Shown.{IsShownAfter}
-use Rattle.rv_rise.specs.Limits.{limit_at, AreFirst}
-use Rattle.rv_rise.specs.Sides.{rows_with}
-use Rattle.rv_rise.specs.Rounds.{IsFrameOf, IsSetting, IsHeld, IsKeptRisen, HasGrown, IsCaseIn, IsInCases, IsRising, IsRound, AreOthers, IsLeastRisen}
-use Rattle.rv_rise.specs.Rounds.{left_of, claim_in}
-use Rattle.rv_rise.proofs.Listing.{IsRowAt, rows_with-has, rows_with-from, rows_with-different}
-use Rattle.rv_rise.proofs.Fitting.{rows_kept}
-use Rattle.rv_rise.proofs.Composing.{held_above}
+use Rattle.rv_rise.specs.Rounds.{IsFrameOf, IsSetting, IsHeld, IsKeptRisen, HasGrown, IsCaseIn, IsInCases, IsRising, IsRound, AreOthers, IsLeastRisen, left_of}
+use Rattle.rv_rise.specs.Rounds.{claim_in}
+use Rattle.rv_rise.specs.{declared.frame.Frame.Frame, declared.risen.Risen.Risen, declared.rounds.Others.Others, Orders.IsLeastAbove, Shown.IsShownAfter}
+use Rattle.rv_rise.specs.{Limits.limit_at, Limits.AreFirst, Sides.rows_with}
+use Rattle.rv_rise.proofs.{Listing.IsRowAt, Listing.rows_with-has, Listing.rows_with-from, Listing.rows_with-different, Fitting.rows_kept, Composing.held_above}
 use Rattle.rv_walk.proofs.Stages.{rest_from, rest_parts}
 use Rattle.rv_base.proofs.Truths.{clash}
 use Rattle.rv_diagram.proofs.Several.{same_truth}

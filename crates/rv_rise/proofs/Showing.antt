@@ -1,21 +1,12 @@
 -- What premises show at once, and the least bound of a pair.
 use Rattle.std.proofs.Common.{◌≡◌, ℕ, ◌+◌, ◌-◌, ◌++◌, ◌^◌, ◌<◌, ◌≤◌, ℤ, pos, negsuc, ◌+ℤ◌, ◌-ℤ◌, ◌≤ℤ◌, ◌<ℤ◌, Bool, true, false, List, [], length, map, All}
-use Rattle.std.proofs.Common.{Option, Some, arith, refl, sym, ap, ◌∙◌, subst, ◌⊎◌, inl, inr}
-use Rattle.std.proofs.Common.{None as Nothing}
-use Rattle.std.specs.Prelude.{MatchBool, IsSomeAnd}
-use Rattle.std.specs.Int.RustNames.{unsigned_abs}
-use Rattle.std.proofs.lemmas.Int.{ints}
-use Rattle.std.proofs.lemmas.Bool.{cases_lt}
-use Rattle.std.proofs.lemmas.List.{get_or_past, get_or-append_right, get_or-append-add}
-use Rattle.rv_rows.specs.declared.linear.Row.{Row}
-use Rattle.rv_rows.specs.declared.linear.Form.{Form}
-use Rattle.rv_rows.specs.Rows.{coefficient, row_at, dot, RowWithin}
-use Rattle.rv_rows.specs.Forms.{IsSubstituted}
+use Rattle.std.proofs.Common.{Option, Some, arith, refl, sym, ap, ◌∙◌, subst, ◌⊎◌, inl, inr, None as Nothing}
+use Rattle.std.proofs.{lemmas.Int.ints, lemmas.Bool.cases_lt, lemmas.List.get_or_past, lemmas.List.get_or-append_right, lemmas.List.get_or-append-add}
+use Rattle.std.specs.{Prelude.MatchBool, Prelude.IsSomeAnd, Int.RustNames.unsigned_abs}
 use Rattle.rv_rows.specs.Multipliers.{ShowsAtOnce, AreShutAtOnce, by_none, by_one, by_two}
+use Rattle.rv_rows.specs.{declared.linear.Row.Row, declared.linear.Form.Form, Rows.coefficient, Rows.row_at, Rows.dot, Rows.RowWithin, Forms.IsSubstituted}
 use Rattle.rv_rows.proofs.RowLemmas.{bound_within}
-use Rattle.rv_seek.specs.declared.least.Best.{Best}
-use Rattle.rv_seek.specs.Pairs.{PairShows}
-use Rattle.rv_seek.specs.Least.{IsLeast, IsLeastAmong, PairSums, bounded}
+use Rattle.rv_seek.specs.{declared.least.Best.Best, Pairs.PairShows, Least.IsLeast, Least.IsLeastAmong, Least.PairSums, Least.bounded}
 use Rattle.rv_seek.proofs.PairLemmas.{pair_from}
 use Rattle.rv_rise.specs.Shown.{IsShownAfter, AreOthersOpen, IsLeastShown, IsKeptAlone, IsNeeded}
 

@@ -1,44 +1,23 @@
 -- What a case does to a claim.
-use Rattle.std.proofs.Common.{◌≡◌, ℕ, ◌<◌, ◌≤◌, ℤ, ◌≤ℤ◌, Bool, true, false, ◌||◌, List, ◌++◌, length, Option, Some, IsTrue}
-use Rattle.std.proofs.Common.{arith, refl, sym, ap, ◌∙◌, subst, ◌⊎◌, inl, inr}
-use Rattle.std.proofs.Common.{None as Nothing}
+use Rattle.std.proofs.Common.{◌≡◌, ℕ, ◌<◌, ◌≤◌, ℤ, ◌≤ℤ◌, Bool, true, false, ◌||◌, List, ◌++◌, length, Option, Some, IsTrue, arith, refl, sym, ap, ◌∙◌, subst}
+use Rattle.std.proofs.Common.{◌⊎◌, inl, inr, None as Nothing}
+use Rattle.std.proofs.{lemmas.Bool.cases_lt, lemmas.Bool.cases_Bool, lemmas.Bool.or_parts, lemmas.Option.none-some, lemmas.List.get_or_past}
 use Rattle.std.specs.List.{Contains}
-use Rattle.std.proofs.lemmas.Bool.{cases_lt, cases_Bool}
-use Rattle.std.proofs.lemmas.Option.{none-some}
-use Rattle.std.proofs.lemmas.List.{get_or_past}
-use Rattle.rv_diagram.specs.Nodes.{Valuation}
-use Rattle.rv_diagram.specs.declared.frozen.Frozen.{Frozen}
-use Rattle.rv_rows.specs.declared.linear.Row.{Row}
-use Rattle.rv_rows.specs.declared.linear.Form.{Form}
-use Rattle.rv_rows.specs.Rows.{row_at}
-use Rattle.rv_rows.specs.Forms.{IsSubstituted}
+use Rattle.rv_diagram.specs.{Nodes.Valuation, declared.frozen.Frozen.Frozen}
 use Rattle.rv_rows.specs.Multipliers.{AreShutAtOnce, ShowsAtOnce}
+use Rattle.rv_rows.specs.{declared.linear.Row.Row, declared.linear.Form.Form, Rows.row_at, Forms.IsSubstituted}
 use Rattle.rv_seek.specs.Least.{bounded}
 use Rattle.rv_proofs.specs.Systems.{System, IsSystem, HasSameState, updates_of}
-use Rattle.rv_proofs.specs.Scopes.{IsIn}
-use Rattle.rv_proofs.specs.Ranges.{IsControlSet}
 use Rattle.rv_proofs.specs.RowClaims.{RowClaim, IsRowClaim, IsRowTaken, IsRowClosed, HasTighter, IsRowTighter, premises_at}
-use Rattle.rv_proofs.specs.Cases.{IsImage, AreCases}
-use Rattle.rv_proofs.specs.declared.report.Case.{Case}
-use Rattle.rv_proofs.proofs.CaseRows.{case_rows}
-use Rattle.rv_walk.specs.Ends.{has}
-use Rattle.rv_walk.specs.Walks.{missing}
+use Rattle.rv_proofs.specs.{Scopes.IsIn, Ranges.IsControlSet, Cases.IsImage, Cases.AreCases, declared.report.Case.Case}
+use Rattle.rv_proofs.proofs.{CaseRows.case_rows, RowTighter.claim-shows, RowTighter.claim-taken}
+use Rattle.rv_walk.specs.{Ends.has, Walks.missing}
 use Rattle.rv_claims.specs.Order.{IsBelowClosed}
-use Rattle.rv_rise.specs.declared.frame.Frame.{Frame}
-use Rattle.rv_rise.specs.declared.risen.Risen.{Risen}
-use Rattle.rv_rise.specs.declared.limits.Loosened.{Loosened}
-use Rattle.rv_rise.specs.Shown.{IsShownAfter}
-use Rattle.rv_rise.specs.Limits.{limit_at, AreLoosened, AreAmong, HasChanged, room}
-use Rattle.rv_rise.specs.Sides.{rows_with}
-use Rattle.rv_rise.specs.Opening.{IsOpened}
 use Rattle.rv_rise.specs.Rounds.{IsFrameOf, IsSetting, IsHeld, IsKeptRisen, IsAbove, HasGrown, HasTaken, IsCaseIn, IsInCases, left_of, claim_in}
-use Rattle.rv_rise.proofs.Listing.{IsRowAt, rows_with-has, rows_with-from}
-use Rattle.rv_rise.proofs.Loosening.{changed_le}
-use Rattle.rv_rise.proofs.Composing.{above_same}
-use Rattle.rv_rise.proofs.Showing.{shown_right}
-use Rattle.rv_proofs.proofs.RowTighter.{claim-shows, claim-taken}
+use Rattle.rv_rise.specs.{declared.frame.Frame.Frame, declared.risen.Risen.Risen, declared.limits.Loosened.Loosened, Shown.IsShownAfter, Limits.limit_at}
+use Rattle.rv_rise.specs.{Limits.AreLoosened, Limits.AreAmong, Limits.HasChanged, Limits.room, Sides.rows_with, Opening.IsOpened}
+use Rattle.rv_rise.proofs.{Listing.IsRowAt, Listing.rows_with-has, Listing.rows_with-from, Loosening.changed_le, Composing.above_same, Showing.shown_right}
 use Rattle.rv_base.proofs.Truths.{either_then}
-use Rattle.std.proofs.lemmas.Bool.{or_parts}
 
 -- limits stay among the thresholds
 pub loosened_among : (thresholds : List ℤ) (rows : List Row) (forms : List Form) (sides : List Row) (old new : List (Option ℤ))

@@ -1,13 +1,9 @@
 -- Left sides that are added to a table.
 use Rattle.std.proofs.Common.{◌≡◌, ◌≢◌, ℕ, ◌+◌, ◌*◌, ◌<◌, ◌≤◌, ℤ, pos, negsuc, List, [], ◌∷◌, length, get_or, arith, refl, sym, ap, ◌∙◌, subst, ◌⊎◌, inl, inr}
-use Rattle.std.proofs.Math.Nat.{mul-le-mul}
-use Rattle.std.proofs.lemmas.Int.{ints}
-use Rattle.std.proofs.lemmas.Bool.{cases_lt, cases_eq}
 use Rattle.std.proofs.lemmas.List.{length_push, get_or_push, get_or_append_left, ext_get_or, get_or_past}
-use Rattle.rv_rows.specs.declared.linear.Row.{Row}
-use Rattle.rv_rows.specs.Rows.{coefficient, row_at}
-use Rattle.rv_proofs.specs.Systems.{System}
-use Rattle.rv_proofs.specs.RowClaims.{IsUnit, HasOne, HasTwo}
+use Rattle.std.proofs.{Math.Nat.mul-le-mul, lemmas.Int.ints, lemmas.Bool.cases_lt, lemmas.Bool.cases_eq}
+use Rattle.rv_rows.specs.{declared.linear.Row.Row, Rows.coefficient, Rows.row_at}
+use Rattle.rv_proofs.specs.{Systems.System, RowClaims.IsUnit, RowClaims.HasOne, RowClaims.HasTwo}
 use Rattle.rv_rise.specs.Sides.{IsSide, AreSides}
 use Rattle.rv_rise.specs.Table.{IsPattern, IsAdded, AreBothAdded, IsPlace, column_places, pair_places, IsListed, IsTableOf}
 

@@ -1,6 +1,5 @@
 -- The least threshold that is not below a value.
-use Rattle.std.specs.Prelude.{ℤ, ◌≤ℤ◌, ◌<ℤ◌, List, Option, IfSome, IfNone}
-use Rattle.std.specs.List.{Contains}
+use Rattle.std.specs.{Prelude.ℤ, Prelude.◌≤ℤ◌, Prelude.◌<ℤ◌, Prelude.List, Prelude.Option, Prelude.IfSome, Prelude.IfNone, List.Contains}
 
 -- The least of the thresholds that is not below the value, or none where all are below it.
 pub record IsLeastAbove (thresholds : List ℤ) (x : ℤ) (bound : Option ℤ) : Type 0 where

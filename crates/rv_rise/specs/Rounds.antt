@@ -1,29 +1,17 @@
 -- Rounds over the cases of a claim's control states, each of which loosens the claim.
 use Rattle.std.specs.Prelude.{◌≡◌, ◌⊎◌, ℕ, ◌+◌, ◌<◌, ◌≤◌, ◌^◌, ℤ, ◌≤ℤ◌, List, ◌++◌, length, All, Bool, true, false, not, ◌&&◌, ◌||◌, Some, IsTrue, slice_get}
-use Rattle.std.specs.List.{Contains}
-use Rattle.std.specs.Int.RustNames.{unsigned_abs}
-use Rattle.rv_diagram.specs.Nodes.{Valuation, Diagrams}
-use Rattle.rv_diagram.specs.declared.frozen.Frozen.{Frozen}
+use Rattle.std.specs.{List.Contains, Int.RustNames.unsigned_abs}
+use Rattle.rv_diagram.specs.{Nodes.Valuation, Nodes.Diagrams, declared.frozen.Frozen.Frozen}
 use Rattle.rv_rows.specs.declared.linear.Row.{Row}
-use Rattle.rv_proofs.specs.Systems.{System, rows_of, updates_of}
-use Rattle.rv_proofs.specs.Scopes.{IsIn}
-use Rattle.rv_proofs.specs.Ranges.{IsControlSet, AreKept}
 use Rattle.rv_proofs.specs.RowClaims.{RowClaim, IsRowTaken, IsRowClosed, IsLeastRowClosed, premises_at}
-use Rattle.rv_proofs.specs.Cases.{IsCaseOf, AreCases, IsInitialSet}
-use Rattle.rv_proofs.specs.declared.report.Case.{Case}
-use Rattle.rv_symbolic.specs.declared.relation.Relation.{Relation}
-use Rattle.rv_symbolic.specs.Represented.{IsRelationOf}
-use Rattle.rv_cases.specs.declared.asking.Questions.{Questions}
-use Rattle.rv_cases.specs.Questions.{AreQuestions}
-use Rattle.rv_walk.specs.Ends.{has}
-use Rattle.rv_walk.specs.Walks.{missing}
+use Rattle.rv_proofs.specs.{Systems.System, Systems.rows_of, Systems.updates_of, Scopes.IsIn, Ranges.IsControlSet, Ranges.AreKept, Cases.IsCaseOf}
+use Rattle.rv_proofs.specs.{Cases.AreCases, Cases.IsInitialSet, declared.report.Case.Case}
+use Rattle.rv_symbolic.specs.{declared.relation.Relation.Relation, Represented.IsRelationOf}
+use Rattle.rv_cases.specs.{declared.asking.Questions.Questions, Questions.AreQuestions}
+use Rattle.rv_walk.specs.{Ends.has, Walks.missing}
 use Rattle.rv_claims.specs.Order.{IsBelowClosed}
-use Rattle.rv_rise.specs.declared.frame.Frame.{Frame}
-use Rattle.rv_rise.specs.declared.risen.Risen.{Risen}
-use Rattle.rv_rise.specs.declared.rounds.Others.{Others}
-use Rattle.rv_rise.specs.Limits.{AreAmong, limit_at, room}
-use Rattle.rv_rise.specs.Shown.{IsShownAfter}
-use Rattle.rv_rise.specs.Sides.{AreSides, rows_with}
+use Rattle.rv_rise.specs.{declared.frame.Frame.Frame, declared.risen.Risen.Risen, declared.rounds.Others.Others, Limits.AreAmong, Limits.limit_at, Limits.room}
+use Rattle.rv_rise.specs.{Shown.IsShownAfter, Sides.AreSides, Sides.rows_with}
 
 -- The relation and the questions are those of the system in the store.
 pub record IsGiven (s : System) (d : Diagrams) (r : Relation) (q : Questions) : Type 0 where

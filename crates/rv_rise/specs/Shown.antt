@@ -1,11 +1,8 @@
 -- What premises show at once of a left side, before and after updates: the least bound.
 use Rattle.std.specs.Prelude.{◌≡◌, ◌++◌, ◌⊎◌, ℕ, ◌<◌, ◌≤◌, ◌^◌, ℤ, ◌+ℤ◌, ◌≤ℤ◌, List, length, All, Option, IfSome, IsSomeAnd}
 use Rattle.std.specs.Int.RustNames.{unsigned_abs}
-use Rattle.rv_rows.specs.declared.linear.Row.{Row}
-use Rattle.rv_rows.specs.declared.linear.Form.{Form}
-use Rattle.rv_rows.specs.Rows.{row_at, RowWithin}
-use Rattle.rv_rows.specs.Forms.{CanSubstitute, IsSubstituted}
-use Rattle.rv_rows.specs.Multipliers.{ShowsAtOnce, AreShutAtOnce}
+use Rattle.rv_rows.specs.{declared.linear.Row.Row, declared.linear.Form.Form, Rows.row_at, Rows.RowWithin, Forms.CanSubstitute, Forms.IsSubstituted}
+use Rattle.rv_rows.specs.{Multipliers.ShowsAtOnce, Multipliers.AreShutAtOnce}
 use Rattle.rv_seek.specs.Least.{bounded}
 
 -- Premises within the limits of the sums, fewer than 2^32.

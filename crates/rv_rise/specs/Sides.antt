@@ -1,11 +1,8 @@
 -- The left sides of candidates, and the rows that limits make of them.
-use Rattle.std.specs.Prelude.{◌≡◌, ◌⊎◌, ℕ, ◌<◌, ◌≤◌, ℤ, pos, List, [], ◌∷◌, length, Option, Some}
-use Rattle.std.specs.Prelude.{None as Nothing}
-use Rattle.rv_rows.specs.declared.linear.Row.{Row}
-use Rattle.rv_rows.specs.Rows.{row_at}
+use Rattle.std.specs.Prelude.{◌≡◌, ◌⊎◌, ℕ, ◌<◌, ◌≤◌, ℤ, pos, List, [], ◌∷◌, length, Option, Some, None as Nothing}
+use Rattle.rv_rows.specs.{declared.linear.Row.Row, Rows.row_at}
 use Rattle.rv_seek.specs.Least.{bounded}
-use Rattle.rv_proofs.specs.Systems.{System}
-use Rattle.rv_proofs.specs.RowClaims.{HasOne, HasTwo}
+use Rattle.rv_proofs.specs.{Systems.System, RowClaims.HasOne, RowClaims.HasTwo}
 
 -- The left side of a candidate, with the bound 0.
 pub record IsSide (s : System) (r : Row) : Type 0 where

@@ -1,7 +1,6 @@
 -- Columns that updates leave as they are.
 use Rattle.std.specs.Prelude.{◌≡◌, ◌≢◌, ℕ, ℤ, pos, List, length, Bool, true, false, Some, slice_get, slice_index_or}
-use Rattle.rv_rows.specs.declared.linear.Form.{Form}
-use Rattle.rv_rows.specs.Forms.{number}
+use Rattle.rv_rows.specs.{declared.linear.Form.Form, Forms.number}
 
 -- The form is the column by itself.
 pub record IsOwn (k : ℕ) (f : Form) : Type 0 where

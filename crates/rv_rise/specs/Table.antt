@@ -1,7 +1,6 @@
 -- The table of left sides: where a side has its numbers, and which sides stand in a list.
 use Rattle.std.specs.Prelude.{◌≡◌, ◌⊎◌, ℕ, ◌<◌, ◌≤◌, ℤ, pos, negsuc, List, [], ◌∷◌, ◌++◌, length}
-use Rattle.rv_rows.specs.declared.linear.Row.{Row}
-use Rattle.rv_rows.specs.Rows.{coefficient, row_at}
+use Rattle.rv_rows.specs.{declared.linear.Row.Row, Rows.coefficient, Rows.row_at}
 use Rattle.rv_proofs.specs.RowClaims.{IsUnit}
 
 -- The row is over k columns and has one number at a first column and another at a second. Where both are one column it has the other.

@@ -1,22 +1,15 @@
 -- Sums over forms.
 use Rattle.std.proofs.Common.{◌≡◌, ◌↔◌, ℕ, suc, zero, ◌+◌, ◌*◌, ◌≤◌, ◌<◌, ◌^◌, ℤ, pos, ◌+ℤ◌, ◌-ℤ◌, ◌*ℤ◌, ◌≤ℤ◌, List, [], ◌∷◌, ◌++◌, All, map, length, take}
 use Rattle.std.proofs.Common.{get_or, add-one, slice_get, Some, arith, refl, ap, sym, ◌∙◌, ◌⊎◌, inl, inr}
-use Rattle.std.specs.Int.RustNames.{unsigned_abs}
-use Rattle.std.proofs.Math.ListN.{length-append}
 use Rattle.std.proofs.Math.IntN.{*ℤ-zero, zero-*ℤ, +ℤ_assoc}
-use Rattle.std.proofs.lemmas.Int.{ints, unsigned_abs-mul}
-use Rattle.std.proofs.lemmas.Bool.{cases_lt}
-use Rattle.std.proofs.lemmas.List.{length-map}
-use Rattle.std.proofs.lemmas.List.{get_or_past, get_or-map, get_or_append_left, get_or_push}
+use Rattle.std.proofs.lemmas.List.{length-map, get_or_past, get_or-map, get_or_append_left, get_or_push}
 use Rattle.std.proofs.lemmas.List.Elements.{All-head, All-tail, All-map}
-use Rattle.std.proofs.lemmas.Option.{get_or_from_slice_get}
-use Rattle.rv_rows.specs.declared.linear.Row.{Row}
-use Rattle.rv_rows.specs.declared.linear.Form.{Form}
-use Rattle.rv_rows.specs.Rows.{dot, Holds}
+use Rattle.std.proofs.{Math.ListN.length-append, lemmas.Int.ints, lemmas.Int.unsigned_abs-mul, lemmas.Bool.cases_lt, lemmas.Option.get_or_from_slice_get}
+use Rattle.std.specs.Int.RustNames.{unsigned_abs}
 use Rattle.rv_rows.specs.Forms.{number, value, values, IsSubstituted, SumsStay, CanSubstitute, forms_width}
+use Rattle.rv_rows.specs.{declared.linear.Row.Row, declared.linear.Form.Form, Rows.dot, Rows.Holds}
 use Rattle.rv_rows.proofs.IntLemmas.{mul_add, add_mul, mul_assoc_int, abs-product, add_swap}
-use Rattle.rv_rows.proofs.RowLemmas.{dot-cons, get_or-tail, dot-none, tail_of}
-use Rattle.rv_rows.proofs.TightLemmas.{dot-scale}
+use Rattle.rv_rows.proofs.{RowLemmas.dot-cons, RowLemmas.get_or-tail, RowLemmas.dot-none, RowLemmas.tail_of, TightLemmas.dot-scale}
 
 -- one turn of a loop that pushes f of the index
 pub pushed : (f : ℕ → ℤ) (xs : List ℤ) (y : ℤ) (i : ℕ) → length xs ≡ i → ((k : ℕ) → k < i → get_or xs k (pos 0) ≡ f k) → y ≡ f i

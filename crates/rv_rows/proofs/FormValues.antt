@@ -1,13 +1,11 @@
 -- What forms have at a point, and where the rows of tests hold.
 use Rattle.std.proofs.Common.{◌≡◌, ℕ, zero, suc, ◌<◌, ℤ, pos, negsuc, ◌+ℤ◌, ◌-ℤ◌, ◌*ℤ◌, ◌≤ℤ◌, Bool, true, false, List, [], ◌∷◌, get_or, refl, sym, arith}
+use Rattle.std.proofs.{Math.IntN.*ℤ-zero, Math.IntN.zero-*ℤ, lemmas.Int.ints}
 use Rattle.std.specs.Prelude.{int_le}
-use Rattle.std.proofs.Math.IntN.{*ℤ-zero, zero-*ℤ}
-use Rattle.std.proofs.lemmas.Int.{ints}
-use Rattle.rv_rows.specs.declared.linear.Form.{Form}
-use Rattle.rv_rows.specs.Rows.{dot, Holds}
+use Rattle.rv_rows.specs.Arithmetic.{zeros, unit, plus, times, constant_form, column_form, form_sum, form_times, test_row}
+use Rattle.rv_rows.specs.{declared.linear.Form.Form, Rows.dot, Rows.Holds}
 use Rattle.rv_rows.specs.Forms as forms
 use Rattle.rv_rows.proofs.IntLemmas.{mul_add, add_mul, mul_assoc_int}
-use Rattle.rv_rows.specs.Arithmetic.{zeros, unit, plus, times, constant_form, column_form, form_sum, form_times, test_row}
 
 one_times : (x : ℤ) → pos 1 *ℤ x ≡ x
 one_times x = omega (arith, ints)

@@ -1,10 +1,9 @@
 -- Laws of the integers.
 use Rattle.std.proofs.Common.{◌≡◌, FitsSigned, ◌^◌, ℕ, ◌+◌, ◌*◌, ◌≤◌, ◌<◌, ℤ, pos, negsuc, ◌+ℤ◌, ◌-ℤ◌, ◌*ℤ◌, ◌≤ℤ◌, ◌<ℤ◌, arith, ap}
-use borrow.Author.Differences.{up, down, same_in, sum_is_lem, product_is, le_out, lt_out, at_most_in}
 use Rattle.std.proofs.Math.Nat.{mul-le-mul_left}
 use Rattle.std.proofs.lemmas.Int.{ints, by_lt_z, fits_signed_mul, fits_signed_from_abs, unsigned_abs-mul}
-use Rattle.std.specs.Int.RustNames.{unsigned_abs}
-use Rattle.std.specs.Int.{w128}
+use borrow.Author.Differences.{up, down, same_in, sum_is_lem, product_is, le_out, lt_out, at_most_in}
+use Rattle.std.specs.{Int.RustNames.unsigned_abs, Int.w128}
 
 nat_spread : (u v p q a b c d : ℕ) → p + b + d ≡ q + a + c
     → (u * p + v * q) + (u * b + v * a) + (u * d + v * c) ≡ (u * q + v * p) + (u * a + v * b) + (u * c + v * d)

@@ -1,19 +1,13 @@
 -- Sums over rows, and the easy direction of Farkas.
 use Rattle.std.proofs.Common.{◌≡◌, ℕ, ◌+◌, ◌*◌, ◌≤◌, ◌<◌, ◌^◌, ℤ, pos, ◌+ℤ◌, ◌*ℤ◌, ◌≤ℤ◌, ◌<ℤ◌, List, [], ◌∷◌, All, length, drop, get_or, slice_get, None, Some}
 use Rattle.std.proofs.Common.{unwrap_or, Bool, true, false, IsTrue, MatchBool, true≢false, arith, refl, ap, sym, ◌∙◌, ◌⊎◌, inl, inr, add-one, zero-le}
-use Rattle.std.proofs.Math.Nat.{mul-le-mul}
-use Rattle.std.proofs.Math.IntN.{*ℤ-zero, zero-*ℤ, +ℤ_assoc}
-use Rattle.std.proofs.lemmas.Int.{ints, unsigned_abs-mul}
-use Rattle.std.proofs.lemmas.Bool.{cases_lt}
-use Rattle.std.proofs.lemmas.Option.{unwrap_or-slice_get, get_or_from_slice_get}
-use Rattle.std.proofs.lemmas.List.{get_or_past, drop_more}
-use Rattle.std.proofs.lemmas.List.Elements.{All-head, All-tail, All-same}
+use Rattle.std.proofs.{Math.Nat.mul-le-mul, Math.IntN.*ℤ-zero, Math.IntN.zero-*ℤ, Math.IntN.+ℤ_assoc, lemmas.Int.ints, lemmas.Int.unsigned_abs-mul}
+use Rattle.std.proofs.{lemmas.Bool.cases_lt, lemmas.Option.unwrap_or-slice_get, lemmas.Option.get_or_from_slice_get, lemmas.List.get_or_past}
+use Rattle.std.proofs.{lemmas.List.drop_more, lemmas.List.Elements.All-head, lemmas.List.Elements.All-tail, lemmas.List.Elements.All-same}
 use Rattle.std.specs.Int.RustNames.{unsigned_abs}
-use Rattle.rv_rows.specs.declared.linear.Row.{Row}
-use Rattle.rv_rows.specs.declared.farkas.Weight.{Weight}
-use Rattle.rv_rows.specs.declared.farkas.Multipliers.{Multipliers}
 use Rattle.rv_rows.specs.Rows.{dot, Holds, coefficient, row_at, RowWithin}
 use Rattle.rv_rows.specs.Multipliers.{weighted, Sides, Proves, Refutes, Cancels, WeightsWithin, SumsBelow}
+use Rattle.rv_rows.specs.{declared.linear.Row.Row, declared.farkas.Weight.Weight, declared.farkas.Multipliers.Multipliers}
 use Rattle.rv_rows.proofs.IntLemmas.{mul_add, add_mul, mul_assoc_int, mul_mono, below_next, abs-add, add_mono, add_swap, le_lt_trans, not_below_zero}
 
 abbrev pub tail_of : List ℤ → List ℤ

@@ -1,20 +1,13 @@
 -- What tightening a row keeps.
 use Rattle.std.proofs.Common.{◌≡◌, ◌↔◌, ℕ, suc, ◌+◌, ◌*◌, ◌≤◌, ◌<◌, ℤ, pos, negsuc, ◌+ℤ◌, ◌*ℤ◌, ◌≤ℤ◌, ◌<ℤ◌, List, [], ◌∷◌, All, length, get_or, set, slice_get}
 use Rattle.std.proofs.Common.{Some, arith, ap, sym, ◌∙◌, ◌⊎◌, inl, inr}
+use Rattle.std.proofs.Math.Nat.{mul-div_cancel', dvd_trans, dvd-zero, eq-zero_of_zero-dvd}
+use Rattle.std.proofs.{Math.IntN.*ℤ-zero, Math.IntN.neg_ℤ, lemmas.Int.ints, lemmas.Bool.cases_lt, lemmas.List.get_or-set_same, lemmas.List.get_or-set_other}
+use Rattle.std.proofs.{lemmas.List.get_or_past, lemmas.Option.get_or_from_slice_get, lemmas.List.Elements.All-from_get_or}
 use Prim.Native.Nat.{◌∣◌, ◌/◌}
 use borrow.Author.Differences.{up, down, same_in, product_is, neg_is}
-use Rattle.std.specs.Int.{IsGcd}
-use Rattle.std.specs.Int.RustNames.{unsigned_abs}
-use Rattle.std.proofs.Math.Nat.{mul-div_cancel', dvd_trans, dvd-zero, eq-zero_of_zero-dvd}
-use Rattle.std.proofs.Math.IntN.{*ℤ-zero, neg_ℤ}
-use Rattle.std.proofs.lemmas.Int.{ints}
-use Rattle.std.proofs.lemmas.Bool.{cases_lt}
-use Rattle.std.proofs.lemmas.List.{get_or-set_same, get_or-set_other, get_or_past}
-use Rattle.std.proofs.lemmas.Option.{get_or_from_slice_get}
-use Rattle.std.proofs.lemmas.List.Elements.{All-from_get_or}
-use Rattle.rv_rows.specs.declared.linear.Row.{Row}
-use Rattle.rv_rows.specs.Rows.{dot, Holds}
-use Rattle.rv_rows.specs.Tight.{IsCommonDivisor, IsDivided, IsTightened}
+use Rattle.std.specs.{Int.IsGcd, Int.RustNames.unsigned_abs}
+use Rattle.rv_rows.specs.{declared.linear.Row.Row, Rows.dot, Rows.Holds, Tight.IsCommonDivisor, Tight.IsDivided, Tight.IsTightened}
 use Rattle.rv_rows.proofs.IntLemmas.{mul_add, mul_assoc_int, mul_mono, below_next, le_lt_trans}
 use Rattle.rv_rows.proofs.RowLemmas.{dot-cons, get_or-tail, dot-none, tail_of}
 

@@ -1,22 +1,15 @@
 -- Each row has exactly one tightened row.
 use Rattle.std.proofs.Common.{◌≡◌, ℕ, zero, suc, ◌+◌, ◌*◌, ◌/◌, ◌%◌, ◌<◌, ◌≤◌, ℤ, pos, negsuc, ◌+ℤ◌, ◌*ℤ◌, ◌≤ℤ◌, ◌<ℤ◌, List, [], ◌∷◌, map, length, get_or, refl}
 use Rattle.std.proofs.Common.{sym, ◌∙◌, ap, arith, inl, inr, ◌⊎◌, subst, All}
+use Rattle.std.proofs.lemmas.List.Elements.{All-from_get_or, All-nil, All-cons, All-head, All-tail, All-weaker}
+use Rattle.std.proofs.{Math.Nat.dvd_trans, Math.Nat.dvd-zero, Math.Nat.one-dvd, Math.Nat.mul-dvd-mul_left, Math.Nat.dvd_of_mul-dvd-mul_left, Math.IntN.*ℤ-zero}
+use Rattle.std.proofs.{lemmas.Int.ints, lemmas.Int.unsigned_abs-mul, lemmas.Bool.cases_lt, lemmas.Nat.Gcd.IsGcd-from_zero, lemmas.Nat.Gcd.IsGcd-from_mod}
+use Rattle.std.proofs.{lemmas.Nat.Gcd.dvd_antisymm, lemmas.List.length-map, lemmas.List.get_or_past, lemmas.List.get_or-map, lemmas.List.ext_get_or}
 use Prim.Native.Nat.{◌∣◌}
 use borrow.Author.Differences.{up, down, product_is, at_most_in, sum_is_lem}
-use Rattle.std.specs.Int.{IsGcd}
-use Rattle.std.specs.Int.RustNames.{unsigned_abs}
-use Rattle.std.proofs.Math.Nat.{dvd_trans, dvd-zero, one-dvd, mul-dvd-mul_left, dvd_of_mul-dvd-mul_left}
-use Rattle.std.proofs.Math.IntN.{*ℤ-zero}
-use Rattle.std.proofs.lemmas.Int.{ints, unsigned_abs-mul}
-use Rattle.std.proofs.lemmas.Bool.{cases_lt}
-use Rattle.std.proofs.lemmas.Nat.Gcd.{IsGcd-from_zero, IsGcd-from_mod, dvd_antisymm}
-use Rattle.std.proofs.lemmas.List.{length-map, get_or_past, get_or-map, ext_get_or}
-use Rattle.std.proofs.lemmas.List.Elements.{All-from_get_or, All-nil, All-cons, All-head, All-tail, All-weaker}
-use Rattle.rv_rows.specs.declared.linear.Row.{Row}
-use Rattle.rv_rows.specs.Rows.{coefficient}
-use Rattle.rv_rows.specs.Tight.{IsCommonDivisor, IsDivided, IsTightened}
-use Rattle.rv_rows.proofs.TightLemmas.{exact_quotient, antisym}
-use Rattle.rv_rows.proofs.IntLemmas.{mul_add, below_next, le_lt_trans}
+use Rattle.std.specs.{Int.IsGcd, Int.RustNames.unsigned_abs}
+use Rattle.rv_rows.specs.{declared.linear.Row.Row, Rows.coefficient, Tight.IsCommonDivisor, Tight.IsDivided, Tight.IsTightened}
+use Rattle.rv_rows.proofs.{TightLemmas.exact_quotient, TightLemmas.antisym, IntLemmas.mul_add, IntLemmas.below_next, IntLemmas.le_lt_trans}
 
 -- two numbers have a greatest common divisor
 some_gcd : (n a b : ℕ) → b < n → (g : ℕ) × IsGcd a b g

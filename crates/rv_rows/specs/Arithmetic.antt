@@ -1,7 +1,6 @@
 -- Forms of constants and of columns, sums and multiples of forms, and the row that the truth of a test gives.
 use Rattle.std.specs.Prelude.{ℕ, zero, suc, ℤ, pos, negsuc, ◌+ℤ◌, ◌-ℤ◌, ◌*ℤ◌, Bool, true, false, List, [], ◌∷◌, map}
-use Rattle.rv_rows.specs.declared.linear.Row.{Row}
-use Rattle.rv_rows.specs.declared.linear.Form.{Form}
+use Rattle.rv_rows.specs.{declared.linear.Row.Row, declared.linear.Form.Form}
 
 -- so many zeros
 abbrev pub zeros : ℕ → List ℤ

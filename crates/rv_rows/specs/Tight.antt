@@ -1,9 +1,8 @@
 -- What it means to tighten a row, and the limits of a kept row.
 use Rattle.std.specs.Prelude.{◌≡◌, ℕ, ◌<◌, ◌≤◌, ◌^◌, ℤ, pos, ◌+ℤ◌, ◌*ℤ◌, ◌≤ℤ◌, ◌<ℤ◌, List, All, length}
-use Prim.Native.Nat.{◌∣◌}
 use Rattle.std.specs.Int.RustNames.{unsigned_abs}
-use Rattle.rv_rows.specs.declared.linear.Row.{Row}
-use Rattle.rv_rows.specs.Rows.{coefficient}
+use Prim.Native.Nat.{◌∣◌}
+use Rattle.rv_rows.specs.{declared.linear.Row.Row, Rows.coefficient}
 
 -- The greatest common divisor of the coefficients, 0 where all of them are 0.
 pub record IsCommonDivisor (g : ℕ) (cs : List ℤ) : Type 0 where

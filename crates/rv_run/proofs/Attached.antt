@@ -1,18 +1,13 @@
 -- From what a document's bytes do over an accepted source to what the files hold under the name of the document.
 use Rattle.std.proofs.Common.{◌≡◌, ℕ, ◌<◌, ◌≤◌, List, length, sym, ◌∙◌, ap, subst, arith, Option}
-use Rattle.rv_base.specs.Shelf.{Shelf, HoldsUnder}
-use Rattle.rv_base.specs.Limits.{source_limit}
-use Rattle.rv_tree.specs.Tree.{ProgramTree, program_tree}
-use Rattle.rv_tree.specs.Places.{Identifier}
+use Rattle.rv_base.specs.{Shelf.Shelf, Shelf.HoldsUnder, Limits.source_limit}
+use Rattle.rv_tree.specs.{Tree.ProgramTree, Tree.program_tree, Places.Identifier}
 use Rattle.rv_syntax.specs.ProgramText.{IsTextOf}
 use Rattle.rv_types.specs.Instances.{name_at}
 use Rattle.rv_instances.specs.declared.source.Source.{Source}
 use Rattle.rv_source.specs.Sources.{IsSourceOf}
-use Rattle.rv_run.specs.declared.report.Report.{Report}
-use Rattle.rv_run.specs.Answers.{Tells}
-use Rattle.rv_run.specs.Checked.{IsUnlessCut, IsUnlessLimit, SaysOf}
-use Rattle.rv_run.specs.Traced.{IsLongDocument, OnAccepted, file_limit}
-use Rattle.rv_run.specs.declared.words.Task.{Task}
+use Rattle.rv_run.specs.{declared.report.Report.Report, Answers.Tells, Checked.IsUnlessCut, Checked.IsUnlessLimit, Checked.SaysOf, Traced.IsLongDocument}
+use Rattle.rv_run.specs.{Traced.OnAccepted, Traced.file_limit, declared.words.Task.Task}
 use Rattle.rv_run.proofs.Named.{loaded_is, more_under, told_under, under_name}
 use Rattle.rv_run.proofs.Reported.{cut_off, named, told, told_back}
 

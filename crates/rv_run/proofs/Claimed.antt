@@ -1,25 +1,15 @@
 -- All flat systems of a program have a good claim, or none has one; and the same of a probe that falsifies.
 use Rattle.std.proofs.Common.{◌≡◌, ◌⊎◌, inl, inr, ◌≤◌, ℤ, pos, Bool, List, [], ◌∷◌, length, map, refl, sym, ◌∙◌, ap, subst}
-use Rattle.std.specs.Prelude.{replicate}
-use Rattle.std.specs.List.{Contains}
+use Rattle.std.specs.{Prelude.replicate, List.Contains}
 use Rattle.rv_base.specs.declared.value.Trace.{Trace}
-use Rattle.rv_tree.specs.Tree.{ProgramTree}
-use Rattle.rv_tree.specs.Places.{Identifier}
-use Rattle.rv_flat.specs.declared.flat.Flat.{Flat}
-use Rattle.rv_flat.specs.declared.parts.FlatInput.{FlatInput}
-use Rattle.rv_flat.specs.declared.parts.FlatMemory.{FlatMemory}
-use Rattle.rv_flat.specs.FlatOf.{IsFlatOf}
+use Rattle.rv_tree.specs.{Tree.ProgramTree, Places.Identifier}
 use Rattle.rv_flat.specs.Steps.{input_kinds, memory_kinds}
-use Rattle.rv_flat.specs.Systems.{memory_of}
+use Rattle.rv_flat.specs.{declared.flat.Flat.Flat, declared.parts.FlatInput.FlatInput, declared.parts.FlatMemory.FlatMemory, FlatOf.IsFlatOf, Systems.memory_of}
 use Rattle.rv_control.specs.Control.{control_of}
-use Rattle.rv_proofs.specs.Systems.{System}
-use Rattle.rv_proofs.specs.Boxes.{HasGoodBox}
-use Rattle.rv_proofs.specs.RowClaims.{HasGoodRows}
-use Rattle.rv_proofs.specs.Runs.{IsSafeSystem}
+use Rattle.rv_proofs.specs.{Systems.System, Boxes.HasGoodBox, RowClaims.HasGoodRows, Runs.IsSafeSystem}
 use Rattle.rv_probe.specs.Probes.{probe_of, probe_value, probe_within}
 use Rattle.rv_replay.specs.Replays.{IsFalsifiedAt}
-use Rattle.rv_types.specs.Lists.{MemoryAt}
-use Rattle.rv_types.specs.declared.typed.Kind.{Kind}
+use Rattle.rv_types.specs.{Lists.MemoryAt, declared.typed.Kind.Kind}
 use Rattle.rv_run.specs.Programs.{HasGood, HasGoodClaim, HasProbe, LacksGoodClaim, LacksProbe}
 
 pub one_claim : (p : ProgramTree) (m : Identifier) → ((f g : Flat) → IsFlatOf p m f → IsFlatOf p m g → control_of f ≡ control_of g)

@@ -1,21 +1,16 @@
 -- The replies of a command that was cut off, or that is not on a file.
 use Rattle.std.proofs.Common.{◌≡◌, ℕ, ◌+◌, ◌≤◌, ◌<◌, ◌⊎◌, inl, inr, List, length, Option, Some, None, refl, sym, ◌∙◌, ap, subst, arith, IsSomeAnd}
-use Rattle.rv_base.specs.Shelf.{Shelf, HoldsUnder}
+use Rattle.rv_base.specs.{Shelf.Shelf, Shelf.HoldsUnder, Limits.source_limit}
 use Rattle.rv_make.specs.Made.{made_text}
 use Rattle.rv_proofs.specs.declared.certificate.Certificate.{Certificate}
 use Rattle.std.specs.Prelude.{codes}
 use Rattle.rv_meaning.specs.Runs.{IsSafe}
-use Rattle.rv_base.specs.Limits.{source_limit}
 use Rattle.rv_words.specs.Asked.{make, tour}
-use Rattle.rv_run.specs.Words.{Wanted, usual_nodes, wanted_of}
 use Rattle.rv_run.specs.Answers.{OnFile, OnSource, IsNodesReport, IsTold, IsTouredReport, IsVerdict, Tells}
-use Rattle.rv_run.specs.Checked.{IsDocumentAnswer}
 use Rattle.rv_run.specs.Programs.{HasManyVariables, IsCertified, LacksProbe, OnProgram, WithRuns}
-use Rattle.rv_run.specs.Replies.{Replies}
-use Rattle.rv_run.specs.declared.report.Report.{Report}
 use Rattle.rv_run.specs.declared.report.Report.TheVariants.{Safe, Violated, Unknown, Nodes, Accepted, Made, Toured, Refused, TooLong, ReadFault, Usage, Memory}
-use Rattle.rv_run.proofs.Named.{told_under}
-use Rattle.rv_run.proofs.Reported.{cut_memory, cut_read_fault}
+use Rattle.rv_run.specs.{Words.Wanted, Words.usual_nodes, Words.wanted_of, Checked.IsDocumentAnswer, Replies.Replies, declared.report.Report.Report}
+use Rattle.rv_run.proofs.{Named.told_under, Reported.cut_memory, Reported.cut_read_fault}
 
 -- Where the files do not tell what they hold it is free: so a bound on what is held is one on what they tell.
 told_long : (held : Option Shelf) (name bytes : List ℕ) (limit : ℕ) → HoldsUnder held name (λ found. limit < length found) → Tells held name bytes

@@ -1,9 +1,7 @@
 -- What holds of all_from element of a list, and the name of the main node.
 use Rattle.std.proofs.Common.{Bool, true, false, ◌||◌, cond, List, [], ◌∷◌, map, refl, Some, IsTrue, IsSome}
-use Rattle.rv_tree.specs.Tree.{NodeTree, ProgramTree}
-use Rattle.rv_tree.specs.Places.{Identifier, is_among, is_same}
-use Rattle.rv_types.specs.Kinds.{node_among, node_named}
-use Rattle.rv_types.specs.Instances.{IsNode}
+use Rattle.rv_tree.specs.{Tree.NodeTree, Tree.ProgramTree, Places.Identifier, Places.is_among, Places.is_same}
+use Rattle.rv_types.specs.{Kinds.node_among, Kinds.node_named, Instances.IsNode}
 use Rattle.rv_sequence.proofs.NeedsGraph.{all_from}
 
 -- the main node has a name

@@ -1,32 +1,20 @@
 -- What the report on an invariant file says of it, and that no other comes.
 use Rattle.std.proofs.Common.{◌≡◌, ◌⊎◌, inl, inr, ℕ, List, refl, sym, ◌∙◌, ap, subst}
 use Rattle.std.specs.Prelude.{Result, Ok, Err, IfOk, IsErrOf}
-use Rattle.rv_tree.specs.Tree.{ProgramTree}
-use Rattle.rv_tree.specs.Places.{Identifier}
+use Rattle.rv_tree.specs.{Tree.ProgramTree, Places.Identifier}
 use Rattle.rv_diagram.specs.declared.store.StoreFault.{StoreFault}
 use Rattle.rv_diagram.specs.declared.store.StoreFault.TheVariants as store
-use Rattle.rv_flat.specs.declared.flat.Flat.{Flat}
-use Rattle.rv_flat.specs.FlatOf.{IsFlatOf}
+use Rattle.rv_flat.specs.{declared.flat.Flat.Flat, FlatOf.IsFlatOf}
 use Rattle.rv_control.specs.Control.{control_of}
-use Rattle.rv_invfile.specs.Csv.{records_of}
-use Rattle.rv_invfile.specs.Rules.{Rule, done, IsDocument}
-use Rattle.rv_invfile.specs.Faults.{IsFirstFault}
-use Rattle.rv_invfile.specs.Tells.{Explains}
-use Rattle.rv_invfile.specs.declared.fault.FileFault.{FileFault}
 use Rattle.rv_invfile.specs.declared.fault.FileFault.TheVariants.{NotRecords, WrongKind, WrongProgram, BadNumber, Ends, Memory as NoMemory}
+use Rattle.rv_invfile.specs.{Csv.records_of, Rules.Rule, Rules.done, Rules.IsDocument, Faults.IsFirstFault, Tells.Explains, declared.fault.FileFault.FileFault}
 use Rattle.rv_invariant.specs.Certificates.{certificate_rule}
-use Rattle.rv_proofs.specs.Systems.{System}
-use Rattle.rv_proofs.specs.Accepted.{IsAccepted}
-use Rattle.rv_proofs.specs.Runs.{IsSafeSystem}
-use Rattle.rv_proofs.specs.Verdicts.{IsVerdict}
-use Rattle.rv_proofs.specs.declared.certificate.Certificate.{Certificate}
-use Rattle.rv_proofs.specs.declared.verdict.Verdict.{Verdict}
+use Rattle.rv_proofs.specs.{Systems.System, Accepted.IsAccepted, Runs.IsSafeSystem, Verdicts.IsVerdict, declared.certificate.Certificate.Certificate}
+use Rattle.rv_proofs.specs.{declared.verdict.Verdict.Verdict}
 use Rattle.rv_proofs.specs.declared.verdict.Verdict.TheVariants as verdict
-use Rattle.rv_run.specs.declared.report.Report.{Report}
 use Rattle.rv_run.specs.declared.report.Report.TheVariants.{Accepted, Rejected, BadFile, Nodes}
-use Rattle.rv_run.specs.declared.words.Task.TheVariants.{Check}
 use Rattle.rv_run.specs.Checked.{IsAnswerOf, IsInvariantReport, IsLimit, IsUnlessLimit, SaysOfInvariant}
-use Rattle.rv_run.specs.Loaded.{accepted_report, file_report}
+use Rattle.rv_run.specs.{declared.report.Report.Report, declared.words.Task.TheVariants.Check, Loaded.accepted_report, Loaded.file_report}
 
 -- What is so of every flat system of the program.
 abbrev IsSureOfInvariant : Report → List ℕ → ProgramTree → Identifier → Type 0

@@ -1,39 +1,25 @@
 -- A flat system without integers is that of a program without integers, and the other way round.
 use Rattle.std.proofs.Common.{◌≡◌, ℕ, ◌<◌, Bool, true, false, List, [], ◌∷◌, map, length, get_or, refl, sym, ◌∙◌, ap, arith, Some, slice_get}
-use Rattle.std.specs.List.{Contains}
 use Rattle.std.proofs.lemmas.List.{length-map, get_or-map, get_or_default}
-use Rattle.std.proofs.lemmas.List.Elements.{All-contains}
-use Rattle.rv_tree.specs.declared.tree.Decl.{Decl}
-use Rattle.rv_tree.specs.Tree.{ProgramTree}
-use Rattle.rv_tree.specs.Places.{Identifier, flows}
-use Rattle.rv_types.specs.declared.typed.Kind.{Kind}
-use Rattle.rv_types.specs.declared.typed.Kind.TheVariants as kind
-use Rattle.rv_types.specs.Kinds.{decl_kinds, kind_in_program}
-use Rattle.rv_types.specs.Variables.{total, is_integer}
+use Rattle.std.proofs.{lemmas.List.Elements.All-contains, lemmas.Bool.false_from_ne_true, lemmas.Option.slice_get-get_or}
+use Rattle.std.specs.List.{Contains}
+use Rattle.rv_tree.specs.{declared.tree.Decl.Decl, Tree.ProgramTree, Places.Identifier, Places.flows}
 use Rattle.rv_types.specs.Lists.{MemoryAt, memory_at, sides_of, ComparisonAt}
 use Rattle.rv_types.specs.Instances.{Instance, place, node_of, main_instance, IsInstance, is_main, IsNode}
-use Rattle.rv_types.specs.WellFormed.{AreWell}
+use Rattle.rv_types.specs.{declared.typed.Kind.Kind, Kinds.decl_kinds, Kinds.kind_in_program, Variables.total, Variables.is_integer, WellFormed.AreWell}
+use Rattle.rv_types.specs.declared.typed.Kind.TheVariants as kind
 use Rattle.rv_meaning.specs.Integers.{IsControl}
-use Rattle.rv_flat.specs.declared.parts.FlatFlow.{FlatFlow}
-use Rattle.rv_flat.specs.declared.parts.FlatInput.{FlatInput}
-use Rattle.rv_flat.specs.declared.flat.Flat.{Flat}
-use Rattle.rv_flat.specs.Lists.{variable_of}
-use Rattle.rv_flat.specs.FlatInstants.{places}
-use Rattle.rv_flat.specs.FlatOf.{IsFlatOf}
-use Rattle.rv_flat.specs.Systems.{memory_of}
-use Rattle.rv_flat.specs.Steps.{input_kinds}
+use Rattle.rv_flat.specs.{declared.parts.FlatFlow.FlatFlow, declared.parts.FlatInput.FlatInput, declared.flat.Flat.Flat, Lists.variable_of, FlatInstants.places}
+use Rattle.rv_flat.specs.{FlatOf.IsFlatOf, Systems.memory_of, Steps.input_kinds}
 use Rattle.rv_run.specs.Judged.{IsControlSystem}
-use Rattle.rv_run.proofs.NoIntegers.{not_integer}
-use Rattle.rv_run.proofs.Sites.{name_at_site, name_within, input_within, input_kind}
-use Rattle.rv_run.proofs.Weighing.{weight, all_weigh, untested_total, total_untested}
+use Rattle.rv_run.proofs.{NoIntegers.not_integer, Sites.name_at_site, Sites.name_within, Sites.input_within, Sites.input_kind, Weighing.weight}
+use Rattle.rv_run.proofs.{Weighing.all_weigh, Weighing.untested_total, Weighing.total_untested}
 use Rattle.rv_meaning.proofs.Acceptable.{main_in}
 use Rattle.rv_sequence.proofs.NeedsGraph.{all_from}
 use Rattle.rv_tested.proofs.Inside.{integer_kind}
 use Rattle.rv_types.proofs.Members.{in_map}
 use Rattle.rv_base.proofs.Lists.{from_map, within_got}
 use Rattle.rv_flatten.proofs.ComparedParts.{counted_among}
-use Rattle.std.proofs.lemmas.Bool.{false_from_ne_true}
-use Rattle.std.proofs.lemmas.Option.{slice_get-get_or}
 
 module _ (p : ProgramTree) (main : Identifier) (f : Flat) (flat : IsFlatOf p main f) (well : AreWell p) (is_node : IsNode p main) where
   flow_number : (i : Instance) (x : Identifier) → IsInstance p main i → Contains (flows i.node) x

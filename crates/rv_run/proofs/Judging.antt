@@ -1,20 +1,12 @@
 -- From the tests to whether a source is judged and safe.
 use Rattle.std.proofs.Common.{◌≡◌, ℕ, ◌<◌, ◌^◌, length, sym, subst}
 use Rattle.rv_base.specs.declared.value.Value.{Value}
-use Rattle.rv_tree.specs.Tree.{ProgramTree}
-use Rattle.rv_tree.specs.Places.{Identifier, Sites}
-use Rattle.rv_tree.specs.SourceTrees.{IsSourceTree}
-use Rattle.rv_types.specs.declared.typed.Typed.{Typed}
-use Rattle.rv_types.specs.Settled.{IsSettled}
+use Rattle.rv_tree.specs.{Tree.ProgramTree, Places.Identifier, Places.Sites, SourceTrees.IsSourceTree}
 use Rattle.rv_types.specs.Instances.{name_at, IsNode}
-use Rattle.rv_types.specs.Needs.{IsSequence}
-use Rattle.rv_types.specs.WellFormed.{AreWell}
-use Rattle.rv_types.specs.Lists.{sites_of}
-use Rattle.rv_instances.specs.declared.answer.Order.{Order}
-use Rattle.rv_instances.specs.Fitting.{Fits}
+use Rattle.rv_types.specs.{declared.typed.Typed.Typed, Settled.IsSettled, Needs.IsSequence, WellFormed.AreWell, Lists.sites_of}
+use Rattle.rv_instances.specs.{declared.answer.Order.Order, Fitting.Fits}
 use Rattle.rv_meaning.specs.Runs.{History, AreStarts, AreInputs, IsRun}
-use Rattle.rv_flat.specs.declared.flat.Flat.{Flat}
-use Rattle.rv_flat.specs.FlatOf.{IsFlatOf}
+use Rattle.rv_flat.specs.{declared.flat.Flat.Flat, FlatOf.IsFlatOf}
 use Rattle.rv_run.specs.Programs.{WithRuns, HasManyVariables}
 use Rattle.rv_run.proofs.MainNode.{main_named, main_is_node}
 

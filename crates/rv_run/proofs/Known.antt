@@ -1,9 +1,7 @@
 -- What stands in lists, names by their numbers, and the nodes of a well formed program.
 use Rattle.std.specs.List.{Contains}
-use Rattle.rv_tree.specs.Tree.{ProgramTree}
-use Rattle.rv_tree.specs.Places.{Identifier}
-use Rattle.rv_types.specs.Instances.{IsInstance, Instance, is_main, is_callee, IsNode}
-use Rattle.rv_types.specs.WellFormed.{AreWell}
+use Rattle.rv_tree.specs.{Tree.ProgramTree, Places.Identifier}
+use Rattle.rv_types.specs.{Instances.IsInstance, Instances.Instance, Instances.is_main, Instances.is_callee, Instances.IsNode, WellFormed.AreWell}
 use Rattle.rv_meaning.proofs.Acceptable.{main_in, node_of_in}
 
 -- Names.

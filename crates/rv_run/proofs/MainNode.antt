@@ -1,20 +1,11 @@
 -- The main node of a program that keeps every rule.
 use Rattle.std.proofs.Common.{◌≡◌, ◌<◌, Bool, true, false, cond, List, [], ◌∷◌, map, length, refl, sym, ◌∙◌, ap, subst, arith, Option, Some, IsTrue, IsSome}
-use Rattle.std.proofs.Common.{unwrap_or}
-use Rattle.std.proofs.Common.{None as Nothing}
+use Rattle.std.proofs.Common.{unwrap_or, None as Nothing}
 use Rattle.std.proofs.lemmas.List.{length-map}
-use Rattle.rv_tree.specs.declared.tree.Decl.{Decl}
-use Rattle.rv_tree.specs.declared.tree.Name.{Name}
-use Rattle.rv_tree.specs.Tree.{NodeTree, ProgramTree}
-use Rattle.rv_tree.specs.Places.{Identifier, is_among}
-use Rattle.rv_types.specs.declared.fault.NameFault.{NameFault}
-use Rattle.rv_types.specs.declared.fault.NameFault.TheVariants.{NotObserver}
-use Rattle.rv_types.specs.declared.typed.Typed.{Typed}
-use Rattle.rv_types.specs.Names.{texts, node_names}
-use Rattle.rv_types.specs.Kinds.{decl_kinds, node_named}
-use Rattle.rv_types.specs.Scopes.{is_observer}
-use Rattle.rv_types.specs.Settled.{IsSettled, node_number}
+use Rattle.rv_tree.specs.{declared.tree.Decl.Decl, declared.tree.Name.Name, Tree.NodeTree, Tree.ProgramTree, Places.Identifier, Places.is_among}
 use Rattle.rv_types.specs.Instances.{no_node, node_of, name_at, IsNode}
+use Rattle.rv_types.specs.{declared.fault.NameFault.NameFault, declared.fault.NameFault.TheVariants.NotObserver, declared.typed.Typed.Typed, Names.texts}
+use Rattle.rv_types.specs.{Names.node_names, Kinds.decl_kinds, Kinds.node_named, Scopes.is_observer, Settled.IsSettled, Settled.node_number}
 use Rattle.rv_run.proofs.Found.{named_some}
 use Rattle.rv_flatten.proofs.InstanceNumbers.{name_texts}
 use Rattle.rv_instances.proofs.Known.{text_at}

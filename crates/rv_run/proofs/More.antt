@@ -1,22 +1,14 @@
 -- What holds of less holds of more, and what is shown of a report.
 use Rattle.std.proofs.Common.{◌≡◌, ℕ, List, ◌⊎◌, inl, inr, Some, None, Option, refl, IsSomeAnd}
-use Rattle.rv_base.specs.Shelf.{Shelf, HoldsUnder}
-use Rattle.rv_base.specs.declared.value.Trace.{Trace}
-use Rattle.rv_tree.specs.Tree.{ProgramTree}
-use Rattle.rv_tree.specs.Places.{Identifier}
-use Rattle.rv_run.specs.Words.{Wanted}
-use Rattle.rv_run.specs.Answers.{OnFile, OnDocument, IsShown}
+use Rattle.rv_base.specs.{Shelf.Shelf, Shelf.HoldsUnder, declared.value.Trace.Trace}
+use Rattle.rv_tree.specs.{Tree.ProgramTree, Places.Identifier}
 use Rattle.rv_run.specs.Checked.{IsInvariantFault, IsInvariantReport, IsReportOf, SaysOf, SaysOfInvariant}
-use Rattle.rv_run.specs.Traced.{IsFileFault, IsTraceReport, OnAccepted, SaysOfTrace}
-use Rattle.rv_run.specs.declared.words.Task.{Task}
-use Rattle.rv_run.specs.declared.words.Task.TheVariants.{Replay, Check}
+use Rattle.rv_run.specs.{Words.Wanted, Answers.OnFile, Answers.OnDocument, Answers.IsShown, Traced.IsFileFault, Traced.IsTraceReport, Traced.OnAccepted}
+use Rattle.rv_run.specs.{Traced.SaysOfTrace, declared.words.Task.Task, declared.words.Task.TheVariants.Replay, declared.words.Task.TheVariants.Check}
+use Rattle.rv_run.specs.{Printed.shown_of, Programs.OnProgram, Programs.WithRuns, Verdicts.IsDocumentOf, Verdicts.IsInvariantOf, declared.report.Report.Report}
+use Rattle.rv_run.specs.{declared.report.Report.TheVariants.Safe, declared.report.Report.TheVariants.Violated, declared.report.Report.TheVariants.BadFile}
 use Rattle.rv_invfile.specs.declared.fault.FileFault.{FileFault}
-use Rattle.rv_run.specs.Printed.{shown_of}
-use Rattle.rv_run.specs.Programs.{OnProgram, WithRuns}
-use Rattle.rv_run.specs.Verdicts.{IsDocumentOf, IsInvariantOf}
 use Rattle.rv_proofs.specs.declared.certificate.Certificate.{Certificate}
-use Rattle.rv_run.specs.declared.report.Report.{Report}
-use Rattle.rv_run.specs.declared.report.Report.TheVariants.{Safe, Violated, BadFile}
 use Rattle.rv_run.proofs.Named.{more_under}
 
 pub runs_more : (P Q : ProgramTree → Identifier → Type 0) (p : ProgramTree) (m : Identifier) → (P p m → Q p m) → WithRuns P p m → WithRuns Q p m

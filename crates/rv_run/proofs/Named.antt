@@ -2,9 +2,7 @@
 use Rattle.std.proofs.Common.{◌≡◌, ℕ, ◌≤◌, List, length, Some, None, Option, refl, subst, sym, ap, ◌∙◌, IsSomeAnd}
 use Rattle.std.specs.FinMap.{get}
 use Rattle.rv_base.specs.Shelf.{Shelf, HoldsUnder}
-use Rattle.rv_run.specs.Words.{Wanted}
-use Rattle.rv_run.specs.declared.words.Task.{Task}
-use Rattle.rv_run.specs.Answers.{OnFile, OnDocument, Tells, IsTold, IsToldDocument}
+use Rattle.rv_run.specs.{Words.Wanted, declared.words.Task.Task, Answers.OnFile, Answers.OnDocument, Answers.Tells, Answers.IsTold, Answers.IsToldDocument}
 
 -- what is true of bytes is true of equal bytes
 held_too : (found : Option (List ℕ)) (loaded : List ℕ) (limit : ℕ) (P : List ℕ → Type 0)

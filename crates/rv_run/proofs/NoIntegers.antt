@@ -1,16 +1,11 @@
 -- Where no flow, memory or input of a flat system is an integer, and none are compared, its system has none.
 use Rattle.std.proofs.Common.{◌≡◌, ℕ, zero, suc, ◌+◌, false, cond, List, [], ◌∷◌, map, refl, sym, ◌∙◌, ap, arith, Some, slice_get}
 use Rattle.std.specs.List.{All}
-use Rattle.rv_types.specs.declared.typed.Kind.{Kind}
-use Rattle.rv_types.specs.Variables.{is_integer}
+use Rattle.rv_types.specs.{declared.typed.Kind.Kind, Variables.is_integer}
 use Rattle.rv_agreement.specs.Valuations.{whole_count}
-use Rattle.rv_flat.specs.declared.parts.Bit.{Bit}
+use Rattle.rv_flat.specs.{declared.parts.Bit.Bit, declared.parts.FlatInput.FlatInput, declared.parts.FlatMemory.FlatMemory, declared.flat.Flat.Flat}
+use Rattle.rv_flat.specs.{Lists.variable_of, Systems.kept_of}
 use Rattle.rv_flat.specs.declared.parts.Bit.TheVariants as bit
-use Rattle.rv_flat.specs.declared.parts.FlatInput.{FlatInput}
-use Rattle.rv_flat.specs.declared.parts.FlatMemory.{FlatMemory}
-use Rattle.rv_flat.specs.declared.flat.Flat.{Flat}
-use Rattle.rv_flat.specs.Lists.{variable_of}
-use Rattle.rv_flat.specs.Systems.{kept_of}
 use Rattle.rv_proofs.specs.Reached.{HasNoIntegers}
 use Rattle.rv_control.specs.Control.{order_tests, control_of}
 use Rattle.rv_run.specs.Judged.{is_test, IsControlSystem}

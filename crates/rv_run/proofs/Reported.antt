@@ -1,30 +1,22 @@
 -- What a report says of the bytes of a source, and that no other comes.
 use Rattle.std.proofs.Common.{◌≡◌, ◌⊎◌, inl, inr, ℕ, List, refl, sym, ◌∙◌, ap, subst}
-use Rattle.rv_base.specs.declared.value.Place.{Place}
-use Rattle.rv_base.specs.declared.value.Trace.{Trace}
+use Rattle.rv_base.specs.{declared.value.Place.Place, declared.value.Trace.Trace}
 use Rattle.rv_invfile.specs.declared.fault.FileFault.{FileFault}
-use Rattle.rv_proofs.specs.declared.verdict.Reason.{Reason}
-use Rattle.rv_tree.specs.Tree.{ProgramTree, program_tree}
-use Rattle.rv_tree.specs.Places.{Identifier}
+use Rattle.rv_proofs.specs.{declared.verdict.Reason.Reason, declared.certificate.Certificate.Certificate}
+use Rattle.rv_tree.specs.{Tree.ProgramTree, Tree.program_tree, Places.Identifier}
 use Rattle.rv_syntax.specs.ProgramText.{IsTextOf}
-use Rattle.rv_types.specs.declared.typed.Typed.{Typed}
-use Rattle.rv_types.specs.Instances.{name_at}
+use Rattle.rv_types.specs.{declared.typed.Typed.Typed, Instances.name_at}
 use Rattle.rv_instances.specs.declared.source.Source.{Source}
 use Rattle.rv_source.specs.declared.fault.SourceFault.{SourceFault}
 use Rattle.rv_source.specs.declared.fault.SourceFault.TheVariants.{Text, Names, Cause, Memory as NoMemory}
 use Rattle.rv_source.specs.Sources.{IsSource, IsSourceOf, HasSourceCause, AreSame}
-use Rattle.rv_proofs.specs.declared.certificate.Certificate.{Certificate}
-use Rattle.rv_run.specs.Answers.{IsOnSource, IsRefusalUnlessCutOff, IsVerdict}
 use Rattle.rv_run.specs.Checked.{IsAnswerOf, IsDocumentAnswer, IsDocumentReport, IsLimit, IsReportOf, IsUnlessCut, IsUnlessLimit}
-use Rattle.rv_run.specs.declared.words.Task.{Task}
-use Rattle.rv_run.specs.declared.words.Task.TheVariants.{Replay, Check}
-use Rattle.rv_run.specs.Programs.{OnProgram, IsRefusedFor}
-use Rattle.rv_run.specs.Refusals.{refusal_of}
-use Rattle.rv_fixpoint.specs.declared.end.Left.{Left}
-use Rattle.rv_run.specs.declared.report.Report.{Report}
 use Rattle.rv_run.specs.declared.report.Report.TheVariants.{Safe, Violated, Unknown, Nodes, Accepted, Rejected, Falsified, AssertionFails, NeverFalse, Outgrown}
 use Rattle.rv_run.specs.declared.report.Report.TheVariants.{Made, Toured, Refused, BadFile, TooLong, ReadFault, Usage, Memory}
-use Rattle.rv_run.specs.Traced.{IsTraceAnswer, IsTraceReport, IsUnlessNoMemory}
+use Rattle.rv_run.specs.{Answers.IsOnSource, Answers.IsRefusalUnlessCutOff, Answers.IsVerdict, declared.words.Task.Task, declared.words.Task.TheVariants.Replay}
+use Rattle.rv_run.specs.{declared.words.Task.TheVariants.Check, Programs.OnProgram, Programs.IsRefusedFor, Refusals.refusal_of, declared.report.Report.Report}
+use Rattle.rv_run.specs.{Traced.IsTraceAnswer, Traced.IsTraceReport, Traced.IsUnlessNoMemory}
+use Rattle.rv_fixpoint.specs.declared.end.Left.{Left}
 use Rattle.rv_run.proofs.MainNode.{main_named}
 
 -- a refusal is no verdict

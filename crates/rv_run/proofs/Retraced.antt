@@ -1,37 +1,24 @@
 -- What the report on a trace says of it, and that no other comes.
 use Rattle.std.proofs.Common.{◌≡◌, ◌⊎◌, inl, inr, ℕ, ◌<◌, ◌^◌, List, [], length, map, refl, sym, ◌∙◌, ap, subst, arith}
-use Rattle.std.specs.Prelude.{Result, Ok, Err}
 use Rattle.std.proofs.lemmas.List.{length-map}
-use Rattle.rv_base.specs.declared.value.Place.{Place}
-use Rattle.rv_base.specs.declared.value.Trace.{Trace}
-use Rattle.rv_tree.specs.Tree.{ProgramTree}
-use Rattle.rv_tree.specs.Places.{Identifier}
-use Rattle.rv_types.specs.declared.typed.Typed.{Typed}
-use Rattle.rv_types.specs.Instances.{name_at}
-use Rattle.rv_instances.specs.declared.answer.Order.{Order}
-use Rattle.rv_instances.specs.Fitting.{Fits}
-use Rattle.rv_flat.specs.declared.flat.Flat.{Flat}
-use Rattle.rv_flat.specs.FlatOf.{IsFlatOf}
-use Rattle.rv_flat.specs.Systems.{memory_of}
+use Rattle.std.specs.Prelude.{Result, Ok, Err}
+use Rattle.rv_base.specs.{declared.value.Place.Place, declared.value.Trace.Trace}
+use Rattle.rv_tree.specs.{Tree.ProgramTree, Places.Identifier}
+use Rattle.rv_types.specs.{declared.typed.Typed.Typed, Instances.name_at}
+use Rattle.rv_instances.specs.{declared.answer.Order.Order, Fitting.Fits}
+use Rattle.rv_flat.specs.{declared.flat.Flat.Flat, FlatOf.IsFlatOf, Systems.memory_of}
 use Rattle.rv_flatten.proofs.FewMemories as few
-use Rattle.rv_invfile.specs.Csv.{records_of}
 use Rattle.rv_invfile.specs.Rules.{Rule, done, IsDocument}
-use Rattle.rv_invfile.specs.Faults.{IsFirstFault}
-use Rattle.rv_invfile.specs.Tells.{Explains}
-use Rattle.rv_invfile.specs.Traces.{trace_rule}
-use Rattle.rv_invfile.specs.Traces as document
-use Rattle.rv_invfile.specs.declared.fault.FileFault.{FileFault}
 use Rattle.rv_invfile.specs.declared.fault.FileFault.TheVariants.{NotRecords, WrongKind, WrongProgram, BadNumber, Ends, Memory as NoMemory}
-use Rattle.rv_replay.specs.declared.replayed.Replayed.{Replayed}
-use Rattle.rv_replay.specs.declared.replayed.Replayed.TheVariants as replayed
-use Rattle.rv_replay.specs.declared.replayed.ReplayFault.{ReplayFault}
-use Rattle.rv_replay.specs.declared.replayed.ReplayFault.TheVariants as replay_fault
+use Rattle.rv_invfile.specs.{Csv.records_of, Faults.IsFirstFault, Tells.Explains, Traces.trace_rule, declared.fault.FileFault.FileFault}
+use Rattle.rv_invfile.specs.Traces as document
 use Rattle.rv_replay.specs.Replays.{FailsAt, IsFalsifiedAt, IsReplay, IsUnlessMemory, NeverEnds, OutgrowsAt}
-use Rattle.rv_replay.specs.Traces.{IsFlatTrace}
-use Rattle.rv_run.specs.declared.report.Report.{Report}
+use Rattle.rv_replay.specs.{declared.replayed.Replayed.Replayed, declared.replayed.ReplayFault.ReplayFault, Traces.IsFlatTrace}
+use Rattle.rv_replay.specs.declared.replayed.Replayed.TheVariants as replayed
+use Rattle.rv_replay.specs.declared.replayed.ReplayFault.TheVariants as replay_fault
 use Rattle.rv_run.specs.declared.report.Report.TheVariants.{Falsified, AssertionFails, NeverFalse, Outgrown, BadFile, Memory}
-use Rattle.rv_run.specs.Loaded.{file_report, replay_report}
 use Rattle.rv_run.specs.Traced.{IsTraceAnswer, IsTraceDocument, IsTraceReport, IsUnlessNoMemory, SaysOfTrace}
+use Rattle.rv_run.specs.{declared.report.Report.Report, Loaded.file_report, Loaded.replay_report}
 
 -- The memories of the program of an accepted source can be counted.
 pub few_memories : (p : ProgramTree) (t : Typed) (o : Order) (f : Flat) → Fits p t o → IsFlatOf p (name_at p t.main) f → length f.memories < 2 ^ 64

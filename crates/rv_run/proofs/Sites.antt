@@ -1,16 +1,12 @@
 -- The flows of a node by their sites: their names are different, inputs come first, and then the outputs.
 use Rattle.std.proofs.Common.{◌≡◌, ℕ, zero, suc, ◌+◌, ◌-◌, ◌<◌, inl, inr, List, [], ◌∷◌, ◌++◌, map, length, get_or, refl, sym, ◌∙◌, ap, arith, Some, slice_get}
-use Rattle.std.specs.List.{Contains}
 use Rattle.std.proofs.lemmas.Bool.{cases_lt}
 use Rattle.std.proofs.lemmas.List.{length-map, length-append, get_or_default, get_or_append_left, get_or-append_right, append_assoc}
-use Rattle.rv_tree.specs.declared.tree.Decl.{Decl}
-use Rattle.rv_tree.specs.Tree.{NodeTree, ProgramTree}
+use Rattle.std.specs.List.{Contains}
 use Rattle.rv_tree.specs.Places.{Identifier, names, flows, site_of, index_of}
-use Rattle.rv_types.specs.declared.typed.Kind.{Kind}
-use Rattle.rv_types.specs.declared.typed.Clock.TheVariants.{Base}
-use Rattle.rv_types.specs.Kinds.{decl_kinds, flow_kinds, flow_kind, kind_in_program}
-use Rattle.rv_types.specs.Clocks.{base_clock, declared_clock, flow_clocks}
-use Rattle.rv_types.specs.Instances.{clock_of}
+use Rattle.rv_tree.specs.{declared.tree.Decl.Decl, Tree.NodeTree, Tree.ProgramTree}
+use Rattle.rv_types.specs.{declared.typed.Kind.Kind, declared.typed.Clock.TheVariants.Base, Kinds.decl_kinds, Kinds.flow_kinds, Kinds.flow_kind}
+use Rattle.rv_types.specs.{Kinds.kind_in_program, Clocks.base_clock, Clocks.declared_clock, Clocks.flow_clocks, Instances.clock_of}
 use Rattle.rv_flatten.proofs.Assembled.{front, map_joined}
 use Rattle.rv_meaning.proofs.NameLemmas.{index_at}
 use Rattle.rv_base.proofs.Lists.{within_got}

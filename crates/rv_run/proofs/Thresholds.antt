@@ -1,9 +1,7 @@
 -- The thresholds of a program with small numbers are small.
 use Rattle.std.proofs.Common.{zero, suc, ◌^◌, ◌≤◌, List, ℤ, neg_ℤ, inl, inr, subst, arith}
-use Rattle.std.specs.Int.RustNames.{unsigned_abs}
-use Rattle.std.specs.List.{All, Contains}
-use Rattle.std.proofs.lemmas.Int.{ints}
-use Rattle.std.proofs.lemmas.List.Elements.{All-contains_itself, All-weaker}
+use Rattle.std.proofs.{lemmas.Int.ints, lemmas.List.Elements.All-contains_itself, lemmas.List.Elements.All-weaker}
+use Rattle.std.specs.{Int.RustNames.unsigned_abs, List.All, List.Contains}
 use Rattle.rv_base.specs.Limits.{too_heavy}
 use Rattle.rv_tree.specs.Tree.{ProgramTree}
 use Rattle.rv_source.specs.Numbers.{HasSmallNumbers}

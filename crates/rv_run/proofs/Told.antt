@@ -1,9 +1,7 @@
 -- What a trace of a flat system has is what its document asks.
 use Rattle.std.proofs.Common.{◌≡◌, ℕ, zero, suc, ◌<◌, List, [], ◌∷◌, length, get_or, refl, arith, subst}
-use Rattle.rv_base.specs.declared.value.Value.{Value}
-use Rattle.rv_base.specs.declared.value.Trace.{Trace}
-use Rattle.rv_flat.specs.declared.flat.Flat.{Flat}
-use Rattle.rv_flat.specs.Steps.{AreValues, input_kinds}
+use Rattle.rv_base.specs.{declared.value.Value.Value, declared.value.Trace.Trace}
+use Rattle.rv_flat.specs.{declared.flat.Flat.Flat, Steps.AreValues, Steps.input_kinds}
 use Rattle.rv_invfile.specs.Traces.{IsTraceOf}
 use Rattle.rv_replay.specs.Traces.{IsFlatTrace}
 

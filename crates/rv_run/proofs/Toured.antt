@@ -1,19 +1,15 @@
 -- The source that is made is accepted, safe and without integers, so that the proof of it is told.
 use Rattle.std.proofs.Common.{◌≡◌, ◌⊎◌, inl, inr, ℕ, ◌≤◌, ◌<◌, ◌^◌, subst, arith}
 use Rattle.std.specs.Prelude.{codes}
-use Rattle.rv_make.specs.Made.{made_text}
-use Rattle.rv_make.specs.Chains.{Offsets, chain_program}
+use Rattle.rv_make.specs.{Made.made_text, Chains.Offsets, Chains.chain_program}
 use Rattle.rv_syntax.specs.ProgramText.{IsTextOf}
-use Rattle.rv_types.specs.Settled.{IsSettled}
-use Rattle.rv_types.specs.declared.typed.Typed.{Typed}
+use Rattle.rv_types.specs.{Settled.IsSettled, declared.typed.Typed.Typed}
 use Rattle.rv_causality.specs.Causes.{IsAccepted}
-use Rattle.rv_meaning.specs.Runs.{IsSafe}
-use Rattle.rv_meaning.specs.Integers.{IsControl}
+use Rattle.rv_meaning.specs.{Runs.IsSafe, Integers.IsControl}
 use Rattle.rv_proofs.specs.declared.certificate.Certificate.{Certificate}
 use Rattle.rv_run.specs.Answers.{IsNodesReport, IsOnSource, IsSafeUnlessCutOff}
-use Rattle.rv_run.specs.Programs.{IsSafeControl, OnProgram}
-use Rattle.rv_run.specs.declared.report.Report.{Report}
 use Rattle.rv_run.specs.declared.report.Report.TheVariants.{Memory, ReadFault, Safe, Toured}
+use Rattle.rv_run.specs.{Programs.IsSafeControl, Programs.OnProgram, declared.report.Report.Report}
 
 pub made_is_safe : (n : ℕ) (made : (o : Offsets) × IsTextOf (made_text n) (chain_program o n))
     → ((t : Typed) × IsSettled (chain_program made.0 n) (codes "main") t)

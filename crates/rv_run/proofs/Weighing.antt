@@ -1,15 +1,12 @@
 -- The variables of a program: how many are order tests.
 use Rattle.std.proofs.Common.{◌≡◌, ℕ, zero, suc, ◌+◌, ◌*◌, false, List, [], ◌∷◌, ◌++◌, map, length, refl, arith}
 use Rattle.std.specs.List.{All}
-use Rattle.rv_tree.specs.Tree.{ProgramTree}
-use Rattle.rv_tree.specs.Places.{Sites}
-use Rattle.rv_types.specs.declared.typed.Kind.{Kind}
-use Rattle.rv_types.specs.Variables.{total, kind_bits}
+use Rattle.rv_tree.specs.{Tree.ProgramTree, Places.Sites}
 use Rattle.rv_types.specs.Lists.{MemoryAt, Side, sides_of, ComparisonAt, Variable, MainTick, Tick, Kept, Next, Input, Test, bits, with_copies, memory_variables}
 use Rattle.rv_types.specs.Lists.{input_variables, test_variables}
-use Rattle.rv_flat.specs.declared.parts.Bit.{Bit}
+use Rattle.rv_types.specs.{declared.typed.Kind.Kind, Variables.total, Variables.kind_bits}
+use Rattle.rv_flat.specs.{declared.parts.Bit.Bit, Lists.variable_of}
 use Rattle.rv_flat.specs.declared.parts.Bit.TheVariants as bit
-use Rattle.rv_flat.specs.Lists.{variable_of}
 use Rattle.rv_run.specs.Judged.{is_test}
 use Rattle.rv_sizes.proofs.Summing.{total_append}
 

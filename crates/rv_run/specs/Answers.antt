@@ -1,21 +1,15 @@
 -- What an answer says of the file that the words name.
 use Rattle.std.specs.Prelude.{◌≡◌, ◌⊎◌, ℕ, List, Option, Some, None, IsSomeAnd, codes}
 use Rattle.std.specs.FinMap.{get}
-use Rattle.rv_base.specs.Shelf.{Shelf, HoldsUnder}
-use Rattle.rv_base.specs.declared.value.Trace.{Trace}
-use Rattle.rv_source.specs.declared.fault.SourceFault.{SourceFault}
-use Rattle.rv_source.specs.Sources.{AreSame}
+use Rattle.rv_base.specs.{Shelf.Shelf, Shelf.HoldsUnder, declared.value.Trace.Trace}
+use Rattle.rv_source.specs.{declared.fault.SourceFault.SourceFault, Sources.AreSame}
 use Rattle.rv_proofs.specs.declared.certificate.Certificate.{Certificate}
 use Rattle.rv_fixpoint.specs.declared.end.Left.{Left}
-use Rattle.rv_run.specs.Words.{Wanted}
-use Rattle.rv_run.specs.declared.words.Task.{Task}
-use Rattle.rv_make.specs.Made.{made_text}
-use Rattle.rv_run.specs.Printed.{text_of}
-use Rattle.rv_run.specs.Programs.{OnProgram}
 use Rattle.rv_run.specs.Verdicts.{IsDocumentOf, IsInvariantOf}
-use Rattle.rv_run.specs.declared.report.Report.{Report}
 use Rattle.rv_run.specs.declared.report.Report.TheVariants.{Safe, Violated, Unknown, Nodes, Accepted, Rejected, Falsified, AssertionFails, NeverFalse, Outgrown}
 use Rattle.rv_run.specs.declared.report.Report.TheVariants.{Made, Toured, Refused, BadFile, TooLong, ReadFault, Usage, Memory}
+use Rattle.rv_run.specs.{Words.Wanted, declared.words.Task.Task, Printed.text_of, Programs.OnProgram, declared.report.Report.Report}
+use Rattle.rv_make.specs.Made.{made_text}
 
 -- The words are a command, and what is held under its file has P, beside its node, where the files tell what they
 -- hold.

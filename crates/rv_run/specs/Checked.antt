@@ -1,27 +1,16 @@
 -- What a check says of the bytes of an invariant file: the certificate that they are and whether it is accepted, or why they are none.
 use Rattle.std.specs.Prelude.{◌≡◌, ◌⊎◌, ℕ, List}
-use Rattle.rv_tree.specs.Tree.{ProgramTree}
-use Rattle.rv_tree.specs.Places.{Identifier}
-use Rattle.rv_flat.specs.declared.flat.Flat.{Flat}
-use Rattle.rv_flat.specs.FlatOf.{IsFlatOf}
+use Rattle.rv_tree.specs.{Tree.ProgramTree, Places.Identifier}
+use Rattle.rv_flat.specs.{declared.flat.Flat.Flat, FlatOf.IsFlatOf}
 use Rattle.rv_control.specs.Control.{control_of}
-use Rattle.rv_invfile.specs.Csv.{records_of}
-use Rattle.rv_invfile.specs.Rules.{IsDocument}
-use Rattle.rv_invfile.specs.Faults.{IsFirstFault}
-use Rattle.rv_invfile.specs.declared.fault.FileFault.{FileFault}
+use Rattle.rv_invfile.specs.{Csv.records_of, Rules.IsDocument, Faults.IsFirstFault, declared.fault.FileFault.FileFault}
 use Rattle.rv_invariant.specs.Certificates.{certificate_rule}
-use Rattle.rv_proofs.specs.Accepted.{IsAccepted}
-use Rattle.rv_proofs.specs.Verdicts.{IsVerdict}
-use Rattle.rv_proofs.specs.declared.certificate.Certificate.{Certificate}
-use Rattle.rv_proofs.specs.declared.verdict.Reason.{Reason}
+use Rattle.rv_proofs.specs.{Accepted.IsAccepted, Verdicts.IsVerdict, declared.certificate.Certificate.Certificate, declared.verdict.Reason.Reason}
 use Rattle.rv_proofs.specs.declared.verdict.Verdict.TheVariants as verdict
-use Rattle.rv_run.specs.declared.words.Task.{Task}
-use Rattle.rv_run.specs.declared.words.Task.TheVariants.{Replay, Check}
-use Rattle.rv_run.specs.declared.report.Report.{Report}
 use Rattle.rv_run.specs.declared.report.Report.TheVariants.{Safe, Violated, Unknown, Nodes, Accepted, Rejected, Falsified, AssertionFails, NeverFalse, Outgrown}
 use Rattle.rv_run.specs.declared.report.Report.TheVariants.{Made, Toured, BadFile, Usage, Memory}
-use Rattle.rv_run.specs.Answers.{IsUnlessCutOff, IsUnlessLimited}
-use Rattle.rv_run.specs.Traced.{IsTraceReport, SaysOfTrace}
+use Rattle.rv_run.specs.{declared.words.Task.Task, declared.words.Task.TheVariants.Replay, declared.words.Task.TheVariants.Check, declared.report.Report.Report}
+use Rattle.rv_run.specs.{Answers.IsUnlessCutOff, Answers.IsUnlessLimited, Traced.IsTraceReport, Traced.SaysOfTrace}
 
 -- The records of the bytes are the document of a certificate of the program of which, with its flat system, this holds.
 abbrev pub OnCertificate : (Flat → Certificate → Type 0) → List ℕ → ProgramTree → Identifier → Type 0

@@ -1,15 +1,9 @@
 -- What is tested of a flat system to tell whether a source is judged.
-use Rattle.std.specs.Prelude.{◌≡◌, Bool, true, false}
-use Rattle.std.specs.List.{All}
-use Rattle.rv_types.specs.Variables.{is_integer}
-use Rattle.rv_flat.specs.declared.parts.Bit.{Bit}
+use Rattle.std.specs.{Prelude.◌≡◌, Prelude.Bool, Prelude.true, Prelude.false, List.All}
+use Rattle.rv_types.specs.{Variables.is_integer, Instances.IsNode, WellFormed.AreWell}
+use Rattle.rv_flat.specs.{declared.parts.Bit.Bit, declared.flat.Flat.Flat, FlatOf.IsFlatOf}
 use Rattle.rv_flat.specs.declared.parts.Bit.TheVariants as bit
-use Rattle.rv_flat.specs.declared.flat.Flat.{Flat}
-use Rattle.rv_flat.specs.FlatOf.{IsFlatOf}
-use Rattle.rv_tree.specs.Tree.{ProgramTree}
-use Rattle.rv_tree.specs.Places.{Identifier}
-use Rattle.rv_types.specs.Instances.{IsNode}
-use Rattle.rv_types.specs.WellFormed.{AreWell}
+use Rattle.rv_tree.specs.{Tree.ProgramTree, Places.Identifier}
 use Rattle.rv_meaning.specs.Runs.{IsSafe}
 use Rattle.rv_proofs.specs.Runs.{IsSafeSystem}
 use Rattle.rv_control.specs.Control.{control_of}

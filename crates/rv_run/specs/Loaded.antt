@@ -2,16 +2,15 @@
 use Rattle.std.specs.Prelude.{ℕ, Result, Ok, Err}
 use Rattle.rv_invfile.specs.declared.fault.FileFault.{FileFault}
 use Rattle.rv_invfile.specs.declared.fault.FileFault.TheVariants.{NotRecords, WrongKind, WrongProgram, BadNumber, Ends, Memory as NoMemory}
-use Rattle.rv_replay.specs.declared.replayed.Replayed.{Replayed}
+use Rattle.rv_replay.specs.{declared.replayed.Replayed.Replayed, declared.replayed.ReplayFault.ReplayFault}
 use Rattle.rv_replay.specs.declared.replayed.Replayed.TheVariants as replayed
-use Rattle.rv_replay.specs.declared.replayed.ReplayFault.{ReplayFault}
 use Rattle.rv_replay.specs.declared.replayed.ReplayFault.TheVariants as replay_fault
 use Rattle.rv_run.specs.declared.report.Report.{Report}
+use Rattle.rv_run.specs.declared.report.Report.TheVariants.{Nodes, Accepted, Rejected, Falsified, AssertionFails, NeverFalse, Outgrown, BadFile, Memory}
 use Rattle.rv_diagram.specs.declared.store.StoreFault.{StoreFault}
 use Rattle.rv_diagram.specs.declared.store.StoreFault.TheVariants as store
 use Rattle.rv_proofs.specs.declared.verdict.Verdict.{Verdict}
 use Rattle.rv_proofs.specs.declared.verdict.Verdict.TheVariants as verdict
-use Rattle.rv_run.specs.declared.report.Report.TheVariants.{Nodes, Accepted, Rejected, Falsified, AssertionFails, NeverFalse, Outgrown, BadFile, Memory}
 
 -- The report on a fault of the file: want of memory is none.
 abbrev pub file_report : FileFault → Report

@@ -7,9 +7,8 @@ use Rattle.rv_syntax.specs.declared.fault.TextFault.TheVariants.{BadText, TooDee
 use Rattle.rv_types.specs.declared.fault.NameFault.{NameFault}
 use Rattle.rv_types.specs.declared.fault.NameFault.TheVariants.{NoNode, UnknownName, DefinedTwice, Undefined, TypeClash, Nonlinear, ClockClash, NotObserver}
 use Rattle.rv_types.specs.declared.fault.NameFault.TheVariants.{Memory as NameMemory}
-use Rattle.rv_calls.specs.declared.fault.CauseFault.{CauseFault}
 use Rattle.rv_calls.specs.declared.fault.CauseFault.TheVariants.{Recursive, Cycle, TooLarge, TooWide, Memory as CauseMemory}
-use Rattle.rv_calls.specs.declared.fault.Quantity.{Quantity}
+use Rattle.rv_calls.specs.{declared.fault.CauseFault.CauseFault, declared.fault.Quantity.Quantity}
 use Rattle.rv_calls.specs.declared.fault.Quantity.TheVariants as quantity
 use Rattle.rv_invfile.specs.declared.fault.FileFault.{FileFault}
 use Rattle.rv_invfile.specs.declared.fault.FileFault.TheVariants.{NotRecords, WrongKind, WrongProgram, BadNumber, Ends, Memory as FileMemory}
@@ -17,11 +16,10 @@ use Rattle.rv_proofs.specs.declared.verdict.Reason.{Reason}
 use Rattle.rv_proofs.specs.declared.verdict.Reason.TheVariants.{NoInitial, Uncovered, Unsettled, Observer, Target, Multipliers, Inclusion}
 use Rattle.rv_source.specs.declared.fault.SourceFault.{SourceFault}
 use Rattle.rv_source.specs.declared.fault.SourceFault.TheVariants.{Text, Names, Cause, Memory as SourceMemory}
-use Rattle.rv_run.specs.declared.report.Report.{Report}
 use Rattle.rv_run.specs.declared.report.Report.TheVariants.{Safe, Violated, Unknown, Nodes, Accepted, Rejected, Falsified, AssertionFails, NeverFalse, Outgrown}
 use Rattle.rv_run.specs.declared.report.Report.TheVariants.{Made, Toured, Refused, BadFile, TooLong, ReadFault, Usage, Memory}
-use Rattle.rv_run.specs.declared.report.Sent.{Sent}
 use Rattle.rv_run.specs.declared.report.Sent.TheVariants.{Whole, Failed, Memory as SentMemory}
+use Rattle.rv_run.specs.{declared.report.Report.Report, declared.report.Sent.Sent}
 
 -- A record ends with a line feed.
 abbrev pub record_of : List ℕ → List ℕ

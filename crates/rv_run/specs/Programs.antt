@@ -1,25 +1,15 @@
 -- What an answer says of the bytes of a source and the name of its main node.
 use Rattle.std.specs.Prelude.{◌≡◌, ◌⊎◌, ◌<◌, ◌^◌, ℕ, ℤ, List}
 use Rattle.rv_base.specs.declared.value.Value.{Value}
-use Rattle.rv_tree.specs.Tree.{ProgramTree}
-use Rattle.rv_tree.specs.Places.{Identifier, Sites}
-use Rattle.rv_types.specs.declared.typed.Typed.{Typed}
-use Rattle.rv_types.specs.Needs.{IsSequence}
-use Rattle.rv_source.specs.declared.fault.SourceFault.{SourceFault}
-use Rattle.rv_source.specs.Sources.{IsSource, IsSourceFault}
-use Rattle.rv_types.specs.Variables.{variable_count}
-use Rattle.rv_meaning.specs.Runs.{History, AreStarts, AreInputs, IsRun, IsSafe}
-use Rattle.rv_meaning.specs.Integers.{IsControl}
-use Rattle.rv_flat.specs.declared.flat.Flat.{Flat}
-use Rattle.rv_flat.specs.FlatOf.{IsFlatOf}
+use Rattle.rv_tree.specs.{Tree.ProgramTree, Places.Identifier, Places.Sites}
+use Rattle.rv_types.specs.{declared.typed.Typed.Typed, Needs.IsSequence, Variables.variable_count}
+use Rattle.rv_source.specs.{declared.fault.SourceFault.SourceFault, Sources.IsSource, Sources.IsSourceFault}
+use Rattle.rv_meaning.specs.{Runs.History, Runs.AreStarts, Runs.AreInputs, Runs.IsRun, Runs.IsSafe, Integers.IsControl}
+use Rattle.rv_flat.specs.{declared.flat.Flat.Flat, FlatOf.IsFlatOf}
 use Rattle.rv_control.specs.Control.{control_of}
-use Rattle.rv_proofs.specs.Accepted.{IsAccepted}
-use Rattle.rv_proofs.specs.Boxes.{HasGoodBox}
-use Rattle.rv_proofs.specs.RowClaims.{HasGoodRows}
-use Rattle.rv_proofs.specs.Systems.{System}
-use Rattle.rv_proofs.specs.Left.{IsLeftPartition}
+use Rattle.rv_proofs.specs.{Accepted.IsAccepted, Boxes.HasGoodBox, RowClaims.HasGoodRows, Systems.System, Left.IsLeftPartition}
+use Rattle.rv_proofs.specs.{declared.certificate.Certificate.Certificate}
 use Rattle.rv_fixpoint.specs.declared.end.Left.{Left}
-use Rattle.rv_proofs.specs.declared.certificate.Certificate.{Certificate}
 use Rattle.rv_probe.specs.Probes.{HasFalsifyingProbe}
 
 -- The bytes are the text of a program that is settled and accepted with this node, and P holds of the program and the node.

@@ -1,24 +1,19 @@
 -- What the answer to a command says, and which answer comes where, given what the words ask for and what the files hold.
 use Rattle.std.specs.Prelude.{◌≡◌, ◌+◌, ◌<◌, ◌≤◌, ◌⊎◌, ℕ, List, length, codes, None, Option, Some}
-use Rattle.rv_base.specs.Shelf.{Shelf}
-use Rattle.rv_base.specs.declared.value.Trace.{Trace}
-use Rattle.rv_base.specs.Limits.{source_limit}
+use Rattle.rv_base.specs.{Shelf.Shelf, declared.value.Trace.Trace, Limits.source_limit}
 use Rattle.rv_meaning.specs.Runs.{IsSafe}
 use Rattle.rv_make.specs.Made.{made_text}
 use Rattle.rv_proofs.specs.declared.certificate.Certificate.{Certificate}
 use Rattle.rv_source.specs.declared.fault.SourceFault.{SourceFault}
-use Rattle.rv_run.specs.Words.{Wanted}
-use Rattle.rv_run.specs.declared.words.Task.{Task}
-use Rattle.rv_run.specs.declared.report.Report.{Report}
 use Rattle.rv_run.specs.declared.report.Report.TheVariants.{Safe, Violated, Unknown, Nodes, Accepted, Made, Toured, Refused, TooLong, Memory}
 use Rattle.rv_run.specs.Answers.{OnFile, OnDocument, OnSource, IsTold, IsToldDocument, IsVerdict, IsNodesReport, IsTouredReport, IsUnlessCutOff}
 use Rattle.rv_run.specs.Answers.{IsJudgedUnlessLimited, IsSafeUnlessCutOff, IsViolatedUnlessCutOff, IsViolatedUnlessUnread, IsRefusalUnlessCutOff}
 use Rattle.rv_run.specs.Checked.{IsDocumentAnswer, IsReportOf, IsUnlessCut, SaysOf}
-use Rattle.rv_fixpoint.specs.declared.end.Left.{Left}
 use Rattle.rv_run.specs.Programs.{OnProgram, WithRuns, HasGoodClaim, IsSafeControl, IsUnsafeControl, HasManyVariables, HasProbe, LacksProbe, IsCertified}
 use Rattle.rv_run.specs.Programs.{IsProgram, IsUnknown, IsRefusedFor}
-use Rattle.rv_run.specs.Traced.{IsLongDocument, OnAccepted, file_limit}
-use Rattle.rv_run.specs.Verdicts.{IsDocumentOf, IsInvariantOf, IsViolated}
+use Rattle.rv_run.specs.{Words.Wanted, declared.words.Task.Task, declared.report.Report.Report, Traced.IsLongDocument, Traced.OnAccepted, Traced.file_limit}
+use Rattle.rv_run.specs.{Verdicts.IsDocumentOf, Verdicts.IsInvariantOf, Verdicts.IsViolated}
+use Rattle.rv_fixpoint.specs.declared.end.Left.{Left}
 
 -- Of the source in a file the report is Safe, Violated, Unknown, Nodes or a refusal, of a document beside it what it is and does; of a
 -- source that is made, its text, or that it is safe.

@@ -1,20 +1,12 @@
 -- What a replay says of the bytes of a trace: the trace that they are and what it does, or why they are none.
 use Rattle.std.specs.Prelude.{◌≡◌, ◌⊎◌, ◌<◌, ◌≤◌, ℕ, List, length, ⊤}
-use Rattle.rv_base.specs.declared.value.Trace.{Trace}
-use Rattle.rv_base.specs.Limits.{source_limit}
-use Rattle.rv_tree.specs.Tree.{ProgramTree}
-use Rattle.rv_tree.specs.Places.{Identifier}
-use Rattle.rv_flat.specs.declared.flat.Flat.{Flat}
-use Rattle.rv_flat.specs.FlatOf.{IsFlatOf}
-use Rattle.rv_invfile.specs.Csv.{records_of}
-use Rattle.rv_invfile.specs.Rules.{IsDocument}
-use Rattle.rv_invfile.specs.Faults.{IsFirstFault}
-use Rattle.rv_invfile.specs.Traces.{trace_rule}
-use Rattle.rv_invfile.specs.declared.fault.FileFault.{FileFault}
+use Rattle.rv_base.specs.{declared.value.Trace.Trace, Limits.source_limit}
+use Rattle.rv_tree.specs.{Tree.ProgramTree, Places.Identifier}
+use Rattle.rv_flat.specs.{declared.flat.Flat.Flat, FlatOf.IsFlatOf}
+use Rattle.rv_invfile.specs.{Csv.records_of, Rules.IsDocument, Faults.IsFirstFault, Traces.trace_rule, declared.fault.FileFault.FileFault}
 use Rattle.rv_replay.specs.Replays.{FailsAt, IsFalsifiedAt, NeverEnds, OutgrowsAt}
-use Rattle.rv_run.specs.declared.report.Report.{Report}
 use Rattle.rv_run.specs.declared.report.Report.TheVariants.{Falsified, AssertionFails, NeverFalse, Outgrown, BadFile, Memory}
-use Rattle.rv_run.specs.Programs.{OnProgram}
+use Rattle.rv_run.specs.{declared.report.Report.Report, Programs.OnProgram}
 
 -- how many bytes a file with a document may have
 abbrev pub file_limit : ℕ

@@ -1,29 +1,21 @@
 -- What is found of an accepted source, and the report on it.
 use Rattle.std.specs.Prelude.{◌≡◌, ◌⊎◌, ℕ, ℤ, Bool, List, [], Result, Ok, Err}
 use Rattle.rv_base.specs.declared.value.Trace.{Trace}
-use Rattle.rv_tree.specs.Tree.{ProgramTree}
-use Rattle.rv_tree.specs.Places.{Identifier}
-use Rattle.rv_meaning.specs.Runs.{IsSafe}
-use Rattle.rv_meaning.specs.Integers.{IsControl}
+use Rattle.rv_tree.specs.{Tree.ProgramTree, Places.Identifier}
+use Rattle.rv_meaning.specs.{Runs.IsSafe, Integers.IsControl}
 use Rattle.rv_diagram.specs.declared.store.StoreFault.{StoreFault}
 use Rattle.rv_diagram.specs.declared.store.StoreFault.TheVariants as fault
-use Rattle.rv_flat.specs.declared.flat.Flat.{Flat}
-use Rattle.rv_flat.specs.FlatOf.{IsFlatOf}
+use Rattle.rv_flat.specs.{declared.flat.Flat.Flat, FlatOf.IsFlatOf}
 use Rattle.rv_control.specs.Control.{control_of}
-use Rattle.rv_proofs.specs.Accepted.{IsAccepted}
-use Rattle.rv_invfile.specs.Csv.{records_of}
-use Rattle.rv_invfile.specs.Rules.{IsDocument}
-use Rattle.rv_invfile.specs.Writes.{lines}
-use Rattle.rv_invfile.specs.Traces.{trace_records, trace_rule}
+use Rattle.rv_proofs.specs.{Accepted.IsAccepted, declared.certificate.Certificate.Certificate}
+use Rattle.rv_invfile.specs.{Csv.records_of, Rules.IsDocument, Writes.lines, Traces.trace_records, Traces.trace_rule}
 use Rattle.rv_invariant.specs.Certificates.{certificate_records, certificate_rule}
-use Rattle.rv_proofs.specs.declared.certificate.Certificate.{Certificate}
 use Rattle.rv_falsify.specs.Falsifying.{IsFalsifying, IsShortest}
 use Rattle.rv_probe.specs.Probes.{FalsifiesAt, cut, probe_of}
 use Rattle.rv_run.specs.Programs.{IsCertified, HasIntegers, HasManyVariables, IsUnknown, LacksGoodClaim, LacksProbe}
-use Rattle.rv_run.specs.declared.report.Report.{Report}
-use Rattle.rv_run.specs.declared.report.Report.TheVariants as report
-use Rattle.rv_run.specs.declared.verdict.Verdict.{Verdict}
 use Rattle.rv_run.specs.declared.verdict.Verdict.TheVariants.{Safe, Violated, Undecided}
+use Rattle.rv_run.specs.{declared.report.Report.Report, declared.verdict.Verdict.Verdict}
+use Rattle.rv_run.specs.declared.report.Report.TheVariants as report
 
 -- The text is the document of the trace over the program, as it is written and as it is read.
 pub record IsDocumentOf (t : Trace) (text : List ℕ) (program : ProgramTree) (main : Identifier) : Type 0 where

@@ -1,11 +1,8 @@
 -- What the words of the command line ask the program to do.
 use Rattle.std.specs.Prelude.{◌≡◌, ◌≤◌, ◌⊎◌, ℕ, List, Option, Some, None, option_map}
-use Rattle.rv_words.specs.Asked.{Asked, prove, check, replay, make, tour}
-use Rattle.rv_words.specs.Words.{command}
-use Rattle.rv_run.specs.declared.words.Task.{Task}
+use Rattle.rv_words.specs.{Asked.Asked, Asked.prove, Asked.check, Asked.replay, Asked.make, Asked.tour, Words.command}
+use Rattle.rv_run.specs.{declared.words.Task.Task, declared.words.FileCommand.FileCommand, declared.words.Request.Request}
 use Rattle.rv_run.specs.declared.words.Task.TheVariants as task
-use Rattle.rv_run.specs.declared.words.FileCommand.{FileCommand}
-use Rattle.rv_run.specs.declared.words.Request.{Request}
 use Rattle.rv_run.specs.declared.words.Request.TheVariants as request
 
 -- What words ask for: the file of a source and the node in it, what is done with which document beside it, how many nodes the diagrams

@@ -1,14 +1,9 @@
 -- The lesser of two bounds of a form.
 use Rattle.std.proofs.Common.{◌≡◌, ℤ, ◌+ℤ◌, ◌-ℤ◌, ◌≤ℤ◌, List, Option, None, Some, IfSome, IsSomeAnd, All, arith, ◌⊎◌, inl, inr}
 use Rattle.std.proofs.lemmas.Int.{ints}
-use Rattle.rv_rows.specs.declared.linear.Row.{Row}
-use Rattle.rv_rows.specs.declared.linear.Form.{Form}
-use Rattle.rv_rows.specs.Rows.{dot, Holds}
-use Rattle.rv_rows.specs.Multipliers.{Proves}
-use Rattle.rv_rows.specs.Forms.{value}
+use Rattle.rv_rows.specs.{declared.linear.Row.Row, declared.linear.Form.Form, Rows.dot, Rows.Holds, Multipliers.Proves, Forms.value}
 use Rattle.rv_rows.proofs.RowLemmas.{proves_sound}
-use Rattle.rv_seek.specs.declared.seek.Bounded.{Bounded}
-use Rattle.rv_seek.specs.Least.{at_most}
+use Rattle.rv_seek.specs.{declared.seek.Bounded.Bounded, Least.at_most}
 
 pub lower_bound : (p r : Option Bounded) (bound : ℤ) → IfSome p (λ x. IsSomeAnd r (λ b. b.bound ≤ℤ x.bound)) → IsSomeAnd p (λ b. b.bound ≤ℤ bound)
     → IsSomeAnd r (λ b. b.bound ≤ℤ bound)

@@ -1,29 +1,16 @@
 -- The least bound that a pair of places shows.
 use Rattle.std.proofs.Common.{◌≡◌, ◌≢◌, ℕ, ◌+◌, ◌≤◌, ◌<◌, ℤ, pos, ◌+ℤ◌, ◌-ℤ◌, ◌≤ℤ◌, List, [], ◌∷◌, ◌++◌, length, Option, None, Some, IfSome, IsSome, IsSomeAnd}
 use Rattle.std.proofs.Common.{All, FitsSigned, ◌^◌, true≢false, ◌<ℤ◌, arith, refl, ap, sym, ◌∙◌, ◌⊎◌, inl, inr, append_assoc, append-nil}
-use Rattle.std.proofs.lemmas.Int.{ints}
-use Rattle.std.proofs.lemmas.Bool.{cases_eq}
-use Rattle.std.proofs.lemmas.List.{get_or_past}
 use Rattle.std.proofs.lemmas.List.Elements.{All-nil, All-push, All-weaker}
-use Rattle.std.proofs.lemmas.Map.Views.{IfSome-lookup_from_All}
-use Rattle.std.specs.BTreeMap.{BTreeMap, values}
-use Rattle.std.specs.Cmp.Lexicographic.{slice_cmp}
-use Rattle.std.specs.Ordering.{int_cmp, is_eq}
-use Rattle.std.specs.Global.{Vec}
-use Rattle.rv_rows.specs.declared.linear.Row.{Row}
-use Rattle.rv_rows.specs.Rows.{coefficient, row_at, RowWithin}
-use Rattle.rv_rows.specs.Forms.{number}
-use Rattle.rv_rows.specs.Multipliers.{ShowsAtOnce}
-use Rattle.std.specs.Int.RustNames.{unsigned_abs}
-use Rattle.std.specs.Int.{w128}
-use Rattle.rv_rows.proofs.IntLemmas.{abs-add}
-use Rattle.rv_rows.proofs.RowLemmas.{bound_within}
+use Rattle.std.proofs.{lemmas.Int.ints, lemmas.Bool.cases_eq, lemmas.List.get_or_past, lemmas.Map.Views.IfSome-lookup_from_All}
+use Rattle.std.specs.{BTreeMap.BTreeMap, BTreeMap.values, Cmp.Lexicographic.slice_cmp, Ordering.int_cmp, Ordering.is_eq, Global.Vec, Int.RustNames.unsigned_abs}
+use Rattle.std.specs.{Int.w128}
+use Rattle.rv_rows.specs.{declared.linear.Row.Row, Rows.coefficient, Rows.row_at, Rows.RowWithin, Forms.number, Multipliers.ShowsAtOnce}
+use Rattle.rv_rows.proofs.{IntLemmas.abs-add, RowLemmas.bound_within}
 use Rattle.rv_seek.proofs.PairLemmas.{pair_from, row_width}
-use Rattle.rv_seek.specs.declared.least.Best.{Best}
-use Rattle.rv_seek.specs.declared.sides.Closest.{Closest}
-use Rattle.rv_seek.specs.Pairs.{PairShows}
 use Rattle.rv_seek.specs.Least.{HasPlace, IsLeast, IsLeastAt, PairSums, bounded, IsAside, IsPassed, IsAlone, IsLeastAmong}
 use Rattle.rv_seek.specs.Sides.{closest_at, IsSide, IsOther, IsClosest, IsTable}
+use Rattle.rv_seek.specs.{declared.least.Best.Best, declared.sides.Closest.Closest, Pairs.PairShows}
 
 -- what the place lacks is the left side of the other
 rest_side : (rows : List Row) (cs rest : List ℤ) (place i : ℕ) (bound : ℤ) → ((k : ℕ) → number k rest ≡ number k cs -ℤ coefficient k (row_at rows place))

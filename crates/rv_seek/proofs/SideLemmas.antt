@@ -1,20 +1,11 @@
 -- The closest places of each left side.
 use Rattle.std.proofs.Common.{◌≡◌, ◌≢◌, ℕ, ◌+◌, ◌<◌, ◌≤◌, ℤ, pos, ◌≤ℤ◌, List, length, Option, None, Some, IfSome, IsSome, IsSomeAnd, cond, Bool, true, false}
 use Rattle.std.proofs.Common.{true≢false, arith, refl, ap, sym, ◌∙◌, ◌⊎◌, inl, inr}
-use Rattle.std.proofs.lemmas.Int.{ints}
-use Rattle.std.proofs.lemmas.Bool.{cases_lt}
-use Rattle.std.proofs.lemmas.List.{ext_get_or, get_or_past}
-use Rattle.std.specs.BTreeMap.{BTreeMap}
-use Rattle.std.specs.Cmp.Lexicographic.{slice_cmp}
-use Rattle.std.specs.Ordering.{int_cmp, is_eq, ordering_reverse}
-use Rattle.std.proofs.lemmas.Cmp.{lists_total, int_cmp_total}
-use Rattle.std.specs.declared.cmp.Ordering.{Ordering}
-use Rattle.std.specs.declared.cmp.Ordering.TheVariants.{Less, Equal, Greater}
-use Rattle.std.specs.FinMap.{slice_cmp-IsAntisymmetric, int_cmp-IsAntisymmetric}
-use Rattle.std.specs.Global.{Vec}
-use Rattle.rv_rows.specs.declared.linear.Row.{Row}
-use Rattle.rv_rows.specs.Rows.{row_at}
-use Rattle.rv_rows.specs.Forms.{number}
+use Rattle.std.proofs.{lemmas.Int.ints, lemmas.Bool.cases_lt, lemmas.List.ext_get_or, lemmas.List.get_or_past, lemmas.Cmp.lists_total, lemmas.Cmp.int_cmp_total}
+use Rattle.std.specs.{BTreeMap.BTreeMap, Cmp.Lexicographic.slice_cmp, Ordering.int_cmp, Ordering.is_eq, Ordering.ordering_reverse}
+use Rattle.std.specs.{declared.cmp.Ordering.Ordering, declared.cmp.Ordering.TheVariants.Less, declared.cmp.Ordering.TheVariants.Equal}
+use Rattle.std.specs.{declared.cmp.Ordering.TheVariants.Greater, FinMap.slice_cmp-IsAntisymmetric, FinMap.int_cmp-IsAntisymmetric, Global.Vec}
+use Rattle.rv_rows.specs.{declared.linear.Row.Row, Rows.row_at, Forms.number}
 use Rattle.rv_seek.specs.declared.sides.Closest.{Closest}
 use Rattle.rv_seek.specs.Sides.{closest_at, IsSide, IsOther, IsClosest, IsKept, IsPut, IsTable}
 

@@ -1,11 +1,7 @@
 -- The least bound that a pair of places shows.
 use Rattle.std.specs.Prelude.{◌≡◌, ◌≢◌, ◌⊎◌, ℕ, ◌<◌, ℤ, pos, ◌+ℤ◌, ◌-ℤ◌, ◌≤ℤ◌, List, length, ◌≤◌, Option, IfSome, IsSomeAnd}
-use Rattle.rv_rows.specs.declared.linear.Row.{Row}
-use Rattle.rv_rows.specs.declared.linear.Form.{Form}
-use Rattle.rv_rows.specs.Rows.{coefficient, row_at}
-use Rattle.rv_rows.specs.Forms.{number}
-use Rattle.rv_seek.specs.declared.least.Best.{Best}
-use Rattle.rv_seek.specs.Pairs.{PairShows}
+use Rattle.rv_rows.specs.{declared.linear.Row.Row, declared.linear.Form.Form, Rows.coefficient, Rows.row_at, Forms.number}
+use Rattle.rv_seek.specs.{declared.least.Best.Best, Pairs.PairShows}
 
 -- The row with these coefficients and this bound.
 abbrev pub bounded : List ℤ → ℤ → Row

@@ -1,10 +1,7 @@
 -- Pairs of places in a list of premises, where a place past the end stands for no premise, and the ranges of the
 -- multipliers that are given.
 use Rattle.std.specs.Prelude.{◌≡◌, ℕ, ◌<◌, ◌≤◌, ◌^◌, pos, ◌+ℤ◌, ◌≤ℤ◌, List, [], ◌∷◌, length, All, nat_lt, slice_index_or, if◌then◌else◌}
-use Rattle.rv_rows.specs.declared.linear.Row.{Row}
-use Rattle.rv_rows.specs.declared.farkas.Weight.{Weight}
-use Rattle.rv_rows.specs.declared.farkas.Multipliers.{Multipliers}
-use Rattle.rv_rows.specs.Rows.{coefficient, row_at}
+use Rattle.rv_rows.specs.{declared.linear.Row.Row, declared.farkas.Weight.Weight, declared.farkas.Multipliers.Multipliers, Rows.coefficient, Rows.row_at}
 
 -- The left sides at the two places sum to the wanted one, and their bounds to at most its bound.
 pub record PairShows (rows : List Row) (wanted : Row) (i j : ℕ) : Type 0 where

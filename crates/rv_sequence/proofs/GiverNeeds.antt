@@ -1,44 +1,27 @@
 -- The numbers of what a flow needs, by what gives it its value.
 use Rattle.std.proofs.Common.{◌≡◌, ℕ, ◌+◌, ◌<◌, ◌^◌, List, [], ◌∷◌, ◌++◌, length, Some, refl, sym, ap, subst, arith}
-use Rattle.std.specs.List.{Contains}
 use Rattle.std.proofs.lemmas.List.Elements.{Contains-append_left}
-use Rattle.rv_tree.specs.Bounded.{most}
+use Rattle.std.specs.List.{Contains}
 use Rattle.rv_tree.specs.Tree.{Tree, EquationTree, NodeTree, ProgramTree, tree_of}
-use Rattle.rv_tree.specs.Places.{Identifier, Sites, is_flow, site_of}
-use Rattle.rv_types.specs.declared.typed.Clock.{Clock}
-use Rattle.rv_types.specs.declared.fault.Pace.{Pace}
+use Rattle.rv_tree.specs.{Bounded.most, Places.Identifier, Places.Sites, Places.is_flow, Places.site_of}
 use Rattle.rv_types.specs.declared.fault.Pace.TheVariants.{Free, At, Mute, Differ}
-use Rattle.rv_types.specs.declared.typed.Kind.{Kind}
-use Rattle.rv_types.specs.Clocks.{pace}
-use Rattle.rv_types.specs.Kinds.{decl_kinds, kind_in_program}
 use Rattle.rv_types.specs.Names.{is_declared, is_value, node_names, node_uses}
-use Rattle.rv_types.specs.Scopes.{node_scope}
-use Rattle.rv_types.specs.Types.{kind_of}
-use Rattle.rv_types.specs.ToldPaces.{IsTimed}
-use Rattle.rv_types.specs.WellFormed.{Suits}
-use Rattle.rv_types.specs.Instances.{CallTree, calls, calls_in, calls_in_equations, calls_in_assertions, Right, IsRight, alone, in_order, Instance}
-use Rattle.rv_types.specs.Instances.{absolute, clock_of, clock_of_args, taken, clock_taken, node_of, IsInstance}
-use Rattle.rv_types.specs.Instances as right
+use Rattle.rv_types.specs.Instances.{CallTree, calls, calls_in, calls_in_equations, calls_in_assertions, Right, IsRight, alone, in_order, Instance, absolute}
+use Rattle.rv_types.specs.Instances.{clock_of, clock_of_args, taken, clock_taken, node_of, IsInstance}
 use Rattle.rv_types.specs.Needs.{Giver, Given, Of, Gives, by_equation, by_call, flow_of, needs, needs_of}
-use Rattle.rv_instances.specs.declared.answer.Instance.{Instance as Numbered}
-use Rattle.rv_instances.specs.declared.givers.BodyOf.{BodyOf}
-use Rattle.rv_instances.specs.declared.givers.OutputOf.{OutputOf}
-use Rattle.rv_instances.specs.declared.givers.Giver.{Giver as Told}
+use Rattle.rv_types.specs.{declared.typed.Clock.Clock, declared.fault.Pace.Pace, declared.typed.Kind.Kind, Clocks.pace, Kinds.decl_kinds, Kinds.kind_in_program}
+use Rattle.rv_types.specs.{Scopes.node_scope, Types.kind_of, ToldPaces.IsTimed, WellFormed.Suits}
+use Rattle.rv_types.specs.Instances as right
 use Rattle.rv_instances.specs.declared.givers.Giver.TheVariants.{Input, Body, Output}
-use Rattle.rv_instances.specs.declared.layout.Laid.{Laid}
-use Rattle.rv_instances.specs.declared.layout.Layout.{Layout}
-use Rattle.rv_instances.specs.Expanded.{IsExpanded}
-use Rattle.rv_instances.specs.Flowing.{IsKnownClock, flow_count}
-use Rattle.rv_instances.specs.Givers.{StandsFor}
 use Rattle.rv_instances.specs.Layouts.{IsPlaced, IsLayout, IsWithin, IsNumberOf, here_of, node_at, all_places}
 use Rattle.rv_instances.specs.NumberedNeeds.{listed, clock_number, numbers_needed, site_in, giver_numbers, IsGiver}
-use Rattle.rv_instances.proofs.ArgumentClocks.{flow_clock_known, arguments_clock_known}
-use Rattle.rv_instances.proofs.BaseClocks.{clock_within}
+use Rattle.rv_instances.specs.{declared.answer.Instance.Instance as Numbered, declared.givers.BodyOf.BodyOf, declared.givers.OutputOf.OutputOf}
+use Rattle.rv_instances.specs.{declared.givers.Giver.Giver as Told, declared.layout.Laid.Laid, declared.layout.Layout.Layout, Expanded.IsExpanded}
+use Rattle.rv_instances.specs.{Flowing.IsKnownClock, Flowing.flow_count, Givers.StandsFor}
 use Rattle.rv_instances.proofs.CallsInside.{right_known, call_known, argument_known, in_argument, calls_nested}
 use Rattle.rv_instances.proofs.ExpandedLaws.{node_in, node_is, node_few}
-use Rattle.rv_instances.proofs.LaidFlows.{few_before, places_size}
-use Rattle.rv_instances.proofs.LayoutLaws.{laid_there, is_here}
-use Rattle.rv_instances.proofs.Lists.{length_map}
+use Rattle.rv_instances.proofs.{ArgumentClocks.flow_clock_known, ArgumentClocks.arguments_clock_known, BaseClocks.clock_within, LaidFlows.few_before}
+use Rattle.rv_instances.proofs.{LaidFlows.places_size, LayoutLaws.laid_there, LayoutLaws.is_here, Lists.length_map}
 use Rattle.rv_sequence.proofs.NumbersNeeded.{AreAt, at_append, needs_at, clock_flow, output_flow}
 use Rattle.rv_sequence.proofs.TypedCalls.{typed_calls, sole_output}
 use Rattle.rv_types.proofs.TypedParts.{right_calls}

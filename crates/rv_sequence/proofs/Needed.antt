@@ -1,21 +1,15 @@
 -- What is found to be needed has the same numbers as what is needed.
 use Rattle.std.proofs.Common.{◌≡◌, ℕ, inl, inr, List, [], ◌∷◌, ◌++◌, unwrap_or, Option, sym, ap, subst}
-use Rattle.std.specs.List.{Contains}
 use Rattle.std.proofs.lemmas.List.Elements.{Contains-append_left, Contains-append_right, Contains-append_cases}
+use Rattle.std.specs.List.{Contains}
 use Rattle.rv_tree.specs.Tree.{Tree, Node, Form, True, False, Number, Named, Not, Minus, Pre, Current, When, Binary, If, AtMostOne, Call, Trees, None, More}
 use Rattle.rv_tree.specs.Tree.{NodeTree, ProgramTree, tree_of}
-use Rattle.rv_types.specs.declared.typed.Clock.TheVariants.{Base}
-use Rattle.rv_types.specs.declared.fault.Pace.{Pace}
-use Rattle.rv_types.specs.Instances.{clock_of, taken}
-use Rattle.rv_types.specs.ToldPaces.{told_pace}
-use Rattle.rv_instances.specs.declared.answer.Instance.{Instance as Numbered}
-use Rattle.rv_instances.specs.declared.givers.Giver.{Giver}
-use Rattle.rv_instances.specs.declared.givers.Giver.TheVariants.{Input, Body, Output}
-use Rattle.rv_instances.specs.declared.layout.Layout.{Layout}
-use Rattle.rv_instances.specs.declared.reader.Reader.{Reader}
-use Rattle.rv_instances.specs.Layouts.{Here, IsWithin, here_of, node_at}
+use Rattle.rv_types.specs.{declared.typed.Clock.TheVariants.Base, declared.fault.Pace.Pace, Instances.clock_of, Instances.taken, ToldPaces.told_pace}
 use Rattle.rv_instances.specs.NumberedNeeds.{IsReader, listed, clock_number, clock_of_expression, flow_number, numbers_needed, form_numbers, numbers_of_all}
 use Rattle.rv_instances.specs.NumberedNeeds.{giver_numbers, node_read, numbers_of}
+use Rattle.rv_instances.specs.{declared.answer.Instance.Instance as Numbered, declared.givers.Giver.Giver, declared.givers.Giver.TheVariants.Input}
+use Rattle.rv_instances.specs.{declared.givers.Giver.TheVariants.Body, declared.givers.Giver.TheVariants.Output, declared.layout.Layout.Layout}
+use Rattle.rv_instances.specs.{declared.reader.Reader.Reader, Layouts.Here, Layouts.IsWithin, Layouts.here_of, Layouts.node_at}
 use Rattle.rv_instances.proofs.ClockBounds.{low_within, taken_low, told_low}
 use Rattle.rv_sequence.specs.Needed.{needed, form_needed, needed_by_all, giver_needed}
 use Rattle.rv_types.proofs.Members.{nothing_in}

@@ -1,29 +1,17 @@
 -- The numbers of what flows need are a graph of all flows.
 use Rattle.std.proofs.Common.{◌≡◌, ℕ, ◌<◌, List, [], map, length, get_or, sym, ◌∙◌, ap, subst, arith}
+use Rattle.std.proofs.{lemmas.List.get_or_default, lemmas.List.Elements.Contains-get_or}
 use Rattle.std.specs.List.{Contains, All}
-use Rattle.std.proofs.lemmas.List.{get_or_default}
-use Rattle.std.proofs.lemmas.List.Elements.{Contains-get_or}
-use Rattle.rv_tree.specs.Tree.{ProgramTree}
-use Rattle.rv_tree.specs.Places.{Identifier, Sites}
+use Rattle.rv_tree.specs.{Tree.ProgramTree, Places.Identifier, Places.Sites}
 use Rattle.rv_types.specs.Needs.{Giver, Gives, needs_of}
-use Rattle.rv_instances.specs.declared.answer.Instance.{Instance as Numbered}
-use Rattle.rv_instances.specs.declared.givers.Giver.{Giver as Told}
-use Rattle.rv_instances.specs.declared.givers.Giver.TheVariants.{Input}
-use Rattle.rv_instances.specs.declared.layout.Layout.{Layout}
-use Rattle.rv_instances.specs.Expanded.{IsExpanded}
-use Rattle.rv_sequence.specs.FlowGraphs.{IsFlowGraph}
-use Rattle.rv_instances.specs.Flowing.{place_at}
-use Rattle.rv_instances.specs.Givers.{AreGivers, StandsFor}
+use Rattle.rv_instances.specs.{declared.answer.Instance.Instance as Numbered, declared.givers.Giver.Giver as Told, declared.givers.Giver.TheVariants.Input}
+use Rattle.rv_instances.specs.{declared.layout.Layout.Layout, Expanded.IsExpanded, Flowing.place_at, Givers.AreGivers, Givers.StandsFor, Layouts.IsLayout}
+use Rattle.rv_instances.specs.{Layouts.IsPlaced, Layouts.all_places, NumberedNeeds.giver_numbers, NumberedNeeds.IsGiver}
+use Rattle.rv_sequence.specs.{FlowGraphs.IsFlowGraph, Needed.giver_needed}
 use Rattle.rv_calls.specs.Graphs.{Graph, IsGraph, edges}
-use Rattle.rv_instances.specs.Layouts.{IsLayout, IsPlaced, all_places}
-use Rattle.rv_instances.specs.NumberedNeeds.{giver_numbers, IsGiver}
-use Rattle.rv_sequence.specs.Needed.{giver_needed}
-use Rattle.rv_instances.proofs.AllGiven.{flow_places}
-use Rattle.rv_sequence.proofs.GiverNeeds.{giver_needs}
-use Rattle.rv_instances.proofs.Known.{map_at}
-use Rattle.rv_instances.proofs.Lists.{length_map}
-use Rattle.rv_sequence.proofs.Needed.{needed_found, found_needed}
+use Rattle.rv_instances.proofs.{AllGiven.flow_places, Known.map_at, Lists.length_map}
 use Rattle.rv_sequence.proofs.NumbersNeeded.{AreAt, at_place, at_number}
+use Rattle.rv_sequence.proofs.{GiverNeeds.giver_needs, Needed.needed_found, Needed.found_needed}
 
 pub all_from : {X : Type 0} (P : X → Type 0) (xs : List X) → ((x : X) → Contains xs x → P x) → All P xs
 all_from P xs each k d lt = each (get_or xs k d) (Contains-get_or xs k d lt)

@@ -1,9 +1,7 @@
 -- Where there is a sequence, there is no cycle.
 use Rattle.std.proofs.Common.{◌≡◌, ℕ, ◌<◌, true, List, [], ◌∷◌, length, sym, ◌∙◌, subst, arith, get_or}
-use Rattle.std.proofs.lemmas.List.{get_or_default}
-use Rattle.std.proofs.lemmas.List.Elements.{All-contains}
-use Rattle.rv_tree.specs.Tree.{ProgramTree}
-use Rattle.rv_tree.specs.Places.{Identifier, Sites, is_among}
+use Rattle.std.proofs.{lemmas.List.get_or_default, lemmas.List.Elements.All-contains}
+use Rattle.rv_tree.specs.{Tree.ProgramTree, Places.Identifier, Places.Sites, Places.is_among}
 use Rattle.rv_types.specs.Names.{name_faults}
 use Rattle.rv_types.specs.Needs.{Giver, Gives, needs_of, IsAmongFirst, IsSequence, NeedsFlow, Leads, IsCycle}
 use Rattle.rv_instances.specs.AllInstances.{names_of, AreFed}

@@ -1,21 +1,14 @@
 -- What a sequence by numbers gives.
 use Rattle.std.proofs.Common.{◌≡◌, ℕ, ◌<◌, ◌∙◌, List, map, length, slice_index_or, Result, Ok, Err, IfOk, sym, subst, ap}
-use Rattle.std.specs.List.{Contains}
 use Rattle.std.proofs.lemmas.List.{get_or_default}
-use Rattle.rv_tree.specs.Tree.{ProgramTree}
-use Rattle.rv_tree.specs.Places.{Identifier}
-use Rattle.rv_types.specs.Lists.{sites_of}
-use Rattle.rv_types.specs.Needs.{IsSequence}
+use Rattle.std.specs.List.{Contains}
+use Rattle.rv_tree.specs.{Tree.ProgramTree, Places.Identifier}
+use Rattle.rv_types.specs.{Lists.sites_of, Needs.IsSequence}
 use Rattle.rv_base.specs.declared.value.Place.{Place}
-use Rattle.rv_instances.specs.declared.answer.Instance.{Instance as Numbered}
-use Rattle.rv_instances.specs.declared.flows.Flow.{Flow}
-use Rattle.rv_calls.specs.declared.fault.CauseFault.{CauseFault}
-use Rattle.rv_instances.specs.Expanded.{IsExpanded}
 use Rattle.rv_instances.specs.Flowing.{all_flows, flow_sites, flow_places, place_at}
-use Rattle.rv_sequence.specs.Sequenced.{AreSequenced}
-use Rattle.rv_sequence.specs.Sided.{AreSided}
-use Rattle.rv_instances.specs.Weights.{AreLight}
-use Rattle.rv_sequence.specs.WeightTables.{IsNumbered}
+use Rattle.rv_instances.specs.{declared.answer.Instance.Instance as Numbered, declared.flows.Flow.Flow, Expanded.IsExpanded, Weights.AreLight}
+use Rattle.rv_calls.specs.declared.fault.CauseFault.{CauseFault}
+use Rattle.rv_sequence.specs.{Sequenced.AreSequenced, Sided.AreSided, WeightTables.IsNumbered}
 use Rattle.rv_instances.proofs.Lists.{length_map}
 
 module _ (p : ProgramTree) (main : Identifier) (instances : List Numbered) where

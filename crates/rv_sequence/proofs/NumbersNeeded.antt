@@ -1,27 +1,19 @@
 -- The numbers of what is needed are those of the places that are.
 use Rattle.std.proofs.Common.{◌≡◌, ℕ, ◌+◌, ◌<◌, ◌≤◌, inl, inr, Bool, true, false, cond, List, [], ◌∷◌, ◌++◌, length, unwrap_or, Option, Some, refl, subst}
 use Rattle.std.proofs.Common.{arith, length-append, add-zero, None as Nothing}
-use Rattle.std.specs.List.{Contains}
 use Rattle.std.proofs.lemmas.List.Elements.{Contains-append_left, Contains-append_right}
-use Rattle.rv_tree.specs.declared.tree.Decl.{Decl}
+use Rattle.std.specs.List.{Contains}
 use Rattle.rv_tree.specs.Tree.{Tree, Node, Form, True, False, Number, Named, Not, Minus, Pre, Current, When, Binary, If, AtMostOne, Call, Trees, None, More}
 use Rattle.rv_tree.specs.Tree.{NodeTree, ProgramTree}
-use Rattle.rv_tree.specs.Places.{Identifier, Sites, flows, names, is_flow, site_of}
-use Rattle.rv_types.specs.declared.typed.Clock.{Clock}
-use Rattle.rv_types.specs.declared.typed.Clock.TheVariants.{Base, On}
-use Rattle.rv_types.specs.Clocks.{clock_at, pace}
+use Rattle.rv_tree.specs.{declared.tree.Decl.Decl, Places.Identifier, Places.Sites, Places.flows, Places.names, Places.is_flow, Places.site_of}
 use Rattle.rv_types.specs.Names.{is_declared, node_names, is_value, own_uses, node_uses}
-use Rattle.rv_types.specs.Parts.{faults_of_all}
 use Rattle.rv_types.specs.Instances.{CallTree, calls, calls_in, form_calls, calls_in_all, Instance, place, absolute, clock_of, node_of}
-use Rattle.rv_types.specs.Needs.{flow_of, needs, form_needs, needs_all}
-use Rattle.rv_instances.specs.Flowing.{IsKnownClock}
-use Rattle.rv_instances.specs.Layouts.{Here, IsPlaced, IsClockPlaced, IsHere}
+use Rattle.rv_types.specs.{declared.typed.Clock.Clock, declared.typed.Clock.TheVariants.Base, declared.typed.Clock.TheVariants.On, Clocks.clock_at, Clocks.pace}
+use Rattle.rv_types.specs.{Parts.faults_of_all, Needs.flow_of, Needs.needs, Needs.form_needs, Needs.needs_all}
 use Rattle.rv_instances.specs.NumberedNeeds.{listed, clock_number, clock_of_expression, numbers_needed, form_numbers, numbers_of_all}
-use Rattle.rv_instances.proofs.ArgumentClocks.{taken_known}
-use Rattle.rv_instances.proofs.ClockFlows.{pace_known}
-use Rattle.rv_instances.proofs.Lists.{length_map}
-use Rattle.rv_types.proofs.Members.{cons_cases, index_there, nothing_in}
-use Rattle.rv_types.proofs.RightNames.{both_empty}
+use Rattle.rv_instances.specs.{Flowing.IsKnownClock, Layouts.Here, Layouts.IsPlaced, Layouts.IsClockPlaced, Layouts.IsHere}
+use Rattle.rv_instances.proofs.{ArgumentClocks.taken_known, ClockFlows.pace_known, Lists.length_map}
+use Rattle.rv_types.proofs.{Members.cons_cases, Members.index_there, Members.nothing_in, RightNames.both_empty}
 
 -- one number after the other is that of a place
 abbrev pub AreAt : List Sites → List ℕ → List Sites → Type 0

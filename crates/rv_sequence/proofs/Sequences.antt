@@ -1,21 +1,16 @@
 -- An order of the graph of flows is a sequence, and a loop in it is a cycle.
 use Rattle.std.proofs.Common.{◌≡◌, ℕ, zero, suc, ◌+◌, ◌-◌, ◌<◌, ◌≤◌, inl, inr, List, [], ◌∷◌, ◌++◌, map, length, length-drop, get_or, take, drop, refl, sym}
 use Rattle.std.proofs.Common.{◌∙◌, ap, subst, arith}
+use Rattle.std.proofs.{lemmas.List.append-nil, lemmas.List.get_or_default, lemmas.List.take-append-drop, lemmas.List.Elements.Contains-append_cases}
+use Rattle.std.proofs.{lemmas.List.Elements.Contains-append_left, lemmas.List.Elements.Contains-append_right, lemmas.Bool.cases_eq}
 use Rattle.std.specs.List.{Contains}
-use Rattle.std.proofs.lemmas.List.{append-nil, get_or_default, take-append-drop}
-use Rattle.std.proofs.lemmas.List.Elements.{Contains-append_cases, Contains-append_left, Contains-append_right}
-use Rattle.std.proofs.lemmas.Bool.{cases_eq}
-use Rattle.rv_tree.specs.Tree.{ProgramTree}
-use Rattle.rv_tree.specs.Places.{Identifier, Sites}
+use Rattle.rv_tree.specs.{Tree.ProgramTree, Places.Identifier, Places.Sites}
 use Rattle.rv_types.specs.Instances.{IsFlow}
 use Rattle.rv_types.specs.Needs.{Gives, needs_of, IsSequence, IsAmongFirst, Leads, IsCycle, IsBefore, StartsWithLeast}
 use Rattle.rv_calls.specs.Graphs.{Graph, edges, IsGraph, IsOrdered, Follows, IsLoop}
-use Rattle.rv_sequence.specs.Cycles.{IsCycleFromLeast}
+use Rattle.rv_sequence.specs.{Cycles.IsCycleFromLeast, FlowGraphs.IsFlowGraph, FlowGraphs.AreTurned}
 use Rattle.rv_instances.specs.Flowing.{place_at}
-use Rattle.rv_sequence.specs.FlowGraphs.{IsFlowGraph, AreTurned}
-use Rattle.rv_instances.proofs.Lists.{nat_split, contains_at, length_map}
-use Rattle.rv_instances.proofs.Known.{map_at}
-use Rattle.rv_instances.proofs.ExpandedLaws.{not_both}
+use Rattle.rv_instances.proofs.{Lists.nat_split, Lists.contains_at, Lists.length_map, Known.map_at, ExpandedLaws.not_both}
 use Rattle.rv_types.proofs.Members.{cons_cases, nothing_in}
 use Rattle.rv_base.proofs.Lists.{from_map, next_of}
 

@@ -1,37 +1,24 @@
 -- The weights of flows in a table by numbers.
 use Rattle.std.proofs.Common.{◌≡◌, ℕ, ◌+◌, ◌<◌, ◌≤◌, inl, inr, List, [], map, length, get_or, set, refl, sym, ◌∙◌, ap, subst, arith, Some, slice_get}
 use Rattle.std.proofs.lemmas.List.{get_or_default, get_or-set_same, get_or-set_other, length-set}
-use Rattle.std.proofs.lemmas.Bool.{cases_eq}
-use Rattle.rv_tree.specs.Tree.{Tree, NodeTree, ProgramTree, tree_of}
-use Rattle.rv_tree.specs.Places.{Identifier, Sites, flows, site_of}
+use Rattle.std.proofs.{lemmas.Bool.cases_eq, lemmas.Option.get_or_from_slice_get}
+use Rattle.rv_tree.specs.{Tree.Tree, Tree.NodeTree, Tree.ProgramTree, Tree.tree_of, Places.Identifier, Places.Sites, Places.flows, Places.site_of}
 use Rattle.rv_types.specs.Instances.{Body, Output, Instance, callee, node_of, IsInstance, is_callee}
 use Rattle.rv_types.specs.Needs.{Giver, Given, Of, Gives, needs_of, IsBefore, IsAmongFirst}
-use Rattle.rv_types.specs.Scopes.{constant_value, is_fixed}
-use Rattle.rv_types.specs.ValueTables.{NamedTables, value_by}
-use Rattle.rv_instances.specs.declared.answer.Instance.{Instance as Numbered}
-use Rattle.rv_instances.specs.declared.givers.Giver.{Giver as Told}
-use Rattle.rv_instances.specs.declared.givers.Giver.TheVariants as told
-use Rattle.rv_instances.specs.declared.layout.Layout.{Layout}
-use Rattle.rv_instances.specs.Expanded.{IsExpanded}
-use Rattle.rv_instances.specs.Flowing.{place_at, AreFlowPlaces}
-use Rattle.rv_sequence.specs.FlowGraphs.{IsFlowGraph}
-use Rattle.rv_instances.specs.Givers.{StandsFor, AreGivers}
-use Rattle.rv_calls.specs.Graphs.{Graph, IsOrdered}
+use Rattle.rv_types.specs.{Scopes.constant_value, Scopes.is_fixed, ValueTables.NamedTables, ValueTables.value_by}
 use Rattle.rv_instances.specs.Layouts.{IsPlaced, IsLayout, IsNumberOf, here_of, all_places}
 use Rattle.rv_instances.specs.Weights.{weight, weight_of_giver, AreWeights}
-use Rattle.rv_sequence.specs.Weighing.{weight_in}
+use Rattle.rv_instances.specs.{declared.answer.Instance.Instance as Numbered, declared.givers.Giver.Giver as Told, declared.layout.Layout.Layout}
+use Rattle.rv_instances.specs.{Expanded.IsExpanded, Flowing.place_at, Flowing.AreFlowPlaces, Givers.StandsFor, Givers.AreGivers}
+use Rattle.rv_instances.specs.declared.givers.Giver.TheVariants as told
 use Rattle.rv_sequence.specs.WeightTables.{weighing_at, site_in, told_weight, IsToldWithin, IsNumbered, counted_weight, AreFlowWeights, AreFirstWeights}
+use Rattle.rv_sequence.specs.{FlowGraphs.IsFlowGraph, Weighing.weight_in}
+use Rattle.rv_calls.specs.Graphs.{Graph, IsOrdered}
 use Rattle.rv_instances.proofs.ExpandedLaws.{not_itself, node_in, node_is}
-use Rattle.rv_instances.proofs.FlowPlaces.{are_flow_places}
-use Rattle.rv_instances.proofs.Known.{map_at}
-use Rattle.rv_instances.proofs.LayoutLaws.{is_here}
-use Rattle.rv_instances.proofs.Lists.{length_map, nat_split}
-use Rattle.rv_sequence.proofs.Sequences.{ordered_sequence}
+use Rattle.rv_instances.proofs.{FlowPlaces.are_flow_places, Known.map_at, LayoutLaws.is_here, Lists.length_map, Lists.nat_split}
 use Rattle.rv_sequence.proofs.WeightFlows.{giver_output, instance_of, ReadsGiver, giver_reads, giver_flows}
-use Rattle.rv_sequence.proofs.WeightReads.{Reads, capped_weight}
-use Rattle.rv_sequence.proofs.NumbersNeeded.{output_within}
+use Rattle.rv_sequence.proofs.{Sequences.ordered_sequence, WeightReads.Reads, WeightReads.capped_weight, NumbersNeeded.output_within}
 use Rattle.rv_types.proofs.Members.{index_there}
-use Rattle.std.proofs.lemmas.Option.{get_or_from_slice_get}
 
 module _ (p : ProgramTree) (main : Identifier) (instances : List Numbered) (known : IsExpanded p main instances) where
   placed : AreFlowPlaces p main (all_places p instances)

@@ -1,15 +1,11 @@
 -- Of an expression that is free or on a clock, what is needed by the clocks that operands tell is what is needed.
 use Rattle.std.proofs.Common.{◌≡◌, ℕ, ◌++◌, refl, Option}
-use Rattle.rv_tree.specs.Tree.{Tree, Node, Form, True, False, Number, Named, Not, Minus, Pre, Current, When, Binary, If, AtMostOne, Call, Trees, None, More}
-use Rattle.rv_tree.specs.Tree.{NodeTree}
-use Rattle.rv_tree.specs.Places.{site_of}
-use Rattle.rv_types.specs.declared.typed.Clock.TheVariants.{Base}
+use Rattle.rv_tree.specs.{Tree.Tree, Tree.Node, Tree.Form, Tree.True, Tree.False, Tree.Number, Tree.Named, Tree.Not, Tree.Minus, Tree.Pre, Tree.Current}
+use Rattle.rv_tree.specs.{Tree.When, Tree.Binary, Tree.If, Tree.AtMostOne, Tree.Call, Tree.Trees, Tree.None, Tree.More, Tree.NodeTree, Places.site_of}
 use Rattle.rv_types.specs.Clocks.{seen, meet, pace, form_pace, pace_of_all}
-use Rattle.rv_types.specs.Instances.{clock_of, taken}
-use Rattle.rv_types.specs.ToldPaces.{IsTimed, told_clock}
+use Rattle.rv_types.specs.{declared.typed.Clock.TheVariants.Base, Instances.clock_of, Instances.taken, ToldPaces.IsTimed, ToldPaces.told_clock}
 use Rattle.rv_types.proofs.ToldPaces.{seen_is, current_is, joined, operands, when_is, told_is}
-use Rattle.rv_instances.specs.Layouts.{Here}
-use Rattle.rv_instances.specs.NumberedNeeds.{listed, clock_number}
+use Rattle.rv_instances.specs.{Layouts.Here, NumberedNeeds.listed, NumberedNeeds.clock_number}
 use Rattle.rv_sequence.specs.Needed.{needed, form_needed, needed_by_all, form_needed_by, told_needed, told_needed_by_all}
 
 module _ (n : NodeTree) (h : Here) where

@@ -1,41 +1,27 @@
 -- The flows of a program that has a sequence have weights, each of them one.
 use Rattle.std.proofs.Common.{◌≡◌, ℕ, zero, suc, ◌+◌, ◌<◌, ◌≤◌, ◌⊎◌, inl, inr, true, false, ◌&&◌, cond, List, [], ◌∷◌, ◌++◌, length, get_or, refl, sym, ◌∙◌, ap}
 use Rattle.std.proofs.Common.{subst, arith, Option, length-append, unwrap_or}
-use Rattle.std.specs.List.{Contains, All}
 use Rattle.std.proofs.lemmas.List.{append_assoc, get_or_default}
 use Rattle.std.proofs.lemmas.List.Elements.{All-contains, Contains-get_or, Contains-append_left, Contains-append_right}
-use Rattle.std.proofs.lemmas.Option.{slice_get_within}
-use Rattle.std.proofs.lemmas.Bool.{cases_eq}
-use Rattle.std.proofs.lemmas.Bool.Decides.{eqb_tells}
-use Rattle.rv_tree.specs.declared.tree.Decl.{Decl}
-use Rattle.rv_tree.specs.declared.tree.Op.{Op}
-use Rattle.rv_tree.specs.declared.tree.Op.TheVariants as op
+use Rattle.std.proofs.{lemmas.Option.slice_get_within, lemmas.Bool.cases_eq, lemmas.Bool.Decides.eqb_tells}
+use Rattle.std.specs.List.{Contains, All}
 use Rattle.rv_tree.specs.Tree.{Tree, Node, Form, True, False, Number, Named, Not, Minus, Pre, Current, When, Binary, If, AtMostOne, Call, EquationTree}
 use Rattle.rv_tree.specs.Tree.{NodeTree, ProgramTree}
-use Rattle.rv_tree.specs.Places.{Identifier, Sites, flows, names, is_flow}
-use Rattle.rv_types.specs.declared.typed.Clock.{Clock}
-use Rattle.rv_types.specs.declared.typed.Clock.TheVariants.{Base}
+use Rattle.rv_tree.specs.{declared.tree.Decl.Decl, declared.tree.Op.Op, Places.Identifier, Places.Sites, Places.flows, Places.names, Places.is_flow}
+use Rattle.rv_tree.specs.declared.tree.Op.TheVariants as op
 use Rattle.rv_types.specs.Instances.{CallTree, calls, calls_in, form_calls, calls_in_equations, calls_in_assertions, Right, Body, Output, IsRight, alone}
 use Rattle.rv_types.specs.Instances.{in_order, Instance, place, callee, clock_taken, clock_of, clock_of_arguments, absolute, output_place, node_of, IsInstance}
 use Rattle.rv_types.specs.Instances.{is_callee, IsFlow}
-use Rattle.rv_types.specs.Kinds.{kind_in_program, decl_kinds}
-use Rattle.rv_types.specs.Needs.{flow_of, needs, form_needs, Giver, Given, Of, Gives, given, by_equation, by_call, needs_of, needs_of_right, IsAmongFirst}
-use Rattle.rv_types.specs.Needs.{IsSequence}
-use Rattle.rv_types.specs.Scopes.{node_scope}
-use Rattle.rv_instances.specs.declared.answer.Instance.{Instance as Numbered}
-use Rattle.rv_instances.specs.AllInstances.{AreFed}
-use Rattle.rv_instances.specs.Expanded.{IsExpanded}
-use Rattle.rv_types.specs.Variables.{same_place}
+use Rattle.rv_types.specs.{declared.typed.Clock.Clock, declared.typed.Clock.TheVariants.Base, Kinds.kind_in_program, Kinds.decl_kinds, Needs.flow_of}
+use Rattle.rv_types.specs.{Needs.needs, Needs.form_needs, Needs.Giver, Needs.Given, Needs.Of, Needs.Gives, Needs.given, Needs.by_equation, Needs.by_call}
+use Rattle.rv_types.specs.{Needs.needs_of, Needs.needs_of_right, Needs.IsAmongFirst, Needs.IsSequence, Scopes.node_scope, Variables.same_place}
 use Rattle.rv_instances.specs.Weights.{weight_of_giver, AreWeights}
-use Rattle.rv_instances.proofs.CallsInside.{in_argument, calls_nested}
-use Rattle.rv_instances.proofs.ExpandedLaws.{node_in}
-use Rattle.rv_instances.proofs.Flowing.{site_itself, flow_of_giver}
-use Rattle.rv_instances.proofs.GiverLaws.{flow_giver, one_giver}
-use Rattle.rv_instances.proofs.Lists.{length_map, nat_split}
-use Rattle.rv_types.proofs.TypedParts.{IsTyped, operands_typed, one_constant, branches_typed, minus_typed, current_typed, when_typed, call_output}
-use Rattle.rv_types.proofs.TypedParts.{right_calls}
-use Rattle.rv_sequence.proofs.WeightReads.{IsScaled, Reads, FormReads, same_weight}
+use Rattle.rv_instances.specs.{declared.answer.Instance.Instance as Numbered, AllInstances.AreFed, Expanded.IsExpanded}
+use Rattle.rv_instances.proofs.{CallsInside.in_argument, CallsInside.calls_nested, ExpandedLaws.node_in, Flowing.site_itself, Flowing.flow_of_giver}
+use Rattle.rv_instances.proofs.{GiverLaws.flow_giver, GiverLaws.one_giver, Lists.length_map, Lists.nat_split}
+use Rattle.rv_types.proofs.TypedParts.{IsTyped, operands_typed, one_constant, branches_typed, minus_typed, current_typed, when_typed, call_output, right_calls}
 use Rattle.rv_types.proofs.Members.{among_contains}
+use Rattle.rv_sequence.proofs.WeightReads.{IsScaled, Reads, FormReads, same_weight}
 
 -- Places.
 

@@ -1,15 +1,8 @@
 -- Parts of expressions with their weights.
-use Rattle.std.proofs.Common.{◌≡◌, ℕ, min, Bool, true, false, cond, Option, Some, refl, ap, nat_abs}
-use Rattle.std.proofs.Common.{None as Nothing}
-use Rattle.rv_base.specs.declared.value.Value.{Value}
-use Rattle.rv_tree.specs.Tree.{Named}
-use Rattle.rv_tree.specs.Places.{Identifier}
-use Rattle.rv_types.specs.declared.weighing.Weighed.{Weighed}
-use Rattle.rv_types.specs.Constants.{whole_in}
-use Rattle.rv_types.specs.ConstantParts.{constant_form}
-use Rattle.rv_types.specs.Types.{Scope}
-use Rattle.rv_base.specs.Limits.{too_heavy}
-use Rattle.rv_types.specs.WideConstants.{lesser}
+use Rattle.std.proofs.Common.{◌≡◌, ℕ, min, Bool, true, false, cond, Option, Some, refl, ap, nat_abs, None as Nothing}
+use Rattle.rv_base.specs.{declared.value.Value.Value, Limits.too_heavy}
+use Rattle.rv_tree.specs.{Tree.Named, Places.Identifier}
+use Rattle.rv_types.specs.{declared.weighing.Weighed.Weighed, Constants.whole_in, ConstantParts.constant_form, Types.Scope, WideConstants.lesser}
 
 -- what is known of a constant or label is its value
 pub named_weight : (s : Scope) (known : Identifier → Value) (x : Identifier) (w : Weighed) → s.fixed x ≡ true → Some w ≡ constant_form s known (Named x)

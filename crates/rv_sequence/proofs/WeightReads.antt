@@ -1,21 +1,17 @@
 -- What the weight of an expression of an instance reads, and that nothing else matters to it.
 use Rattle.std.proofs.Common.{◌≡◌, ℕ, zero, suc, ◌+◌, ◌*◌, ◌≤◌, inl, inr, min, max, Bool, true, false, not, ◌&&◌, ◌||◌, cond, length, refl, sym, ◌∙◌, ap, arith}
 use Rattle.std.proofs.Common.{Option, Some, nat_abs, None as Nothing, unwrap_or}
-use Rattle.std.specs.List.{Contains}
 use Rattle.std.proofs.Math.Nat.{mul-le-mul_left}
-use Rattle.rv_base.specs.declared.value.Value.{Value}
-use Rattle.rv_tree.specs.declared.tree.Op.{Op}
-use Rattle.rv_tree.specs.declared.tree.Op.TheVariants as op
+use Rattle.std.specs.List.{Contains}
+use Rattle.rv_base.specs.{declared.value.Value.Value, Limits.too_heavy}
 use Rattle.rv_tree.specs.Tree.{Tree, Node, Form, True, False, Number, Named, Not, Minus, Pre, Current, When, Binary, If, AtMostOne, Call, Trees, None, More}
 use Rattle.rv_tree.specs.Tree.{ProgramTree}
-use Rattle.rv_tree.specs.Places.{Identifier, Sites, is_flow}
-use Rattle.rv_types.specs.declared.weighing.Weighed.{Weighed}
+use Rattle.rv_tree.specs.{declared.tree.Op.Op, Places.Identifier, Places.Sites, Places.is_flow}
+use Rattle.rv_tree.specs.declared.tree.Op.TheVariants as op
 use Rattle.rv_types.specs.Constants.{whole_in, value_of, form_value, form_weight}
-use Rattle.rv_types.specs.ConstantParts.{constant_part}
 use Rattle.rv_types.specs.Instances.{CallTree, calls, Instance, place, node_of, output_place}
-use Rattle.rv_types.specs.Scopes.{node_scope, constant_value, is_fixed}
 use Rattle.rv_types.specs.Types.{Scope, is_constant, is_constant_form, are_constant}
-use Rattle.rv_base.specs.Limits.{too_heavy}
+use Rattle.rv_types.specs.{declared.weighing.Weighed.Weighed, ConstantParts.constant_part, Scopes.node_scope, Scopes.constant_value, Scopes.is_fixed}
 use Rattle.rv_instances.specs.Weights.{constant_size, weight, form_weight as exact_weight}
 use Rattle.rv_sequence.specs.Weighing.{Weighing, product_of, weight_in, form_weight_in}
 use Rattle.rv_instances.proofs.Lists.{nat_split}

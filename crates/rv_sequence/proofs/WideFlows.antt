@@ -1,29 +1,22 @@
 -- Which expressions are too wide does not depend on the choice of the weights.
 use Rattle.std.proofs.Common.{◌≡◌, ℕ, inl, inr, cond, nat_lt, List, [], ◌∷◌, ◌++◌, length, refl, sym, ap, subst, arith, Option, unwrap_or}
-use Rattle.std.specs.List.{Contains, flat_map}
 use Rattle.std.proofs.lemmas.List.Elements.{Contains-append_left, Contains-append_right, Contains-append_cases}
-use Rattle.rv_tree.specs.declared.tree.Name.{Name}
+use Rattle.std.specs.List.{Contains, flat_map}
 use Rattle.rv_tree.specs.Tree.{Tree, Node, Form, True, False, Number, Named, Not, Minus, Pre, Current, When, Binary, If, AtMostOne, Call, Trees, None, More}
 use Rattle.rv_tree.specs.Tree.{EquationTree, AssertionTree, ProgramTree}
-use Rattle.rv_tree.specs.Places.{Identifier, Sites}
+use Rattle.rv_tree.specs.{declared.tree.Name.Name, Places.Identifier, Places.Sites}
 use Rattle.rv_types.specs.declared.typed.Kind.TheVariants as kind
-use Rattle.rv_types.specs.Names.{texts}
-use Rattle.rv_types.specs.Instances.{CallTree, calls, calls_in, form_calls, calls_in_all, calls_in_equations, calls_in_assertions, alone}
-use Rattle.rv_types.specs.Instances.{Instance, IsInstance, IsFlow}
-use Rattle.rv_types.specs.Needs.{IsSequence}
-use Rattle.rv_types.specs.Scopes.{node_scope}
-use Rattle.rv_instances.specs.declared.answer.Instance.{Instance as Numbered}
-use Rattle.rv_instances.specs.Expanded.{IsExpanded}
-use Rattle.rv_sequence.specs.Sided.{AreSided}
-use Rattle.rv_types.specs.Variables.{parts, form_parts, parts_of_all}
-use Rattle.rv_base.specs.Limits.{heaviest}
+use Rattle.rv_types.specs.Instances.{CallTree, calls, calls_in, form_calls, calls_in_all, calls_in_equations, calls_in_assertions, alone, Instance, IsInstance}
+use Rattle.rv_types.specs.Instances.{IsFlow}
+use Rattle.rv_types.specs.{Names.texts, Needs.IsSequence, Scopes.node_scope, Variables.parts, Variables.form_parts, Variables.parts_of_all}
 use Rattle.rv_instances.specs.Weights.{weight, too_wide, weighed_of_several, weighed_under, weighed, AreWeights, IsTooWide, AreLight, IsFirstTooWide}
-use Rattle.rv_instances.proofs.CallsInside.{in_argument, in_body, calls_nested}
-use Rattle.rv_instances.proofs.ExpandedLaws.{node_in}
+use Rattle.rv_instances.specs.{declared.answer.Instance.Instance as Numbered, Expanded.IsExpanded}
+use Rattle.rv_sequence.specs.Sided.{AreSided}
+use Rattle.rv_base.specs.Limits.{heaviest}
+use Rattle.rv_instances.proofs.{CallsInside.in_argument, CallsInside.in_body, CallsInside.calls_nested, ExpandedLaws.node_in}
 use Rattle.rv_types.proofs.TypedParts.{IsTyped, parts_typed, right_calls, argument_part}
-use Rattle.rv_sequence.proofs.WeightFlows.{IsInside, reads_flows, one_weight}
-use Rattle.rv_sequence.proofs.WeightReads.{same_weight}
 use Rattle.rv_types.proofs.Members.{cons_cases, nothing_in, of_flat_map}
+use Rattle.rv_sequence.proofs.{WeightFlows.IsInside, WeightFlows.reads_flows, WeightFlows.one_weight, WeightReads.same_weight}
 
 -- The calls of a part are calls of the whole.
 mutual

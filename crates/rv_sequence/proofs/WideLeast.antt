@@ -1,42 +1,26 @@
 -- The least offset of what is too wide.
 use Rattle.std.proofs.Common.{◌≡◌, ℕ, zero, suc, ◌<◌, ◌≤◌, ◌⊎◌, inl, inr, min, Bool, true, false, cond, nat_lt, List, [], ◌∷◌, ◌++◌, length, reverse, refl, sym}
 use Rattle.std.proofs.Common.{◌∙◌, ap, subst, arith, Option, Some, None as Nothing}
+use Rattle.std.proofs.{lemmas.Bool.cases_eq, lemmas.Bool.Decides.nat_tests, lemmas.List.append_assoc, lemmas.List.Elements.Contains-append_right}
 use Rattle.std.specs.List.{Contains, flat_map}
-use Rattle.std.proofs.lemmas.Bool.{cases_eq}
-use Rattle.std.proofs.lemmas.Bool.Decides.{nat_tests}
-use Rattle.std.proofs.lemmas.List.{append_assoc}
-use Rattle.std.proofs.lemmas.List.Elements.{Contains-append_right}
-use Rattle.rv_base.specs.declared.value.Value.{Value}
-use Rattle.rv_tree.specs.declared.tree.Name.{Name}
+use Rattle.rv_base.specs.{declared.value.Value.Value, Limits.too_heavy, Limits.heaviest}
 use Rattle.rv_tree.specs.Tree.{Tree, Node, Form, True, False, Number, Named, Not, Minus, Pre, Current, When, Binary, If, AtMostOne, Call, Trees, None, More}
 use Rattle.rv_tree.specs.Tree.{EquationTree, AssertionTree, ConstantTree, NodeTree, ProgramTree}
-use Rattle.rv_tree.specs.Places.{Identifier, Sites}
-use Rattle.rv_types.specs.Constants.{weight_of, form_weight}
-use Rattle.rv_types.specs.Instances.{Instance, IsInstance}
-use Rattle.rv_types.specs.Needs.{IsSequence}
-use Rattle.rv_types.specs.Scopes.{constant_value, constant_value_after}
-use Rattle.rv_base.specs.Limits.{too_heavy, heaviest}
-use Rattle.rv_types.specs.ValueTables.{NamedTables, value_by}
+use Rattle.rv_tree.specs.{declared.tree.Name.Name, Places.Identifier, Places.Sites}
 use Rattle.rv_types.specs.WideConstants.{lesser, wide_at, first_wide, wide_below, first_wide_of_all, first_wide_constant}
-use Rattle.rv_instances.specs.declared.answer.Instance.{Instance as Numbered}
-use Rattle.rv_instances.specs.declared.layout.Layout.{Layout}
-use Rattle.rv_instances.specs.Expanded.{IsExpanded}
-use Rattle.rv_instances.specs.Layouts.{IsNumberOf, IsLayout, node_at}
-use Rattle.rv_calls.specs.Loops.{AtMost}
-use Rattle.rv_sequence.specs.Sided.{AreSided}
 use Rattle.rv_types.specs.Variables.{parts, form_parts, parts_of_all}
-use Rattle.rv_instances.specs.Weights.{weight, too_wide, weighed_of_several, weighed_under, weighed, too_wide_constants, AreWeights, IsTooWide, AreLight}
-use Rattle.rv_instances.specs.Weights.{IsFirstTooWide}
+use Rattle.rv_types.specs.{Constants.weight_of, Constants.form_weight, Instances.Instance, Instances.IsInstance, Needs.IsSequence, Scopes.constant_value}
+use Rattle.rv_types.specs.{Scopes.constant_value_after, ValueTables.NamedTables, ValueTables.value_by}
+use Rattle.rv_instances.specs.{declared.answer.Instance.Instance as Numbered, declared.layout.Layout.Layout, Expanded.IsExpanded, Layouts.IsNumberOf}
+use Rattle.rv_instances.specs.{Layouts.IsLayout, Layouts.node_at, Weights.weight, Weights.too_wide, Weights.weighed_of_several, Weights.weighed_under}
+use Rattle.rv_instances.specs.{Weights.weighed, Weights.too_wide_constants, Weights.AreWeights, Weights.IsTooWide, Weights.AreLight, Weights.IsFirstTooWide}
+use Rattle.rv_calls.specs.Loops.{AtMost}
 use Rattle.rv_sequence.specs.Weighing.{Weighing, weight_in, form_weight_in, first_in, first_below, first_in_all}
-use Rattle.rv_sequence.specs.WeightTables.{weighing_at, counted_weight, AreFlowWeights}
 use Rattle.rv_sequence.specs.WideNodes.{wide_in_several, wide_in_side, wide_in_equations, wide_in_assertions, wide_in_node, wide_in_first}
-use Rattle.rv_instances.proofs.ExpandedLaws.{instance_at, number_at, node_is}
-use Rattle.rv_sequence.proofs.TableWeights.{HasWeight, part_weight}
-use Rattle.rv_instances.proofs.Lists.{nat_split}
-use Rattle.rv_sequence.proofs.WeightFlows.{flows_read, are_weights}
-use Rattle.rv_sequence.proofs.WideFlows.{is_weighed}
-use Rattle.rv_types.proofs.Members.{cons_cases, nothing_in}
-use Rattle.rv_types.proofs.WideParts.{lesser_more}
+use Rattle.rv_sequence.specs.{Sided.AreSided, WeightTables.weighing_at, WeightTables.counted_weight, WeightTables.AreFlowWeights}
+use Rattle.rv_instances.proofs.{ExpandedLaws.instance_at, ExpandedLaws.number_at, ExpandedLaws.node_is, Lists.nat_split}
+use Rattle.rv_sequence.proofs.{TableWeights.HasWeight, TableWeights.part_weight, WeightFlows.flows_read, WeightFlows.are_weights, WideFlows.is_weighed}
+use Rattle.rv_types.proofs.{Members.cons_cases, Members.nothing_in, WideParts.lesser_more}
 use Rattle.rv_base.proofs.Truths.{less_told}
 
 -- the least of some offsets

@@ -1,7 +1,6 @@
 -- A cycle of flows as it is told.
 use Rattle.std.specs.Prelude.{List}
-use Rattle.rv_tree.specs.Tree.{ProgramTree}
-use Rattle.rv_tree.specs.Places.{Identifier, Sites}
+use Rattle.rv_tree.specs.{Tree.ProgramTree, Places.Identifier, Places.Sites}
 use Rattle.rv_types.specs.Needs.{IsCycle, StartsWithLeast}
 
 -- a cycle, from its least place on

@@ -1,14 +1,11 @@
 -- Which flow needs which, as a graph, and cycles.
 use Rattle.std.specs.Prelude.{◌≡◌, ℕ, ◌<◌, ◌≤◌, List, ◌++◌, length, slice_index_or}
 use Rattle.std.specs.List.{Contains, All}
-use Rattle.rv_tree.specs.Tree.{ProgramTree}
-use Rattle.rv_tree.specs.Places.{Identifier, Sites}
-use Rattle.rv_calls.specs.declared.fault.CauseFault.{CauseFault}
+use Rattle.rv_tree.specs.{Tree.ProgramTree, Places.Identifier, Places.Sites}
 use Rattle.rv_calls.specs.declared.fault.CauseFault.TheVariants.{Recursive, Cycle, TooLarge, TooWide, Memory}
-use Rattle.rv_types.specs.Needs.{Giver, Gives, needs_of, NeedsFlow}
-use Rattle.rv_calls.specs.Graphs.{Graph, edges}
+use Rattle.rv_calls.specs.{declared.fault.CauseFault.CauseFault, Graphs.Graph, Graphs.edges}
+use Rattle.rv_types.specs.{Needs.Giver, Needs.Gives, Needs.needs_of, Needs.NeedsFlow, Lists.sites_of}
 use Rattle.rv_sequence.specs.Cycles.{IsCycleFromLeast}
-use Rattle.rv_types.specs.Lists.{sites_of}
 use Rattle.rv_instances.specs.Flowing.{place_at, AreFlowPlaces}
 
 -- Each of these places points to those that it needs at the same instant.

@@ -3,15 +3,11 @@
 use Rattle.std.specs.Prelude.{ℕ, ◌+◌, List, [], ◌∷◌, ◌++◌, unwrap_or, Option}
 use Rattle.rv_tree.specs.Tree.{Tree, Node, Form, True, False, Number, Named, Not, Minus, Pre, Current, When, Binary, If, AtMostOne, Call, Trees, None, More}
 use Rattle.rv_tree.specs.Tree.{NodeTree, ProgramTree, tree_of}
-use Rattle.rv_types.specs.declared.typed.Clock.{Clock}
-use Rattle.rv_types.specs.Instances.{clock_of}
-use Rattle.rv_types.specs.ToldPaces.{told_clock}
-use Rattle.rv_instances.specs.declared.answer.Instance.{Instance as Numbered}
-use Rattle.rv_instances.specs.declared.givers.Giver.{Giver}
+use Rattle.rv_types.specs.{declared.typed.Clock.Clock, Instances.clock_of, ToldPaces.told_clock}
 use Rattle.rv_instances.specs.declared.givers.Giver.TheVariants.{Input, Body, Output}
-use Rattle.rv_instances.specs.declared.layout.Layout.{Layout}
 use Rattle.rv_instances.specs.Layouts.{Here, here_of, node_at}
 use Rattle.rv_instances.specs.NumberedNeeds.{listed, clock_number, clock_of_expression, flow_number, site_in}
+use Rattle.rv_instances.specs.{declared.answer.Instance.Instance as Numbered, declared.givers.Giver.Giver, declared.layout.Layout.Layout}
 
 -- In an instance of a node with these numbers, where operands of `current` have these clocks.
 module _ (n : NodeTree) (h : Here) (clock : Tree → Clock) where

@@ -1,10 +1,8 @@
 -- What is answered of a program whose instances are known: a sequence of its flows, or a cycle, or what is too wide.
 use Rattle.std.specs.Prelude.{List}
 use Rattle.rv_base.specs.declared.value.Place.{Place}
-use Rattle.rv_tree.specs.Tree.{ProgramTree}
-use Rattle.rv_tree.specs.Places.{Identifier, Sites}
-use Rattle.rv_types.specs.Lists.{sites_of}
-use Rattle.rv_types.specs.Needs.{IsSequence}
+use Rattle.rv_tree.specs.{Tree.ProgramTree, Places.Identifier, Places.Sites}
+use Rattle.rv_types.specs.{Lists.sites_of, Needs.IsSequence}
 use Rattle.rv_calls.specs.declared.fault.CauseFault.{CauseFault}
 use Rattle.rv_calls.specs.declared.fault.CauseFault.TheVariants.{Recursive, Cycle, TooLarge, TooWide, Memory}
 use Rattle.rv_sequence.specs.Cycles.{IsCycleFromLeast}

@@ -1,8 +1,6 @@
 -- Equations with several left sides.
-use Rattle.std.specs.Prelude.{◌≡◌, ℕ, length, Option}
-use Rattle.std.specs.List.{Contains}
-use Rattle.rv_tree.specs.Tree.{Node, Call, Trees, EquationTree, NodeTree, ProgramTree}
-use Rattle.rv_tree.specs.Places.{Identifier}
+use Rattle.std.specs.{Prelude.◌≡◌, Prelude.ℕ, Prelude.length, Prelude.Option, List.Contains}
+use Rattle.rv_tree.specs.{Tree.Node, Tree.Call, Tree.Trees, Tree.EquationTree, Tree.NodeTree, Tree.ProgramTree, Places.Identifier}
 
 -- The right side of an equation of a node is a call, where the equation has not one left side.
 abbrev pub HasSides : NodeTree → Type 0

@@ -1,21 +1,14 @@
 -- The weights of the expressions of an instance by tables, and the least offset of what is too wide.
 use Rattle.std.specs.Prelude.{ℕ, ◌+◌, ◌*◌, max, Bool, true, cond, nat_abs, unwrap_or, Option, Some, slice_index_or, None as Nothing}
 use Rattle.rv_base.specs.declared.value.Value.{Value}
-use Rattle.rv_tree.specs.declared.tree.Op.{Op}
-use Rattle.rv_tree.specs.declared.tree.Op.TheVariants as op
 use Rattle.rv_tree.specs.Tree.{Tree, Node, Form, True, False, Number, Named, Not, Minus, Pre, Current, When, Binary, If, AtMostOne, Call, Trees, None, More}
 use Rattle.rv_tree.specs.Tree.{node_tree}
-use Rattle.rv_tree.specs.Places.{Identifier, site_of}
-use Rattle.rv_types.specs.declared.weighing.Weighed.{Weighed}
-use Rattle.rv_types.specs.Constants.{whole_in}
-use Rattle.rv_types.specs.ConstantParts.{constant_part}
-use Rattle.rv_types.specs.Scopes.{no_clock, no_callee, is_fixed}
-use Rattle.rv_types.specs.Types.{Scope}
-use Rattle.rv_types.specs.ValueTables.{value_by}
-use Rattle.rv_types.specs.WideConstants.{lesser, wide_at}
+use Rattle.rv_tree.specs.{declared.tree.Op.Op, Places.Identifier, Places.site_of}
+use Rattle.rv_tree.specs.declared.tree.Op.TheVariants as op
+use Rattle.rv_types.specs.{declared.weighing.Weighed.Weighed, Constants.whole_in, ConstantParts.constant_part, Scopes.no_clock, Scopes.no_callee}
+use Rattle.rv_types.specs.{Scopes.is_fixed, Types.Scope, ValueTables.value_by, WideConstants.lesser, WideConstants.wide_at}
 use Rattle.rv_sequence.specs.declared.weights.Weigher.{Weigher}
-use Rattle.rv_instances.specs.Layouts.{here_of}
-use Rattle.rv_instances.specs.Weights.{weight_under}
+use Rattle.rv_instances.specs.{Layouts.here_of, Weights.weight_under}
 
 -- What the weights in an instance depend on: which names are constants and labels, what these stand for, and the
 -- weights of flows and, by the sites of calls, of outputs.

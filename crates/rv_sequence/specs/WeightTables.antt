@@ -1,18 +1,11 @@
 -- The weights of the flows of all instances by their numbers.
 use Rattle.std.specs.Prelude.{◌≡◌, ℕ, ◌+◌, ◌^◌, ◌<◌, min, List, length, map, unwrap_or, slice_index_or}
-use Rattle.rv_tree.specs.Tree.{Tree, Node, ProgramTree, tree_of}
-use Rattle.rv_tree.specs.Places.{Identifier, Sites, site_of}
-use Rattle.rv_types.specs.Needs.{IsSequence}
-use Rattle.rv_types.specs.Scopes.{is_fixed}
+use Rattle.rv_tree.specs.{Tree.Tree, Tree.Node, Tree.ProgramTree, Tree.tree_of, Places.Identifier, Places.Sites, Places.site_of}
+use Rattle.rv_types.specs.{Needs.IsSequence, Scopes.is_fixed, ValueTables.NamedTables, ValueTables.value_by}
 use Rattle.rv_base.specs.Limits.{too_heavy}
-use Rattle.rv_types.specs.ValueTables.{NamedTables, value_by}
-use Rattle.rv_instances.specs.declared.answer.Instance.{Instance as Numbered}
-use Rattle.rv_instances.specs.declared.givers.Giver.{Giver as Told}
-use Rattle.rv_instances.specs.declared.givers.Giver.TheVariants.{Input, Body, Output}
-use Rattle.rv_instances.specs.declared.layout.Layout.{Layout}
-use Rattle.rv_instances.specs.Flowing.{place_at}
-use Rattle.rv_instances.specs.Layouts.{here_of, node_at, all_places}
-use Rattle.rv_instances.specs.Weights.{AreWeights}
+use Rattle.rv_instances.specs.{declared.answer.Instance.Instance as Numbered, declared.givers.Giver.Giver as Told, declared.givers.Giver.TheVariants.Input}
+use Rattle.rv_instances.specs.{declared.givers.Giver.TheVariants.Body, declared.givers.Giver.TheVariants.Output, declared.layout.Layout.Layout}
+use Rattle.rv_instances.specs.{Flowing.place_at, Layouts.here_of, Layouts.node_at, Layouts.all_places, Weights.AreWeights}
 use Rattle.rv_sequence.specs.Weighing.{Weighing, fixing, weight_in}
 
 -- what the tables say of the instance with a number

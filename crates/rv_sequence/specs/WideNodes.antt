@@ -1,18 +1,12 @@
 -- The least offset of what is too wide in a node and in all instances.
 use Rattle.std.specs.Prelude.{ℕ, zero, suc, true, List, [], ◌∷◌, Option, None as Nothing}
-use Rattle.rv_tree.specs.declared.tree.Name.{Name}
 use Rattle.rv_tree.specs.Tree.{Tree, Node, Call, EquationTree, AssertionTree, NodeTree, ProgramTree}
-use Rattle.rv_tree.specs.Places.{Identifier}
-use Rattle.rv_types.specs.ValueTables.{NamedTables}
-use Rattle.rv_types.specs.WideConstants.{lesser}
-use Rattle.rv_instances.specs.declared.answer.Instance.{Instance as Numbered}
+use Rattle.rv_tree.specs.{declared.tree.Name.Name, Places.Identifier}
+use Rattle.rv_types.specs.{ValueTables.NamedTables, WideConstants.lesser}
+use Rattle.rv_instances.specs.{declared.answer.Instance.Instance as Numbered, declared.layout.Layout.Layout, Layouts.node_at, Weights.IsFirstTooWide}
 use Rattle.rv_calls.specs.declared.fault.CauseFault.{CauseFault}
 use Rattle.rv_calls.specs.declared.fault.CauseFault.TheVariants.{Recursive, Cycle, TooLarge, TooWide, Memory}
-use Rattle.rv_instances.specs.declared.layout.Layout.{Layout}
-use Rattle.rv_instances.specs.Layouts.{node_at}
-use Rattle.rv_instances.specs.Weights.{IsFirstTooWide}
-use Rattle.rv_sequence.specs.Weighing.{Weighing, first_in, first_in_all}
-use Rattle.rv_sequence.specs.WeightTables.{weighing_at}
+use Rattle.rv_sequence.specs.{Weighing.Weighing, Weighing.first_in, Weighing.first_in_all, WeightTables.weighing_at}
 
 module _ (w : Weighing) where
   -- in a right side with several left sides; a call has no weight of its own there

@@ -4,9 +4,7 @@ use Rattle.std.proofs.lemmas.List.{append_assoc}
 use Rattle.std.specs.List.{Contains}
 use Rattle.rv_tree.specs.declared.tree.Node as declared
 use Rattle.rv_base.specs.Limits.{source_limit}
-use Rattle.rv_tree.specs.Bounded.{IsBounded}
-use Rattle.rv_tree.specs.Places.{flows}
-use Rattle.rv_tree.specs.Tree.{NodeTree, ProgramTree, node_tree}
+use Rattle.rv_tree.specs.{Bounded.IsBounded, Places.flows, Tree.NodeTree, Tree.ProgramTree, Tree.node_tree}
 use Rattle.rv_types.proofs.Members.{in_map}
 use Rattle.rv_base.proofs.Lists.{next_of}
 

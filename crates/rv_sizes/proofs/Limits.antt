@@ -1,8 +1,7 @@
 -- Where the first number above a limit is within it, none is above.
 use Rattle.std.proofs.Common.{◌≡◌, inl, inr, ℕ, ◌<◌, ◌≤◌, Bool, true, false, cond, List, [], ◌∷◌, refl, subst, arith}
-use Rattle.std.specs.Prelude.{nat_lt}
-use Rattle.std.specs.List.{Contains}
 use Rattle.std.proofs.lemmas.Bool.Decides.{nat_tests}
+use Rattle.std.specs.{Prelude.nat_lt, List.Contains}
 use Rattle.rv_sizes.specs.Sizes.{first_above}
 use Rattle.rv_types.proofs.Members.{cons_cases, nothing_in}
 

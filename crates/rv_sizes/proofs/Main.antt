@@ -1,15 +1,11 @@
 -- The main node of a program, and the types of its flows.
 use Rattle.std.proofs.Common.{◌≡◌, ℕ, ◌<◌, ◌≤◌, ◌+◌, List, [], ◌++◌, map, length, get_or, slice_get, Some, sym, ◌∙◌, ap, subst, length-append, arith}
-use Rattle.rv_tree.specs.declared.tree.Node as declared
-use Rattle.rv_tree.specs.declared.tree.Decl.{Decl}
-use Rattle.rv_tree.specs.Tree.{NodeTree, ProgramTree, node_tree}
-use Rattle.rv_types.specs.declared.typed.Kind.{Kind}
-use Rattle.rv_types.specs.Kinds.{flow_kinds, kind_in_program}
-use Rattle.rv_types.specs.Names.{name_faults, decls}
-use Rattle.rv_types.specs.Instances.{no_node, node_of, name_at}
-use Rattle.rv_instances.proofs.Known.{map_at, node_of_number}
-use Rattle.rv_instances.proofs.Lists.{length_map}
 use Rattle.std.proofs.lemmas.Option.{get_or_from_slice_get}
+use Rattle.rv_tree.specs.declared.tree.Node as declared
+use Rattle.rv_tree.specs.{declared.tree.Decl.Decl, Tree.NodeTree, Tree.ProgramTree, Tree.node_tree}
+use Rattle.rv_types.specs.Instances.{no_node, node_of, name_at}
+use Rattle.rv_types.specs.{declared.typed.Kind.Kind, Kinds.flow_kinds, Kinds.kind_in_program, Names.name_faults, Names.decls}
+use Rattle.rv_instances.proofs.{Known.map_at, Known.node_of_number, Lists.length_map}
 
 module _ (p : ProgramTree) (ns : List declared.Node) (k : ℕ) (n : declared.Node) (are : p.nodes ≡ map node_tree ns) (within : k < length p.nodes)
     (read : slice_get ns k ≡ Some n) where

@@ -1,20 +1,13 @@
 -- What the sums over nodes say of a program.
 use Rattle.std.proofs.Common.{◌≡◌, ℕ, zero, suc, cond, ◌<◌, min, List, [], ◌∷◌, map, length, get_or, replicate, refl, sym, ◌∙◌, ap, arith}
 use Rattle.std.proofs.lemmas.List.{length-replicate, get_or-replicate}
-use Rattle.rv_tree.specs.Tree.{NodeTree, ProgramTree}
-use Rattle.rv_tree.specs.Delays.{Delay}
-use Rattle.rv_types.specs.declared.typed.Kind.{Kind}
-use Rattle.rv_types.specs.Names.{name_faults}
-use Rattle.rv_calls.specs.declared.calls.Calling.{Calling}
-use Rattle.rv_types.specs.Instances.{Instance, main_instance, all_instances, name_at}
+use Rattle.rv_tree.specs.{Tree.NodeTree, Tree.ProgramTree, Delays.Delay}
+use Rattle.rv_types.specs.{declared.typed.Kind.Kind, Names.name_faults, Instances.Instance, Instances.main_instance, Instances.all_instances, Instances.name_at}
+use Rattle.rv_types.specs.{Variables.total, Variables.over_instances, Variables.is_integer, Variables.memories, Values.operand_kind}
+use Rattle.rv_calls.specs.{declared.calls.Calling.Calling, Callings.callings_of}
 use Rattle.rv_instances.specs.Counts.{node_size, instance_count, expanded, integer_memories}
-use Rattle.rv_types.specs.Variables.{total, over_instances, is_integer, memories}
-use Rattle.rv_types.specs.Values.{operand_kind}
-use Rattle.rv_calls.specs.Callings.{callings_of}
 use Rattle.rv_base.specs.Limits.{heaviest}
-use Rattle.rv_sizes.specs.Totals.{total_at, AreTotals, AreCapped}
-use Rattle.rv_sizes.specs.Capped.{capped, capped_sizes}
-use Rattle.rv_sizes.specs.Memories.{integers, memory_kinds}
+use Rattle.rv_sizes.specs.{Totals.total_at, Totals.AreTotals, Totals.AreCapped, Capped.capped, Capped.capped_sizes, Memories.integers, Memories.memory_kinds}
 use Rattle.rv_instances.proofs.Known.{node_of_number}
 use Rattle.rv_calls.proofs.Recursions.{table_size}
 use Rattle.rv_sizes.proofs.Unrolling.{unrolled_total, total_map, total_ones, capped_total}

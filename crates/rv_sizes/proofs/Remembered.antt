@@ -1,27 +1,16 @@
 -- The memories of a node, found by the tables of its expressions.
-use Rattle.std.proofs.Common.{◌≡◌, ℕ, Bool, true, false, cond, ◌||◌, nat_eq, List, [], ◌∷◌, ◌++◌, map, unwrap_or, Option, refl, sym, ◌∙◌, ap, ◌+◌}
-use Rattle.std.proofs.Common.{length, length-append}
-use Rattle.std.specs.Prelude.{slice_index_or}
+use Rattle.std.proofs.Common.{◌≡◌, ℕ, Bool, true, false, cond, ◌||◌, nat_eq, List, [], ◌∷◌, ◌++◌, map, unwrap_or, Option, refl, sym, ◌∙◌, ap, ◌+◌, length}
+use Rattle.std.proofs.Common.{length-append}
 use Rattle.std.proofs.lemmas.List.{append_assoc}
-use Rattle.std.specs.List.{list_any}
-use Rattle.std.specs.Cmp.{nat_eq_equiv, partial_equiv_from_equiv}
+use Rattle.std.specs.{Prelude.slice_index_or, List.list_any, Cmp.nat_eq_equiv, Cmp.partial_equiv_from_equiv}
 use Rattle.indexmap.specs.IndexSet.{insert_key}
 use Rattle.rv_tree.specs.Tree.{Tree, Node, Named, NodeTree, ProgramTree}
-use Rattle.rv_tree.specs.Places.{Identifier, flows, memory_site}
-use Rattle.rv_tree.specs.Delays.{Delay, node_delays}
-use Rattle.rv_types.specs.declared.typed.Kind.{Kind}
+use Rattle.rv_tree.specs.{Places.Identifier, Places.flows, Places.memory_site, Delays.Delay, Delays.node_delays}
+use Rattle.rv_types.specs.{declared.typed.Kind.Kind, declared.reading.ProgramTables.ProgramTables, declared.reading.NodeTables.NodeTables}
+use Rattle.rv_types.specs.{Delayed.delayed_kinds, Names.texts, Readings.view_of, Scopes.node_scope, Tables.scope_of, Types.Scope, Types.kind_of}
+use Rattle.rv_types.specs.{Variables.is_in, Variables.memories_beside, Values.operand_kind}
 use Rattle.rv_types.specs.declared.typed.Kind.TheVariants as kind
-use Rattle.rv_types.specs.declared.reading.ProgramTables.{ProgramTables}
-use Rattle.rv_types.specs.declared.reading.NodeTables.{NodeTables}
-use Rattle.rv_types.specs.Delayed.{delayed_kinds}
-use Rattle.rv_types.specs.Names.{texts}
-use Rattle.rv_types.specs.Readings.{view_of}
-use Rattle.rv_types.specs.Scopes.{node_scope}
-use Rattle.rv_types.specs.Tables.{scope_of}
-use Rattle.rv_types.specs.Types.{Scope, kind_of}
 use Rattle.rv_instances.specs.Timed.{ToldDelay, delay_told, delays_told}
-use Rattle.rv_types.specs.Variables.{is_in, memories_beside}
-use Rattle.rv_types.specs.Values.{operand_kind}
 use Rattle.rv_sizes.specs.Memories.{site_in, read_of, sites_read, paired, with_site, kinds_beside, memory_kinds}
 
 -- a site is among some where one of them equals it

@@ -1,16 +1,11 @@
 -- Which quantity is the first that is too large, from capped sums.
 use Rattle.std.proofs.Common.{◌≡◌, inl, inr, ℕ, ◌<◌, ◌≤◌, min, map, refl, arith}
-use Rattle.rv_tree.specs.Tree.{ProgramTree}
-use Rattle.rv_tree.specs.Places.{Identifier}
+use Rattle.rv_tree.specs.{Tree.ProgramTree, Places.Identifier}
 use Rattle.rv_calls.specs.declared.fault.Quantity.TheVariants as quantity
 use Rattle.rv_instances.specs.Counts.{instance_count, expanded, integer_memories, integer_inputs}
-use Rattle.rv_sizes.specs.Sizes.{first_above, measures, IsFirstAbove}
-use Rattle.rv_types.specs.Variables.{over_instances, variable_count}
-use Rattle.rv_types.specs.Values.{label_count}
-use Rattle.rv_types.specs.Instances.{node_of}
+use Rattle.rv_sizes.specs.{Sizes.first_above, Sizes.measures, Sizes.IsFirstAbove, Capped.capped, Sized.IsSmall, Sized.IsSized}
+use Rattle.rv_types.specs.{Variables.over_instances, Variables.variable_count, Values.label_count, Instances.node_of}
 use Rattle.rv_base.specs.Limits.{heaviest}
-use Rattle.rv_sizes.specs.Capped.{capped}
-use Rattle.rv_sizes.specs.Sized.{IsSmall, IsSized}
 
 above : (limit n c : ℕ) → n ≡ min c heaviest → limit < n → limit < c
 above limit n c is more = omega (arith, is, more)

@@ -1,18 +1,15 @@
 -- Sums over nodes in an order in which each stands after those that it calls.
 use Rattle.std.proofs.Common.{◌≡◌, ℕ, zero, suc, ◌+◌, ◌<◌, ◌≤◌, inl, inr, min, List, [], ◌∷◌, ◌++◌, length, get_or, set, take, replicate, refl, sym, ◌∙◌, ap}
 use Rattle.std.proofs.Common.{subst, arith, slice_get, Some}
-use Rattle.std.specs.List.{Contains}
 use Rattle.std.proofs.lemmas.List.{length-set, length-replicate, get_or-set_same, get_or-set_other, get_or-replicate, take_more}
-use Rattle.std.proofs.lemmas.Bool.{cases_eq}
-use Rattle.rv_calls.specs.declared.calls.Calling.{Calling}
+use Rattle.std.proofs.{lemmas.Bool.cases_eq, lemmas.Option.get_or_from_slice_get}
+use Rattle.std.specs.List.{Contains}
+use Rattle.rv_calls.specs.{declared.calls.Calling.Calling, Graphs.IsOrdered, Callings.callees, Callings.call_graph}
 use Rattle.rv_types.specs.Variables.{total}
-use Rattle.rv_calls.specs.Graphs.{IsOrdered}
-use Rattle.rv_calls.specs.Callings.{callees, call_graph}
 use Rattle.rv_base.specs.Limits.{heaviest}
 use Rattle.rv_sizes.specs.Totals.{total_at, AreTotals, called_total, AreSummed}
 use Rattle.rv_instances.proofs.Lists.{contains_at, length_map}
 use Rattle.rv_calls.proofs.Lowering.{edge_of}
-use Rattle.std.proofs.lemmas.Option.{get_or_from_slice_get}
 
 pub total_append : {X : Type 0} (f : X → ℕ) (xs ys : List X) → total f (xs ++ ys) ≡ total f xs + total f ys
 total_append f [] ys = omega arith

@@ -1,26 +1,17 @@
 -- Where no node reaches itself, the ticks of a node are the same at every number of levels that is enough for it.
 use Rattle.std.proofs.Common.{◌≡◌, ℕ, zero, suc, ◌+◌, ◌<◌, true, cond, List, [], ◌∷◌, ◌++◌, length, get_or, refl, sym, ◌∙◌, ap, subst, arith}
-use Rattle.std.specs.List.{Contains}
 use Rattle.std.proofs.lemmas.List.Elements.{Contains-get_or}
-use Rattle.rv_tree.specs.Tree.{NodeTree, ProgramTree}
-use Rattle.rv_tree.specs.Places.{Identifier, is_among, index_of}
-use Rattle.rv_types.specs.declared.typed.Clock.{Clock}
-use Rattle.rv_types.specs.declared.typed.Clock.TheVariants.{Base}
-use Rattle.rv_types.specs.Clocks.{pace_of_all}
-use Rattle.rv_types.specs.Names.{name_faults}
+use Rattle.std.specs.List.{Contains}
+use Rattle.rv_tree.specs.{Tree.NodeTree, Tree.ProgramTree, Places.Identifier, Places.is_among, Places.index_of}
 use Rattle.rv_types.specs.Instances.{CallTree, calls, Instance, taken, no_node, node_of, callee, unrolled, main_instance}
-use Rattle.rv_calls.specs.Graphs.{IsOrdered}
-use Rattle.rv_calls.specs.Callings.{calling, callings_of, call_graph}
-use Rattle.rv_instances.specs.AllInstances.{names_of}
-use Rattle.rv_types.specs.WellFormed.{AreSited}
 use Rattle.rv_types.specs.Variables.{total, node_parts, over_instances, ticks}
+use Rattle.rv_types.specs.{declared.typed.Clock.Clock, declared.typed.Clock.TheVariants.Base, Clocks.pace_of_all, Names.name_faults, WellFormed.AreSited}
+use Rattle.rv_calls.specs.{Graphs.IsOrdered, Callings.calling, Callings.callings_of, Callings.call_graph}
+use Rattle.rv_instances.specs.AllInstances.{names_of}
 use Rattle.rv_sizes.specs.Ticks.{arrows, has_base, sites_of_clocks, ticking, tick_total, own_ticks}
-use Rattle.rv_instances.proofs.Lists.{contains_at}
-use Rattle.rv_instances.proofs.Known.{called, calls_declared}
-use Rattle.rv_calls.proofs.Recursions.{tabled, graph_size}
-use Rattle.rv_calls.proofs.Lowering.{edge_of}
-use Rattle.rv_sizes.proofs.Unrolling.{total_same, total_flat_map}
-use Rattle.rv_sizes.proofs.TickPlaces.{ticks_counted}
+use Rattle.rv_instances.proofs.{Lists.contains_at, Known.called, Known.calls_declared}
+use Rattle.rv_calls.proofs.{Recursions.tabled, Recursions.graph_size, Lowering.edge_of}
+use Rattle.rv_sizes.proofs.{Unrolling.total_same, Unrolling.total_flat_map, TickPlaces.ticks_counted}
 use Rattle.rv_base.proofs.Lists.{flat_map_same}
 
 module _ (p : ProgramTree) (named : name_faults p ≡ []) (order : List ℕ) (ordered : IsOrdered (call_graph (callings_of p)) order) where

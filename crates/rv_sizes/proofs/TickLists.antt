@@ -1,17 +1,14 @@
 -- Lists whose elements are different, and how long they are.
 use Rattle.std.proofs.Common.{◌≡◌, ℕ, suc, ◌≤◌, ◌⊎◌, inl, inr, Bool, true, false, cond, ◌&&◌, ◌||◌, nat_eq, List, [], ◌∷◌, ◌++◌, map, length, refl, sym, ◌∙◌}
 use Rattle.std.proofs.Common.{ap, subst, arith}
+use Rattle.std.proofs.{lemmas.Bool.eqb-true, lemmas.Bool.eq-eqb, lemmas.List.Elements.Contains-append_cases}
 use Rattle.std.specs.List.{Contains, flat_map}
-use Rattle.std.proofs.lemmas.Bool.{eqb-true, eq-eqb}
-use Rattle.std.proofs.lemmas.List.Elements.{Contains-append_cases}
 use Rattle.rv_tree.specs.Places.{Sites}
-use Rattle.rv_types.specs.declared.typed.Clock.{Clock}
-use Rattle.rv_types.specs.declared.typed.Clock.TheVariants.{Base, On}
 use Rattle.rv_types.specs.Variables.{is_in, same_place, is_place_in, different}
+use Rattle.rv_types.specs.{declared.typed.Clock.Clock, declared.typed.Clock.TheVariants.Base, declared.typed.Clock.TheVariants.On}
 use Rattle.rv_sizes.specs.Ticks.{has_base, sites_of_clocks}
 use Rattle.rv_types.proofs.Members.{cons_cases, in_map, in_tail, nothing_in, of_flat_map}
-use Rattle.rv_base.proofs.Lists.{from_map}
-use Rattle.rv_base.proofs.Truths.{or_true}
+use Rattle.rv_base.proofs.{Lists.from_map, Truths.or_true}
 
 -- no two elements are equal
 abbrev pub Apart : {X : Type 0} → List X → Type 0

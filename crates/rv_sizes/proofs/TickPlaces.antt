@@ -1,22 +1,18 @@
 -- The places of ticks, counted along calls.
 use Rattle.std.proofs.Common.{◌≡◌, ℕ, zero, suc, ◌+◌, ◌<◌, ◌⊎◌, inl, inr, Bool, true, false, cond, List, [], ◌∷◌, ◌++◌, map, length, get_or, refl, sym, ◌∙◌, ap}
 use Rattle.std.proofs.Common.{subst, arith, Option, Some, unwrap_or, length-append, None as Nothing}
-use Rattle.std.specs.List.{Contains, flat_map}
 use Rattle.std.proofs.lemmas.List.{append_assoc}
 use Rattle.std.proofs.lemmas.List.Elements.{Contains-append_left, Contains-append_right, Contains-append_cases}
-use Rattle.rv_tree.specs.Tree.{Tree, NodeTree, ProgramTree}
-use Rattle.rv_tree.specs.Places.{Identifier, Sites, is_same}
-use Rattle.rv_types.specs.declared.typed.Clock.{Clock}
-use Rattle.rv_types.specs.declared.typed.Clock.TheVariants.{Base, On}
-use Rattle.rv_types.specs.Clocks.{pace, pace_of_all}
-use Rattle.rv_types.specs.Kinds.{node_among}
+use Rattle.std.specs.List.{Contains, flat_map}
+use Rattle.rv_tree.specs.{Tree.Tree, Tree.NodeTree, Tree.ProgramTree, Places.Identifier, Places.Sites, Places.is_same}
 use Rattle.rv_types.specs.Instances.{CallTree, calls, Instance, absolute, taken, no_node, node_of, callee, unrolled, main_instance}
-use Rattle.rv_types.specs.WellFormed.{HasSites, AreSited}
 use Rattle.rv_types.specs.Variables.{total, node_parts, is_arrow, arrow_clocks, ticks}
+use Rattle.rv_types.specs.{declared.typed.Clock.Clock, declared.typed.Clock.TheVariants.Base, declared.typed.Clock.TheVariants.On, Clocks.pace}
+use Rattle.rv_types.specs.{Clocks.pace_of_all, Kinds.node_among, WellFormed.HasSites, WellFormed.AreSited}
 use Rattle.rv_sizes.specs.Ticks.{arrows, has_base, sites_of_clocks, ticking, tick_total}
 use Rattle.rv_instances.proofs.Lists.{length_map}
-use Rattle.rv_sizes.proofs.TickLists.{Apart, first_in, same_length, apart_append, apart_map, apart_flat_map, different_in, in_different}
-use Rattle.rv_sizes.proofs.TickLists.{different_apart, base_there, there_base, site_is, site_comes, sites_apart}
+use Rattle.rv_sizes.proofs.TickLists.{Apart, first_in, same_length, apart_append, apart_map, apart_flat_map, different_in, in_different, different_apart}
+use Rattle.rv_sizes.proofs.TickLists.{base_there, there_base, site_is, site_comes, sites_apart}
 use Rattle.rv_types.proofs.Members.{cons_cases, in_flat_map, in_map, in_tail, nothing_in, of_flat_map}
 use Rattle.rv_base.proofs.Lists.{from_map}
 

@@ -1,28 +1,20 @@
 -- One node more in a walk over the nodes of a program in their order.
-use Rattle.std.proofs.Common.{◌≡◌, ℕ, zero, suc, ◌+◌, ◌<◌, ◌≤◌, inl, inr, Bool, false, List, [], map, length, get_or, set, replicate, refl, sym, ◌∙◌, ap}
-use Rattle.std.proofs.Common.{subst, arith, slice_get, Some}
-use Rattle.std.specs.List.{Contains}
-use Rattle.std.proofs.lemmas.Bool.{cases_eq}
+use Rattle.std.proofs.Common.{◌≡◌, ℕ, zero, suc, ◌+◌, ◌<◌, ◌≤◌, inl, inr, Bool, false, List, [], map, length, get_or, set, replicate, refl, sym, ◌∙◌, ap, subst}
+use Rattle.std.proofs.Common.{arith, slice_get, Some}
 use Rattle.std.proofs.lemmas.List.{length-set, length-replicate, get_or-set_same, get_or-set_other}
+use Rattle.std.proofs.{lemmas.Bool.cases_eq, lemmas.Option.get_or_from_slice_get, lemmas.Grind.same_number_lists}
+use Rattle.std.specs.List.{Contains}
 use Rattle.rv_tree.specs.declared.tree.Node as declared
-use Rattle.rv_tree.specs.Places.{Identifier}
-use Rattle.rv_tree.specs.Tree.{NodeTree, ProgramTree, node_tree}
-use Rattle.rv_types.specs.declared.typed.Clock.{Clock}
-use Rattle.rv_types.specs.Names.{name_faults}
-use Rattle.rv_types.specs.Instances.{calls, no_node}
-use Rattle.rv_sizes.specs.Capped.{capped}
-use Rattle.rv_calls.specs.Callings.{callings_of, call_graph}
-use Rattle.rv_instances.specs.AllInstances.{names_of}
-use Rattle.rv_calls.specs.Graphs.{IsOrdered}
+use Rattle.rv_tree.specs.{Places.Identifier, Tree.NodeTree, Tree.ProgramTree, Tree.node_tree}
+use Rattle.rv_types.specs.{declared.typed.Clock.Clock, Names.name_faults, Instances.calls, Instances.no_node}
 use Rattle.rv_sizes.specs.Ticks.{has_base, sites_of_clocks, ticking, ticking_where, own_ticks}
-use Rattle.rv_sizes.specs.TickWalk.{ticks_on_base, AreTicked}
-use Rattle.rv_instances.proofs.Lists.{contains_at, length_map}
-use Rattle.rv_instances.proofs.Known.{map_at}
+use Rattle.rv_sizes.specs.{Capped.capped, TickWalk.ticks_on_base, TickWalk.AreTicked}
+use Rattle.rv_calls.specs.{Callings.callings_of, Callings.call_graph, Graphs.IsOrdered}
+use Rattle.rv_instances.specs.AllInstances.{names_of}
+use Rattle.rv_instances.proofs.{Lists.contains_at, Lists.length_map, Known.map_at}
 use Rattle.rv_calls.proofs.Recursions.{graph_size}
 use Rattle.rv_sizes.proofs.TickLevels.{at_is, among, number_within, enough, earlier, steady}
 use Rattle.rv_sizes.proofs.TickWalks.{ticks_known}
-use Rattle.std.proofs.lemmas.Option.{get_or_from_slice_get}
-use Rattle.std.proofs.lemmas.Grind.{same_number_lists}
 
 one_less : (n j : ℕ) → j < n → (m : ℕ) × (n ≡ suc m)
 one_less zero j lt = absurd (omega (arith, lt))

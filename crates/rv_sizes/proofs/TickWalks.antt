@@ -1,18 +1,14 @@
 -- The clocks that tick in a node, found among its operators and calls.
 use Rattle.std.proofs.Common.{◌≡◌, ℕ, suc, ◌+◌, ◌<◌, Bool, true, false, cond, not, ◌||◌, nat_eq, List, [], ◌∷◌, ◌++◌, length, get_or, map, flat_map, drop}
 use Rattle.std.proofs.Common.{drop-cons, refl, sym, ◌∙◌, ap, arith}
-use Rattle.std.specs.List.{Contains}
 use Rattle.std.proofs.lemmas.Grind.{flat_map-append}
+use Rattle.std.specs.List.{Contains}
 use Rattle.rv_tree.specs.declared.tree.Op.TheVariants as op
-use Rattle.rv_tree.specs.Places.{Identifier}
-use Rattle.rv_tree.specs.Tree.{Tree, Node, Binary, NodeTree, ProgramTree}
-use Rattle.rv_types.specs.declared.typed.Clock.{Clock}
-use Rattle.rv_types.specs.declared.typed.Clock.TheVariants.{Base, On}
-use Rattle.rv_types.specs.Clocks.{pace, pace_of_all}
+use Rattle.rv_tree.specs.{Places.Identifier, Tree.Tree, Tree.Node, Tree.Binary, Tree.NodeTree, Tree.ProgramTree}
 use Rattle.rv_types.specs.Instances.{CallTree, calls, taken, node_of}
-use Rattle.rv_types.specs.Variables.{is_in, is_arrow, node_parts}
-use Rattle.rv_instances.specs.Expanded.{ToldCall, call_told, calls_told}
-use Rattle.rv_instances.specs.Timed.{ToldOperator, own_operator, operators_told}
+use Rattle.rv_types.specs.{declared.typed.Clock.Clock, declared.typed.Clock.TheVariants.Base, declared.typed.Clock.TheVariants.On, Clocks.pace}
+use Rattle.rv_types.specs.{Clocks.pace_of_all, Variables.is_in, Variables.is_arrow, Variables.node_parts}
+use Rattle.rv_instances.specs.{Expanded.ToldCall, Expanded.call_told, Expanded.calls_told, Timed.ToldOperator, Timed.own_operator, Timed.operators_told}
 use Rattle.rv_instances.proofs.TimedParts.{node_operators}
 use Rattle.rv_sizes.specs.Ticks.{arrows, has_base, sites_of_clocks, ticking, ticking_where}
 use Rattle.rv_sizes.specs.TickWalk.{arrow_told, handed_told, is_new_site, with_clock}

@@ -1,21 +1,17 @@
 -- Sums over all instances, by the numbers of nodes.
 use Rattle.std.proofs.Common.{◌≡◌, ℕ, zero, suc, ◌+◌, ◌<◌, min, List, [], ◌∷◌, map, length, get_or, refl, sym, ◌∙◌, ap, arith}
+use Rattle.std.proofs.lemmas.List.Elements.{Contains-get_or}
 use Rattle.std.specs.List.{Contains, flat_map}
-use Rattle.rv_tree.specs.Tree.{NodeTree, ProgramTree}
-use Rattle.rv_tree.specs.Places.{index_of}
-use Rattle.rv_types.specs.Names.{name_faults}
-use Rattle.rv_calls.specs.declared.calls.Calling.{Calling}
+use Rattle.rv_tree.specs.{Tree.NodeTree, Tree.ProgramTree, Places.index_of}
 use Rattle.rv_types.specs.Instances.{CallTree, calls, Instance, no_node, callee, unrolled}
-use Rattle.rv_types.specs.Variables.{total}
-use Rattle.rv_calls.specs.Callings.{calling, callings_of}
+use Rattle.rv_types.specs.{Names.name_faults, Variables.total}
+use Rattle.rv_calls.specs.{declared.calls.Calling.Calling, Callings.calling, Callings.callings_of}
 use Rattle.rv_instances.specs.AllInstances.{names_of}
 use Rattle.rv_base.specs.Limits.{heaviest}
-use Rattle.rv_sizes.specs.Totals.{total_at}
-use Rattle.rv_sizes.specs.Capped.{capped}
+use Rattle.rv_sizes.specs.{Totals.total_at, Capped.capped}
 use Rattle.rv_instances.proofs.Known.{map_at, called, calls_declared}
 use Rattle.rv_calls.proofs.Recursions.{table_at}
 use Rattle.rv_sizes.proofs.Summing.{total_append, total_min}
-use Rattle.std.proofs.lemmas.List.Elements.{Contains-get_or}
 
 pub total_same : {X : Type 0} (f g : X → ℕ) (xs : List X) → ((x : X) → Contains xs x → f x ≡ g x) → total f xs ≡ total g xs
 total_same f g [] each = refl

@@ -1,13 +1,9 @@
 -- The variables of diagrams, summed from capped numbers.
 use Rattle.std.proofs.Common.{◌≡◌, ℕ, zero, suc, ◌+◌, ◌*◌, ◌≤◌, List, [], ◌∷◌, map, length, take, refl, ◌∙◌, ap, arith}
-use Rattle.rv_tree.specs.Delays.{Delay}
-use Rattle.rv_tree.specs.Tree.{NodeTree, ProgramTree}
-use Rattle.rv_types.specs.declared.typed.Kind.{Kind}
+use Rattle.rv_tree.specs.{Delays.Delay, Tree.NodeTree, Tree.ProgramTree}
+use Rattle.rv_types.specs.{declared.typed.Kind.Kind, Variables.total, Variables.memories, Variables.memory_bits, Variables.kind_bits, Values.operand_kind}
 use Rattle.rv_instances.specs.Bits.{bits_of_all}
-use Rattle.rv_sizes.specs.Capped.{capped}
-use Rattle.rv_sizes.specs.Memories.{memory_kinds}
-use Rattle.rv_types.specs.Variables.{total, memories, memory_bits, kind_bits}
-use Rattle.rv_types.specs.Values.{operand_kind}
+use Rattle.rv_sizes.specs.{Capped.capped, Memories.memory_kinds}
 use Rattle.rv_instances.proofs.LabelCodes.{bits_same}
 use Rattle.rv_sizes.proofs.Unrolling.{total_map}
 

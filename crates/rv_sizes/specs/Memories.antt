@@ -1,15 +1,12 @@
 -- The memories of a node, by the tables of its expressions.
 use Rattle.std.specs.Prelude.{ℕ, ◌+◌, cond, List, [], ◌∷◌, ◌++◌, map, slice_index_or, unwrap_or, Option}
 use Rattle.rv_tree.specs.Tree.{Tree, Node, Form, Named, NodeTree, ProgramTree}
-use Rattle.rv_tree.specs.Places.{Identifier, index_of, is_among}
-use Rattle.rv_tree.specs.Delays.{Delay}
+use Rattle.rv_tree.specs.{Places.Identifier, Places.index_of, Places.is_among, Delays.Delay}
 use Rattle.rv_instances.specs.Timed.{ToldDelay}
-use Rattle.rv_types.specs.declared.typed.Kind.{Kind}
-use Rattle.rv_types.specs.declared.typed.Kind.TheVariants as kind
-use Rattle.rv_types.specs.Types.{Scope, kind_of}
-use Rattle.rv_sizes.specs.declared.memories.MemoryRead.{MemoryRead}
 use Rattle.rv_types.specs.Variables.{total, is_in, is_integer, memories}
-use Rattle.rv_types.specs.Values.{operand_kind}
+use Rattle.rv_types.specs.{declared.typed.Kind.Kind, Types.Scope, Types.kind_of, Values.operand_kind}
+use Rattle.rv_types.specs.declared.typed.Kind.TheVariants as kind
+use Rattle.rv_sizes.specs.declared.memories.MemoryRead.{MemoryRead}
 
 -- the site of the memory of a `pre` or `current`, by its own site and its operand, where the flows have these names
 abbrev mutual

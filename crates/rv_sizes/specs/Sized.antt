@@ -1,14 +1,11 @@
 -- A program whose quantities are within their limits, and one of which a quantity is not.
 use Rattle.std.specs.Prelude.{◌≡◌, ◌≤◌, ℕ, map}
-use Rattle.rv_tree.specs.Tree.{ProgramTree}
-use Rattle.rv_tree.specs.Places.{Identifier}
+use Rattle.rv_tree.specs.{Tree.ProgramTree, Places.Identifier}
 use Rattle.rv_calls.specs.declared.fault.CauseFault.{CauseFault}
 use Rattle.rv_calls.specs.declared.fault.CauseFault.TheVariants.{Recursive, Cycle, TooLarge, TooWide, Memory}
 use Rattle.rv_instances.specs.Counts.{instance_count, expanded, integer_memories, integer_inputs}
 use Rattle.rv_sizes.specs.Sizes.{first_above, measures, IsFirstAbove}
-use Rattle.rv_types.specs.Variables.{over_instances, variable_count}
-use Rattle.rv_types.specs.Values.{label_count}
-use Rattle.rv_types.specs.Instances.{node_of}
+use Rattle.rv_types.specs.{Variables.over_instances, Variables.variable_count, Values.label_count, Instances.node_of}
 
 -- The program has no more instances and expressions than it may, and so many expressions.
 pub record IsSmall (p : ProgramTree) (main : Identifier) (count : ℕ) : Type 0 where

@@ -2,11 +2,8 @@
 -- the variables of its decision diagrams.
 use Rattle.std.specs.Prelude.{◌≡◌, ◌⊎◌, ℕ, ◌<◌, ◌≤◌, min, cond, nat_lt, List, [], ◌∷◌, map}
 use Rattle.rv_base.specs.Limits.{heaviest}
-use Rattle.rv_tree.specs.Tree.{ProgramTree}
-use Rattle.rv_tree.specs.Places.{Identifier}
-use Rattle.rv_types.specs.Values.{label_count}
-use Rattle.rv_types.specs.Instances.{node_of}
-use Rattle.rv_types.specs.Variables.{over_instances, variable_count}
+use Rattle.rv_tree.specs.{Tree.ProgramTree, Places.Identifier}
+use Rattle.rv_types.specs.{Values.label_count, Instances.node_of, Variables.over_instances, Variables.variable_count}
 use Rattle.rv_calls.specs.declared.fault.Quantity.{Quantity}
 use Rattle.rv_calls.specs.declared.fault.Quantity.TheVariants as quantity
 use Rattle.rv_instances.specs.Counts.{integer_memories, integer_inputs, instance_count, expanded}

@@ -1,8 +1,6 @@
 -- The order tests of operators, by the heads of their left operands.
 use Rattle.std.specs.Prelude.{ℕ, cond}
-use Rattle.rv_types.specs.Heads.{head_kind}
-use Rattle.rv_types.specs.Types.{Scope}
-use Rattle.rv_types.specs.Variables.{is_integer, tests_of}
+use Rattle.rv_types.specs.{Heads.head_kind, Types.Scope, Variables.is_integer, Variables.tests_of}
 use Rattle.rv_instances.specs.Timed.{ToldOperator}
 
 -- those of an operator, where the head of its left operand tells its type

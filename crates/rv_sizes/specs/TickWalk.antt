@@ -1,19 +1,12 @@
 -- The clocks that tick in a node, found among its operators and calls, and what is known of the nodes that have been
 -- walked over.
 use Rattle.std.specs.Prelude.{◌≡◌, ℕ, ◌<◌, Bool, false, not, cond, List, [], ◌∷◌, length, slice_index_or}
-use Rattle.rv_tree.specs.declared.tree.Op.{Op}
+use Rattle.rv_tree.specs.{declared.tree.Op.Op, Tree.ProgramTree, Places.Identifier, Places.index_of}
 use Rattle.rv_tree.specs.declared.tree.Op.TheVariants as op
-use Rattle.rv_tree.specs.Tree.{ProgramTree}
-use Rattle.rv_tree.specs.Places.{Identifier, index_of}
-use Rattle.rv_types.specs.declared.typed.Clock.{Clock}
 use Rattle.rv_types.specs.declared.typed.Clock.TheVariants.{Base, On}
-use Rattle.rv_types.specs.Instances.{no_node}
-use Rattle.rv_instances.specs.Expanded.{ToldCall}
-use Rattle.rv_instances.specs.Timed.{ToldOperator}
-use Rattle.rv_sizes.specs.Capped.{capped}
-use Rattle.rv_sizes.specs.Memories.{with_site}
-use Rattle.rv_types.specs.Variables.{is_in}
-use Rattle.rv_sizes.specs.Ticks.{has_base, ticking, own_ticks}
+use Rattle.rv_types.specs.{declared.typed.Clock.Clock, Instances.no_node, Variables.is_in}
+use Rattle.rv_instances.specs.{Expanded.ToldCall, Timed.ToldOperator}
+use Rattle.rv_sizes.specs.{Capped.capped, Memories.with_site, Ticks.has_base, Ticks.ticking, Ticks.own_ticks}
 
 -- whether the node of a name has a tick on its base clock, by the numbers of nodes
 abbrev pub ticks_on_base : List Identifier → List Bool → Identifier → Bool

@@ -1,12 +1,9 @@
 -- The ticks of a node: the clocks on which a `->` stands in it, or in a copy of a node that it calls on that clock.
 use Rattle.std.specs.Prelude.{ℕ, zero, suc, ◌+◌, Bool, true, false, cond, List, [], ◌∷◌, ◌++◌, flat_map, length}
-use Rattle.rv_tree.specs.Tree.{Tree, NodeTree, ProgramTree}
-use Rattle.rv_tree.specs.Places.{Identifier}
-use Rattle.rv_types.specs.declared.typed.Clock.{Clock}
-use Rattle.rv_types.specs.declared.typed.Clock.TheVariants.{Base, On}
-use Rattle.rv_types.specs.Clocks.{pace, pace_of_all}
-use Rattle.rv_types.specs.Instances.{taken, calls, node_of}
+use Rattle.rv_tree.specs.{Tree.Tree, Tree.NodeTree, Tree.ProgramTree, Places.Identifier}
 use Rattle.rv_types.specs.Variables.{total, node_parts, is_arrow, is_in}
+use Rattle.rv_types.specs.{declared.typed.Clock.Clock, declared.typed.Clock.TheVariants.Base, declared.typed.Clock.TheVariants.On, Clocks.pace}
+use Rattle.rv_types.specs.{Clocks.pace_of_all, Instances.taken, Instances.calls, Instances.node_of}
 
 -- the clocks of the `->` among some expressions
 abbrev pub arrows : NodeTree → List Tree → List Clock

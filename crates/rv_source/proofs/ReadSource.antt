@@ -1,27 +1,19 @@
 -- What the answers of the parts give for a source.
 use Rattle.std.proofs.Common.{◌≡◌, ◌⊎◌, inl, inr, ℕ, List, Err, refl, sym, ◌∙◌, ap, subst}
-use Rattle.rv_tree.specs.Tree.{ProgramTree, program_tree}
-use Rattle.rv_tree.specs.Places.{Identifier}
-use Rattle.rv_syntax.specs.ProgramText.{IsTextOf}
-use Rattle.rv_syntax.specs.Faults.{IsFault}
-use Rattle.rv_syntax.specs.Correct.{Finds}
+use Rattle.rv_tree.specs.{Tree.ProgramTree, Tree.program_tree, Places.Identifier, declared.tree.Program.Program}
+use Rattle.rv_syntax.specs.{ProgramText.IsTextOf, Faults.IsFault, Correct.Finds, declared.fault.TextFault.TextFault}
 use Rattle.rv_syntax.specs.Correct as text_specs
-use Rattle.rv_tree.specs.declared.tree.Program.{Program}
-use Rattle.rv_syntax.specs.declared.fault.TextFault.{TextFault}
 use Rattle.rv_syntax.specs.declared.fault.TextFault.TheVariants as text
-use Rattle.rv_types.specs.declared.fault.NameFault.{NameFault}
+use Rattle.rv_types.specs.{declared.fault.NameFault.NameFault, declared.typed.Typed.Typed, Instances.name_at, Settled.IsSettled, Settled.IsFirstFault}
 use Rattle.rv_types.specs.declared.fault.NameFault.TheVariants as name
-use Rattle.rv_types.specs.declared.typed.Typed.{Typed}
-use Rattle.rv_types.specs.Instances.{name_at}
-use Rattle.rv_types.specs.Settled.{IsSettled, IsFirstFault}
 use Rattle.rv_types.specs.Settled as settled_specs
 use Rattle.rv_calls.specs.declared.fault.CauseFault.{CauseFault}
 use Rattle.rv_calls.specs.declared.fault.CauseFault.TheVariants as cause
 use Rattle.rv_source.specs.declared.fault.SourceFault.{SourceFault}
 use Rattle.rv_source.specs.declared.fault.SourceFault.TheVariants.{Text, Names, Cause, Memory}
+use Rattle.rv_source.specs.Sources.{IsSourceFault, HasSourceCause, RefusesSource, text_refusal, name_refusal, cause_refusal}
 use Rattle.rv_causality.specs.Causes.{IsAccepted, IsCause}
 use Rattle.rv_causality.specs.Causes as cause_specs
-use Rattle.rv_source.specs.Sources.{IsSourceFault, HasSourceCause, RefusesSource, text_refusal, name_refusal, cause_refusal}
 use Rattle.rv_instances.proofs.Known.{called}
 
 -- The main node that is settled is the one of the name.

@@ -1,12 +1,8 @@
 -- The numbers of a program: its integer literals, as its tree keeps them, and the values of its integer constants.
-use Rattle.std.specs.Prelude.{ℕ, ◌≤◌, ℤ, Option}
-use Rattle.std.specs.Int.RustNames.{unsigned_abs}
-use Rattle.std.specs.List.{Contains}
-use Rattle.rv_base.specs.declared.value.Value.TheVariants.{Whole}
-use Rattle.rv_base.specs.Limits.{too_heavy}
+use Rattle.std.specs.{Prelude.ℕ, Prelude.◌≤◌, Prelude.ℤ, Prelude.Option, Int.RustNames.unsigned_abs, List.Contains}
+use Rattle.rv_base.specs.{declared.value.Value.TheVariants.Whole, Limits.too_heavy}
 use Rattle.rv_tree.specs.Tree.{Node, Number, ConstantTree, NodeTree, ProgramTree}
-use Rattle.rv_types.specs.Scopes.{constant_values}
-use Rattle.rv_types.specs.Variables.{parts, node_parts}
+use Rattle.rv_types.specs.{Scopes.constant_values, Variables.parts, Variables.node_parts}
 
 -- Each literal in a node or in the body of a constant, and each integer constant, has a magnitude of at most 2^40 + 1.
 pub record HasSmallNumbers (p : ProgramTree) : Type 0 where

@@ -1,22 +1,16 @@
 -- Which bytes are a source that is accepted with a main node, and why others are refused.
 use Rattle.std.specs.Prelude.{◌≡◌, ◌⊎◌, ℕ, List, Result, Ok, Err}
-use Rattle.rv_tree.specs.Tree.{ProgramTree, program_tree}
-use Rattle.rv_tree.specs.Places.{Identifier}
-use Rattle.rv_syntax.specs.ProgramText.{IsTextOf}
-use Rattle.rv_syntax.specs.Faults.{IsFault}
-use Rattle.rv_syntax.specs.declared.fault.TextFault.{TextFault}
+use Rattle.rv_tree.specs.{Tree.ProgramTree, Tree.program_tree, Places.Identifier}
+use Rattle.rv_syntax.specs.{ProgramText.IsTextOf, Faults.IsFault, declared.fault.TextFault.TextFault}
 use Rattle.rv_syntax.specs.declared.fault.TextFault.TheVariants as text
-use Rattle.rv_types.specs.declared.fault.NameFault.{NameFault}
+use Rattle.rv_types.specs.{declared.fault.NameFault.NameFault, declared.typed.Typed.Typed, Settled.IsSettled, Settled.IsFirstFault}
 use Rattle.rv_types.specs.declared.fault.NameFault.TheVariants as name
-use Rattle.rv_types.specs.declared.typed.Typed.{Typed}
-use Rattle.rv_types.specs.Settled.{IsSettled, IsFirstFault}
 use Rattle.rv_calls.specs.declared.fault.CauseFault.{CauseFault}
 use Rattle.rv_calls.specs.declared.fault.CauseFault.TheVariants as cause
-use Rattle.rv_instances.specs.declared.source.Source.{Source}
+use Rattle.rv_instances.specs.{declared.source.Source.Source, Fitting.Fits}
 use Rattle.rv_source.specs.declared.fault.SourceFault.{SourceFault}
 use Rattle.rv_source.specs.declared.fault.SourceFault.TheVariants.{Text, Names, Cause, Memory}
 use Rattle.rv_causality.specs.Causes.{IsAccepted, IsOrder, IsCause, Matches}
-use Rattle.rv_instances.specs.Fitting.{Fits}
 
 -- The bytes are the text of a program that is settled with this main node, and that is accepted.
 pub record IsSource (bytes : List ℕ) (main : Identifier) (p : ProgramTree) (t : Typed) : Type 0 where

@@ -1,27 +1,16 @@
 -- Successors by a case of a system, and the answers that hold them.
 use Rattle.std.proofs.Common.{◌≡◌, ◌⊎◌, ℕ, zero, suc, ◌+◌, ◌-◌, ◌^◌, ◌≤◌, ◌<◌, ℤ, List, [], ◌∷◌, ◌++◌, length, All, Option, Some, None, arith, refl, ap, sym}
 use Rattle.std.proofs.Common.{◌∙◌, subst, inl, inr}
-use Rattle.std.proofs.lemmas.Bool.{cases_lt}
 use Rattle.std.proofs.lemmas.List.{length-append, length_push, get_or_append_left, get_or_push}
-use Rattle.std.proofs.lemmas.List.Elements.{All-nil, All-push, All-append}
-use Rattle.rv_diagram.specs.Nodes.{Valuation}
-use Rattle.rv_diagram.specs.declared.frozen.Frozen.{Frozen}
-use Rattle.rv_rows.specs.declared.linear.Row.{Row}
-use Rattle.rv_rows.specs.declared.linear.Form.{Form}
-use Rattle.rv_rows.specs.Rows.{Holds}
-use Rattle.rv_rows.specs.Forms.{values, forms_width, FormWithin}
-use Rattle.rv_rows.specs.Tight.{Fits}
-use Rattle.rv_poly.specs.Points.{HasPoint}
-use Rattle.rv_poly.specs.Images.{IsImage as IsImagePoint, AreUpdates, AreMoves, IsNarrow, StaysWithin}
+use Rattle.std.proofs.{lemmas.Bool.cases_lt, lemmas.List.Elements.All-nil, lemmas.List.Elements.All-push, lemmas.List.Elements.All-append}
+use Rattle.rv_diagram.specs.{Nodes.Valuation, declared.frozen.Frozen.Frozen}
+use Rattle.rv_rows.specs.{declared.linear.Row.Row, declared.linear.Form.Form, Rows.Holds, Forms.values, Forms.forms_width, Forms.FormWithin, Tight.Fits}
+use Rattle.rv_poly.specs.{Points.HasPoint, Images.IsImage as IsImagePoint, Images.AreUpdates, Images.AreMoves, Images.IsNarrow, Images.StaysWithin}
 use Rattle.rv_proofs.specs.Systems.{System, IsSystem, Agrees, rows_among, held_row, updates_among}
-use Rattle.rv_proofs.specs.Scopes.{IsIn}
-use Rattle.rv_proofs.specs.Cases.{IsCaseOf, IsImage}
-use Rattle.rv_proofs.specs.declared.report.Case.{Case}
-use Rattle.rv_proofs.proofs.CaseRows.{case_rows}
-use Rattle.rv_state.specs.declared.value.Abstract.{Abstract}
-use Rattle.rv_state.specs.States.{HasState, IsUpdated, IsMove, IsSuccessor}
+use Rattle.rv_proofs.specs.{Scopes.IsIn, Cases.IsCaseOf, Cases.IsImage, declared.report.Case.Case}
+use Rattle.rv_proofs.proofs.{CaseRows.case_rows, Claims.updates_long}
+use Rattle.rv_state.specs.{declared.value.Abstract.Abstract, States.HasState, States.IsUpdated, States.IsMove, States.IsSuccessor}
 use Rattle.rv_state.proofs.PointLemmas.{image-updated}
-use Rattle.rv_proofs.proofs.Claims.{updates_long}
 
 -- the rows of a valuation hold at a point exactly where each row of a test does
 rows-hold : (s : System) (v : Valuation) (point : List ℤ) → Agrees s v point → (n : ℕ) → n ≤ s.tests → HasPoint (rows_among s v n) point

@@ -1,9 +1,7 @@
 -- Joins over the same columns, and rows that no row shows.
 use Rattle.std.proofs.Common.{◌≡◌, ℕ, ℤ, pos, List, [], ◌∷◌, ◌++◌, length, All, arith, refl, sym, ◌∙◌}
 use Rattle.std.proofs.lemmas.List.Elements.{All-head, All-append}
-use Rattle.rv_rows.specs.declared.linear.Row.{Row}
-use Rattle.rv_rows.specs.Rows.{dot, Holds}
-use Rattle.rv_rows.specs.Multipliers.{ShowsAtOnce, by_none, by_one, by_two}
+use Rattle.rv_rows.specs.{declared.linear.Row.Row, Rows.dot, Rows.Holds, Multipliers.ShowsAtOnce, Multipliers.by_none, Multipliers.by_one, Multipliers.by_two}
 use Rattle.rv_rows.proofs.RowLemmas.{dot-none}
 use Rattle.rv_poly.specs.Polys.{HaveOneWidth, rows_width}
 use Rattle.rv_proofs.proofs.Moved.{dot-read}

@@ -1,16 +1,12 @@
 -- Rows with few coefficients.
 use Rattle.std.proofs.Common.{◌≡◌, ◌≢◌, ℕ, zero, suc, ◌+◌, ◌<◌, ◌≤◌, ℤ, pos, negsuc, List, [], ◌∷◌, ◌++◌, length, take, get_or, All, Some, slice_get, arith}
 use Rattle.std.proofs.Common.{refl, sym, ap, ◌∙◌, subst, ◌⊎◌, inl, inr}
-use Rattle.std.proofs.lemmas.Bool.{cases_lt}
-use Rattle.std.proofs.lemmas.Option.{slice_get_within, get_or_from_slice_get}
 use Rattle.std.proofs.lemmas.List.{take_more, length-take-le, length-append, get_or_append_left, get_or_push}
 use Rattle.std.proofs.lemmas.List.Elements.{All-append, All-cons, All-nil, Contains-append_left, Contains-push, Contains-push_cases}
+use Rattle.std.proofs.{lemmas.Bool.cases_lt, lemmas.Option.slice_get_within, lemmas.Option.get_or_from_slice_get}
 use Rattle.std.specs.List.{Contains}
-use Rattle.rv_rows.specs.declared.linear.Row.{Row}
-use Rattle.rv_rows.specs.Rows.{Holds}
-use Rattle.rv_rows.specs.Tight.{Fits}
-use Rattle.rv_poly.specs.Points.{HasPoint}
-use Rattle.rv_poly.specs.Polys.{IsPoly}
+use Rattle.rv_rows.specs.{declared.linear.Row.Row, Rows.Holds, Tight.Fits}
+use Rattle.rv_poly.specs.{Points.HasPoint, Polys.IsPoly}
 use Rattle.rv_state.specs.Narrow.{present, support, IsNotedRow, IsNarrowed, SpansNarrow}
 use Rattle.rv_state.proofs.JoinLemmas.{one-width}
 

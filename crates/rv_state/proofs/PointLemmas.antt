@@ -3,12 +3,8 @@ use Rattle.std.proofs.Common.{◌≡◌, ◌⊎◌, ℕ, zero, suc, ◌+◌, ◌
 use Rattle.std.proofs.Common.{sym, ◌∙◌, subst, inl, inr}
 use Rattle.std.proofs.lemmas.Bool.{cases_lt}
 use Rattle.std.proofs.lemmas.List.{length-append, length-replicate, get_or_append_left, get_or-append-add, get_or_past}
-use Rattle.rv_rows.specs.declared.linear.Row.{Row}
-use Rattle.rv_rows.specs.declared.linear.Form.{Form}
-use Rattle.rv_rows.specs.Rows.{dot, Holds}
-use Rattle.rv_rows.specs.Forms.{number, value, values}
-use Rattle.rv_poly.specs.Points.{HasPoint}
-use Rattle.rv_poly.specs.Images.{IsImage, AreMoves, IsNarrow}
+use Rattle.rv_rows.specs.{declared.linear.Row.Row, declared.linear.Form.Form, Rows.dot, Rows.Holds, Forms.number, Forms.value, Forms.values}
+use Rattle.rv_poly.specs.{Points.HasPoint, Images.IsImage, Images.AreMoves, Images.IsNarrow}
 use Rattle.rv_proofs.proofs.Moved.{dot-read}
 use Rattle.rv_proofs.specs.declared.report.Case.{Case}
 use Rattle.rv_state.specs.States.{IsUpdated}

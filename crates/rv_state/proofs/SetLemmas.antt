@@ -1,13 +1,9 @@
 -- Sets in a store: whether one is within another, and unions.
 use Rattle.std.proofs.Common.{ℕ, Bool, ◌≡◌, ◌↔◌, ◌⊎◌, inl, inr, true, false, IsTrue, ◌||◌, refl, sym, ap, ◌∙◌, subst}
 use Rattle.rv_diagram.specs.Nodes.{Valuation, Diagrams, Answers, IsOrderedOver, value_of}
-use Rattle.rv_diagram.specs.Several.{UsesNeeded}
-use Rattle.rv_diagram.specs.declared.frozen.Frozen.{Frozen}
-use Rattle.rv_proofs.specs.Scopes.{IsIn}
-use Rattle.rv_proofs.specs.Systems.{System}
-use Rattle.rv_proofs.specs.Ranges.{IsControlSet}
-use Rattle.rv_symbolic.proofs.Extending.{needed_same}
-use Rattle.rv_symbolic.proofs.Reading.{control-value, control_set}
+use Rattle.rv_diagram.specs.{Several.UsesNeeded, declared.frozen.Frozen.Frozen}
+use Rattle.rv_proofs.specs.{Scopes.IsIn, Systems.System, Ranges.IsControlSet}
+use Rattle.rv_symbolic.proofs.{Extending.needed_same, Reading.control-value, Reading.control_set}
 use Rattle.rv_state.specs.States.{either, IsUnion}
 
 module _ (s0 s1 s2 : Diagrams) (a b : Frozen) (one other : ℕ) (p : Answers s0 s1 (value_of a.nodes a.root) one)

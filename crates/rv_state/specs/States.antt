@@ -1,16 +1,9 @@
 -- The states of an abstract value, what a case makes of its points, and which states are successors of its own by a case.
 use Rattle.std.specs.Prelude.{◌≡◌, ℕ, ◌+◌, ◌≤◌, ◌||◌, Bool, ℤ, List, ◌++◌, length, All}
-use Rattle.rv_diagram.specs.Nodes.{Valuation, value_of, IsOrderedOver}
-use Rattle.rv_diagram.specs.Several.{UsesNeeded}
-use Rattle.rv_diagram.specs.declared.frozen.Frozen.{Frozen}
-use Rattle.rv_rows.specs.declared.linear.Row.{Row}
-use Rattle.rv_rows.specs.Forms.{values}
-use Rattle.rv_rows.specs.Tight.{Fits}
-use Rattle.rv_poly.specs.Points.{HasPoint}
-use Rattle.rv_poly.specs.Images.{AreMoves, IsNarrow, StaysWithin}
-use Rattle.rv_proofs.specs.Systems.{System, HasSameState, Agrees, updates_of}
-use Rattle.rv_proofs.specs.Scopes.{IsIn}
-use Rattle.rv_proofs.specs.declared.report.Case.{Case}
+use Rattle.rv_diagram.specs.{Nodes.Valuation, Nodes.value_of, Nodes.IsOrderedOver, Several.UsesNeeded, declared.frozen.Frozen.Frozen}
+use Rattle.rv_rows.specs.{declared.linear.Row.Row, Forms.values, Tight.Fits}
+use Rattle.rv_poly.specs.{Points.HasPoint, Images.AreMoves, Images.IsNarrow, Images.StaysWithin}
+use Rattle.rv_proofs.specs.{Systems.System, Systems.HasSameState, Systems.Agrees, Systems.updates_of, Scopes.IsIn, declared.report.Case.Case}
 use Rattle.rv_state.specs.declared.value.Abstract.{Abstract}
 
 -- A state of the value: its control set holds the valuation, and its rows have the point.

@@ -1,13 +1,9 @@
 -- What the memories hold after an instant, memory by memory.
 use Rattle.std.proofs.Common.{◌≡◌, ℕ, ◌+◌, false, cond, List, [], ◌∷◌, ◌++◌, get_or, sym, ◌∙◌, subst, arith, length-append, inl, inr}
-use Rattle.std.proofs.lemmas.List.{get_or_append_left, get_or_push}
-use Rattle.std.proofs.Math.Nat.{eq-or-lt_of_le}
-use Rattle.rv_base.specs.declared.value.Value.{Value}
-use Rattle.rv_base.specs.declared.value.Value.TheVariants.{Flag}
-use Rattle.rv_flat.specs.declared.flat.Flat.{Flat}
-use Rattle.rv_flat.specs.declared.state.State.{State}
+use Rattle.std.proofs.{lemmas.List.get_or_append_left, lemmas.List.get_or_push, Math.Nat.eq-or-lt_of_le}
+use Rattle.rv_base.specs.{declared.value.Value.Value, declared.value.Value.TheVariants.Flag}
 use Rattle.rv_flat.specs.FlatInstants.{Row, is_on_at, nth_item, memory_items, value_at}
-use Rattle.rv_flat.specs.Filling.{IsKept}
+use Rattle.rv_flat.specs.{declared.flat.Flat.Flat, declared.state.State.State, Filling.IsKept}
 
 -- what a memory holds after an instant
 abbrev pub next_value : Flat → State → List Value → Row → ℕ → Value

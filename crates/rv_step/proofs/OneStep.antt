@@ -1,24 +1,18 @@
 -- What one step answers.
 use Rattle.std.proofs.Common.{◌≡◌, ℕ, zero, suc, ◌+◌, ◌<◌, Bool, true, false, not, ◌||◌, cond, ℤ, List, [], ◌∷◌, length, map, get_or, IsTrue, refl, sym, ◌∙◌}
-use Rattle.std.proofs.Common.{ap, subst, arith, inl, inr}
-use Rattle.std.proofs.Common.{Option, None as Nothing, Some}
+use Rattle.std.proofs.Common.{ap, subst, arith, inl, inr, Option, None as Nothing, Some}
+use Rattle.std.proofs.{lemmas.Int.ints, Math.ListN.length-map}
 use Rattle.std.specs.Prelude.{slice_get}
-use Rattle.std.proofs.lemmas.Int.{ints}
-use Rattle.std.proofs.Math.ListN.{length-map}
-use Rattle.rv_base.specs.declared.value.Place.{Place}
-use Rattle.rv_base.specs.declared.value.Value.{Value}
 use Rattle.rv_base.specs.declared.value.Value.TheVariants.{Flag, Label, Whole}
+use Rattle.rv_base.specs.{declared.value.Place.Place, declared.value.Value.Value}
 use Rattle.rv_tree.specs.Places.{Sites}
 use Rattle.rv_types.specs.declared.typed.Kind.{Kind}
 use Rattle.rv_meaning.specs.Meaning.{is_true}
-use Rattle.rv_flat.specs.declared.flat.Flat.{Flat}
-use Rattle.rv_flat.specs.declared.state.State.{State}
 use Rattle.rv_flat.specs.FlatInstants.{Row, nth, is_on_at, nth_item, memory_items, memory_places, assertion_trees, tick_clocks, value_at, IsFlatNext}
-use Rattle.rv_flat.specs.FlatOf.{no_assertion, IsFlatBroken}
-use Rattle.rv_agreement.specs.Checks.{constant_fits}
 use Rattle.rv_flat.specs.Steps.{IsWithin, IsInRange, label_counts, memory_kinds, IsState, IsGrown, flow, memory, AreTaken, IsLeastOf}
-use Rattle.rv_flat.specs.Earliest.{IsPicked}
 use Rattle.rv_flat.specs.Filling.{IsKept, ticks_from, is_broken}
+use Rattle.rv_flat.specs.{declared.flat.Flat.Flat, declared.state.State.State, FlatOf.no_assertion, FlatOf.IsFlatBroken, Earliest.IsPicked}
+use Rattle.rv_agreement.specs.Checks.{constant_fits}
 use Rattle.rv_step.specs.Ranges.{is_outside, is_grown, is_grown_cell, IsGrownAt}
 use Rattle.rv_flat.proofs.Earliest.{least_same}
 

@@ -1,13 +1,9 @@
 -- What memories take that is kept stays so in longer rows.
-use Rattle.std.proofs.Common.{◌≡◌, ℕ, ◌<◌, List, [], ◌∷◌, ◌++◌, length, sym, ◌∙◌, arith, length-append, Option}
-use Rattle.std.proofs.Common.{None as Nothing}
+use Rattle.std.proofs.Common.{◌≡◌, ℕ, ◌<◌, List, [], ◌∷◌, ◌++◌, length, sym, ◌∙◌, arith, length-append, Option, None as Nothing}
 use Rattle.std.proofs.lemmas.List.{get_or_append_left}
 use Rattle.rv_base.specs.declared.value.Value.{Value}
 use Rattle.rv_agreement.specs.Evaluation.{Found}
-use Rattle.rv_flat.specs.declared.parts.FlatMemory.{FlatMemory}
-use Rattle.rv_flat.specs.Filling.{AreShown}
-use Rattle.rv_flat.specs.FlatInstants.{Row, nth}
-use Rattle.rv_flat.specs.Inlined.{table_of}
+use Rattle.rv_flat.specs.{declared.parts.FlatMemory.FlatMemory, Filling.AreShown, FlatInstants.Row, FlatInstants.nth, Inlined.table_of}
 use Rattle.rv_flat.proofs.NamedTicks.{over_more, same_value}
 
 pub shown_more : (ms : List FlatMemory) (found : Found Value) (row : Row) (value : Option Value) (shown : List (Option Value)) → AreShown ms found row shown

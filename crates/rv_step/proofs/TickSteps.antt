@@ -1,8 +1,7 @@
 -- The ticks after an instant, one after the other.
 use Rattle.std.proofs.Common.{◌≡◌, ℕ, suc, ◌+◌, ◌<◌, Bool, false, ◌||◌, List, [], ◌∷◌, ◌++◌, map, length, get_or, drop, drop-cons, append_assoc, length-append}
 use Rattle.std.proofs.Common.{sym, ◌∙◌, ap, arith, Some}
-use Rattle.rv_flat.specs.Filling.{ticks_from}
-use Rattle.rv_flat.specs.FlatInstants.{Row, is_on_at}
+use Rattle.rv_flat.specs.{Filling.ticks_from, FlatInstants.Row, FlatInstants.is_on_at}
 
 pub one_tick : (row : Row) (ticked : List Bool) (flows : List ℕ) (i : ℕ) (tick : Bool) (old new all : List Bool) → i < length flows
     → tick ≡ (get_or ticked (length old) false || is_on_at row (Some (get_or flows i 0))) → new ≡ old ++ tick ∷ []

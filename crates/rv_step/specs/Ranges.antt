@@ -1,12 +1,9 @@
 -- Integers outside the range.
-use Rattle.std.specs.Prelude.{ℕ, ◌⊎◌, ◌^◌, ℤ, pos, ◌-ℤ◌, Bool, false, ◌||◌, int_lt, int_le, List, length, Option, Some, slice_index_or}
-use Rattle.std.specs.Prelude.{None as Nothing}
+use Rattle.std.specs.Prelude.{ℕ, ◌⊎◌, ◌^◌, ℤ, pos, ◌-ℤ◌, Bool, false, ◌||◌, int_lt, int_le, List, length, Option, Some, slice_index_or, None as Nothing}
 use Rattle.rv_base.specs.declared.value.Value.{Value}
 use Rattle.rv_base.specs.declared.value.Value.TheVariants.{Flag, Label, Whole}
 use Rattle.rv_tree.specs.Places.{Sites}
-use Rattle.rv_flat.specs.declared.flat.Flat.{Flat}
-use Rattle.rv_flat.specs.Earliest.{IsPicked}
-use Rattle.rv_flat.specs.FlatInstants.{Row, nth, places, memory_places}
+use Rattle.rv_flat.specs.{declared.flat.Flat.Flat, Earliest.IsPicked, FlatInstants.Row, FlatInstants.nth, FlatInstants.places, FlatInstants.memory_places}
 
 -- whether an integer is below -2^63 or above 2^63 - 1
 abbrev pub is_outside : ℤ → Bool

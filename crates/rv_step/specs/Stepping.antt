@@ -2,14 +2,11 @@
 use Rattle.std.specs.Prelude.{◌≡◌, List}
 use Rattle.rv_base.specs.declared.value.Value.{Value}
 use Rattle.rv_tree.specs.Places.{Sites}
-use Rattle.rv_flat.specs.declared.flat.Flat.{Flat}
-use Rattle.rv_flat.specs.declared.state.State.{State}
 use Rattle.rv_flat.specs.FlatInstants.{Row, nth, is_on, IsFlatInstant, IsFlatNext}
-use Rattle.rv_flat.specs.FlatOf.{IsFlatBroken}
 use Rattle.rv_flat.specs.Steps.{AreTaken, IsGrown, IsLeast, IsLeastOf, IsState}
-use Rattle.rv_step.specs.declared.stepped.Stepped.{Stepped}
-use Rattle.rv_step.specs.declared.stepped.StepFault.{StepFault}
+use Rattle.rv_flat.specs.{declared.flat.Flat.Flat, declared.state.State.State, FlatOf.IsFlatBroken}
 use Rattle.rv_step.specs.declared.stepped.StepFault.TheVariants.{Outgrown, Memory}
+use Rattle.rv_step.specs.{declared.stepped.Stepped.Stepped, declared.stepped.StepFault.StepFault}
 
 -- An instant: what the flows have, the state after it, the observer, the least place of an assertion that is false; no
 -- integer leaves the range. The state after it is one where the memories take values of their types.

@@ -1,16 +1,10 @@
 -- An expression over its surroundings: its value, and what has to be known so that it is evaluated.
 use Rattle.std.specs.Prelude.{ℕ, false, cond, List, map, length, Option, slice_index_or}
-use Rattle.rv_base.specs.declared.value.Value.{Value}
-use Rattle.rv_base.specs.declared.value.Value.TheVariants.{Flag}
-use Rattle.rv_agreement.specs.Evaluation.{Found, value, trues, integers}
-use Rattle.rv_agreement.specs.Trees.{FlatTree, FlatTrees}
+use Rattle.rv_base.specs.{declared.value.Value.Value, declared.value.Value.TheVariants.Flag}
+use Rattle.rv_agreement.specs.{Evaluation.Found, Evaluation.value, Evaluation.trues, Evaluation.integers, Trees.FlatTree, Trees.FlatTrees}
 use Rattle.rv_step.specs.declared.evaluate.Surroundings.{Surroundings}
-use Rattle.rv_flat.specs.declared.parts.FlatExpr.{FlatExpr}
-use Rattle.rv_flat.specs.Filling.{AreShown}
-use Rattle.rv_flat.specs.FlatInstants.{found_at, is_on_at}
-use Rattle.rv_flat.specs.Inlined.{all_inlined, table_of, tree_among}
-use Rattle.rv_flat.specs.RawTree.{raw_tree, raw_trees}
-use Rattle.rv_flat.specs.Tame.{IsOver, AreOver, IsTame, AreTame}
+use Rattle.rv_flat.specs.{declared.parts.FlatExpr.FlatExpr, Filling.AreShown, FlatInstants.found_at, FlatInstants.is_on_at, Inlined.all_inlined}
+use Rattle.rv_flat.specs.{Inlined.table_of, Inlined.tree_among, RawTree.raw_tree, RawTree.raw_trees, Tame.IsOver, Tame.AreOver, Tame.IsTame, Tame.AreTame}
 
 module _ (x : Surroundings) where
   abbrev pub found_in : Found Value

@@ -1,19 +1,14 @@
 -- Calls of a store in turn.
-use Rattle.std.proofs.Common.{ℕ, ◌+◌, ◌*◌, ◌<◌, ◌≤◌, ◌≡◌, ◌↔◌, Bool, true, false, not, ◌&&◌, cond, List, [], ◌∷◌}
-use Rattle.std.proofs.Common.{◌++◌, length, length-append, refl, sym, ap, ◌∙◌, subst}
-use Rattle.std.proofs.Common.{⊎_elim, arith, Result, Ok, Err, IfOk, OnErr}
+use Rattle.std.proofs.Common.{ℕ, ◌+◌, ◌*◌, ◌<◌, ◌≤◌, ◌≡◌, ◌↔◌, Bool, true, false, not, ◌&&◌, cond, List, [], ◌∷◌, ◌++◌, length, length-append, refl, sym, ap}
+use Rattle.std.proofs.Common.{◌∙◌, subst, ⊎_elim, arith, Result, Ok, Err, IfOk, OnErr}
 use Rattle.std.proofs.lemmas.Bool.{and_from, and_parts, cases_lt, both_ways}
-use Rattle.std.proofs.lemmas.List.{append-nil, append_assoc, get_or_append_left}
-use Rattle.std.proofs.Math.Seq.{get_or-append_seam}
+use Rattle.std.proofs.{lemmas.List.append-nil, lemmas.List.append_assoc, lemmas.List.get_or_append_left, Math.Seq.get_or-append_seam}
 use Rattle.rv_diagram.specs.Nodes.{Valuation, Diagrams, Grows, Answers, IsRef, value_of, choice, put}
 use Rattle.rv_diagram.specs.Several.{Gives, Stepped, SameBut, Ignores, UsesNeeded, ArePartRefs, IsSchedule, ref_at, part_at}
-use Rattle.rv_diagram.specs.declared.store.several.Part.{Part}
-use Rattle.rv_diagram.specs.declared.Triple.{Triple}
-use Rattle.rv_diagram.specs.declared.frozen.Frozen.{Frozen}
+use Rattle.rv_diagram.specs.{declared.store.several.Part.Part, declared.Triple.Triple, declared.frozen.Frozen.Frozen}
 use Rattle.rv_proofs.specs.Scopes.{IsIn}
-use Rattle.rv_symbolic.specs.Growing.{Extends, Makes, Finds}
 use Rattle.rv_symbolic.specs.Linked.{AreRefs, AreLinkedBetween, AreParted, AreMet, quantified, Meets}
-use Rattle.rv_symbolic.specs.Represented.{IsRelation, AreLinks}
+use Rattle.rv_symbolic.specs.{Growing.Extends, Growing.Makes, Growing.Finds, Represented.IsRelation, Represented.AreLinks}
 use Rattle.rv_symbolic.proofs.Reading.{put-other}
 use Rattle.rv_diagram.proofs.Several.{same_truth}
 

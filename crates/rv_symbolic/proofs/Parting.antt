@@ -1,26 +1,14 @@
 -- Cases that part a set of valuations.
-use Rattle.std.proofs.Common.{ℕ, ◌<◌, ◌≡◌, ◌⊎◌, Bool, true, false, not, ◌&&◌, ◌||◌, List, [], ◌∷◌, ◌++◌, length, refl, sym, ap, ◌∙◌, subst, ⊎_elim}
-use Rattle.std.proofs.Common.{inl, inr, arith, length-append, slice_get, Some}
-use Rattle.std.proofs.lemmas.Bool.{or_cases, and_from, and_parts, not-true}
-use Rattle.std.proofs.lemmas.List.{get_or_append_left}
-use Rattle.std.proofs.lemmas.Option.{slice_get_within, get_or_from_slice_get, slice_get_read}
-use Rattle.rv_diagram.specs.Nodes.{Valuation, Diagrams, value_of, IsOrderedOver}
-use Rattle.rv_diagram.specs.declared.frozen.Frozen.{Frozen}
+use Rattle.std.proofs.Common.{ℕ, ◌<◌, ◌≡◌, ◌⊎◌, Bool, true, false, not, ◌&&◌, ◌||◌, List, [], ◌∷◌, ◌++◌, length, refl, sym, ap, ◌∙◌, subst, ⊎_elim, inl, inr}
+use Rattle.std.proofs.Common.{arith, length-append, slice_get, Some}
+use Rattle.std.proofs.lemmas.Bool.{or_cases, and_from, and_parts, not-true, or_left, or_right}
+use Rattle.std.proofs.{lemmas.List.get_or_append_left, lemmas.Option.slice_get_within, lemmas.Option.get_or_from_slice_get, lemmas.Option.slice_get_read}
+use Rattle.rv_diagram.specs.{Nodes.Valuation, Nodes.Diagrams, Nodes.value_of, Nodes.IsOrderedOver, declared.frozen.Frozen.Frozen}
 use Rattle.rv_proofs.specs.Systems.{System, IsSameValuation, updates_among}
-use Rattle.rv_proofs.specs.Scopes.{IsIn}
-use Rattle.rv_proofs.specs.Ranges.{IsControlSet}
-use Rattle.rv_proofs.specs.Reached.{HasNoIntegers}
-use Rattle.rv_proofs.specs.Cases.{IsCaseOf, AreCases}
-use Rattle.rv_proofs.specs.declared.report.Case.{Case}
-use Rattle.rv_symbolic.specs.declared.relation.Relation.{Relation}
-use Rattle.rv_symbolic.specs.Represented.{IsRelationOf}
-use Rattle.rv_symbolic.specs.Parted.{IsCaseFor, IsAdded, HasSides}
-use Rattle.rv_symbolic.proofs.Extending.{needed_same}
-use Rattle.rv_symbolic.proofs.Reading.{control-value, condition_set, valuation_state}
-use Rattle.rv_base.proofs.Lists.{get_push, none_at, push_got}
-use Rattle.rv_base.proofs.Truths.{or_false_is}
-use Rattle.std.proofs.lemmas.Bool.{or_left}
-use Rattle.std.proofs.lemmas.Bool.{or_right}
+use Rattle.rv_proofs.specs.{Scopes.IsIn, Ranges.IsControlSet, Reached.HasNoIntegers, Cases.IsCaseOf, Cases.AreCases, declared.report.Case.Case}
+use Rattle.rv_symbolic.specs.{declared.relation.Relation.Relation, Represented.IsRelationOf, Parted.IsCaseFor, Parted.IsAdded, Parted.HasSides}
+use Rattle.rv_symbolic.proofs.{Extending.needed_same, Reading.control-value, Reading.condition_set, Reading.valuation_state}
+use Rattle.rv_base.proofs.{Lists.get_push, Lists.none_at, Lists.push_got, Truths.or_false_is}
 
 pub kept-append : {A : Type 0} (before : List A) (c x : A) (j : ℕ) → slice_get before j ≡ Some x → slice_get (before ++ c ∷ []) j ≡ Some x
 kept-append before c x j h =

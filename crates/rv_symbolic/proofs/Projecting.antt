@@ -1,30 +1,21 @@
 -- Images and preimages by one product.
-use Rattle.std.proofs.Common.{ℕ, ◌+◌, ◌-◌, ◌*◌, ◌/◌, ◌<◌, ◌≤◌, ◌≡◌, ◌↔◌, Bool, true, false, not, ◌&&◌, cond, List, length, map, refl, sym, ap, ◌∙◌}
-use Rattle.std.proofs.Common.{subst, ⊎_elim, arith, IsTrue, Result, Ok, Err, IfOk}
+use Rattle.std.proofs.Common.{ℕ, ◌+◌, ◌-◌, ◌*◌, ◌/◌, ◌<◌, ◌≤◌, ◌≡◌, ◌↔◌, Bool, true, false, not, ◌&&◌, cond, List, length, map, refl, sym, ap, ◌∙◌, subst}
+use Rattle.std.proofs.Common.{⊎_elim, arith, IsTrue, Result, Ok, Err, IfOk}
 use Rattle.std.proofs.lemmas.Bool.{and_from, and_parts, cases_Bool, cases_lt, both_ways, not-true}
 use Rattle.std.proofs.lemmas.List.{get_or-map, length-map}
 use Rattle.std.specs.Prelude.{MatchBool}
-use Rattle.rv_diagram.specs.declared.Triple.{Triple}
-use Rattle.rv_diagram.specs.declared.frozen.Frozen.{Frozen}
 use Rattle.rv_diagram.specs.Nodes.{Valuation, Diagrams, Grows, node_at, value_of, IsOrderedOver}
-use Rattle.rv_diagram.specs.Several.{Gives, Stepped, ArePartRefs, SameBut, UsesNeeded, Ignores, IsUnused, lower_node, higher_node}
-use Rattle.rv_diagram.specs.Several.{before as lowered, after as raised}
-use Rattle.rv_proofs.specs.Systems.{System, IsState, HasSameState, IsSameValuation}
-use Rattle.rv_proofs.specs.Scopes.{IsIn}
-use Rattle.rv_proofs.specs.Ranges.{IsControlSet}
-use Rattle.rv_proofs.specs.Cases.{IsCase, IsImage, IsPreimage, IsInitialSet}
-use Rattle.rv_proofs.specs.declared.report.Case.{Case}
-use Rattle.rv_symbolic.specs.declared.relation.Parts.{Parts}
-use Rattle.rv_symbolic.specs.declared.relation.Relation.{Relation}
-use Rattle.rv_symbolic.specs.Growing.{Makes}
-use Rattle.rv_symbolic.specs.Variables.{is_of}
-use Rattle.rv_diagram.specs.declared.store.several.Part.{Part}
-use Rattle.rv_symbolic.specs.Linked.{AreMet, quantified}
-use Rattle.rv_symbolic.specs.Represented.{AreLinks, IsRelation, IsRelationOf}
-use Rattle.rv_symbolic.proofs.Extending.{met_before, met_after, links_opened}
+use Rattle.rv_diagram.specs.Several.{Gives, Stepped, ArePartRefs, SameBut, UsesNeeded, Ignores, IsUnused, lower_node, higher_node, before as lowered}
+use Rattle.rv_diagram.specs.Several.{after as raised}
+use Rattle.rv_diagram.specs.{declared.Triple.Triple, declared.frozen.Frozen.Frozen, declared.store.several.Part.Part}
+use Rattle.rv_proofs.specs.{Systems.System, Systems.IsState, Systems.HasSameState, Systems.IsSameValuation, Scopes.IsIn, Ranges.IsControlSet, Cases.IsCase}
+use Rattle.rv_proofs.specs.{Cases.IsImage, Cases.IsPreimage, Cases.IsInitialSet, declared.report.Case.Case}
 use Rattle.rv_symbolic.specs.Stepped.{IsProjected, IsAStep, IsJudged, AreNextStates}
-use Rattle.rv_symbolic.proofs.Reading.{control-value, condition-value, control_set, valuation_state, is_of-bit, is_of-parts, is_of-other, is_of-past}
-use Rattle.rv_symbolic.proofs.Reading.{state_is, read_off}
+use Rattle.rv_symbolic.specs.{declared.relation.Parts.Parts, declared.relation.Relation.Relation, Growing.Makes, Variables.is_of, Linked.AreMet}
+use Rattle.rv_symbolic.specs.{Linked.quantified, Represented.AreLinks, Represented.IsRelation, Represented.IsRelationOf}
+use Rattle.rv_symbolic.proofs.Extending.{met_before, met_after, links_opened}
+use Rattle.rv_symbolic.proofs.Reading.{control-value, condition-value, control_set, valuation_state, is_of-bit, is_of-parts, is_of-other, is_of-past, state_is}
+use Rattle.rv_symbolic.proofs.Reading.{read_off}
 
 pub projected_from : (m : ℕ) (over : Valuation) (holds : Valuation → Type 0) (meaning : Valuation → Bool) (f : Frozen) → IsOrderedOver m f
     → ((v : Valuation) → value_of f.nodes f.root v ≡ meaning v)

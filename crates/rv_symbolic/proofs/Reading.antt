@@ -1,10 +1,8 @@
 -- What sets of control states and conditions read, and which variables their nodes have.
-use Rattle.std.proofs.Common.{ℕ, ◌+◌, ◌*◌, ◌/◌, ◌%◌, ◌<◌, ◌≤◌, ◌≡◌, ◌==◌, nat_lt, Bool, true, false, cond, length, refl, sym, ap}
-use Rattle.std.proofs.Common.{◌∙◌, subst, ⊎_elim, arith}
+use Rattle.std.proofs.Common.{ℕ, ◌+◌, ◌*◌, ◌/◌, ◌%◌, ◌<◌, ◌≤◌, ◌≡◌, ◌==◌, nat_lt, Bool, true, false, cond, length, refl, sym, ap, ◌∙◌, subst, ⊎_elim, arith}
 use Rattle.std.proofs.lemmas.Bool.{ne_eqb, eq-eqb, eqb-true, ltb-true, cases_Bool, lt-ltb, le-ltb, and_from, and_parts, and_left, and_right, both_ways}
-use Rattle.rv_diagram.specs.declared.frozen.Frozen.{Frozen}
 use Rattle.rv_diagram.specs.Nodes.{Valuation, node_at, value_among, value_of, put, IsOrderedOver}
-use Rattle.rv_diagram.specs.Several.{UsesNeeded, Ignores}
+use Rattle.rv_diagram.specs.{declared.frozen.Frozen.Frozen, Several.UsesNeeded, Several.Ignores}
 use Rattle.rv_proofs.specs.Systems.{System, IsState, IsRead, HasSameState, IsSameValuation}
 use Rattle.rv_proofs.specs.Ranges.{IsControlSet, IsCondition}
 use Rattle.rv_symbolic.specs.Variables.{is_of}

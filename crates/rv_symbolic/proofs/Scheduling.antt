@@ -1,18 +1,13 @@
 -- A schedule, made from its last part on.
-use Rattle.std.proofs.Common.{ℕ, ◌+◌, ◌<◌, ◌≡◌, ◌↔◌, Bool, true, false, not, ◌&&◌, ◌||◌, List, [], ◌∷◌, length, zero}
-use Rattle.std.proofs.Common.{suc, refl, sym, ap, ◌∙◌, subst, ⊎_elim, arith}
+use Rattle.std.proofs.Common.{ℕ, ◌+◌, ◌<◌, ◌≡◌, ◌↔◌, Bool, true, false, not, ◌&&◌, ◌||◌, List, [], ◌∷◌, length, zero, suc, refl, sym, ap, ◌∙◌, subst, ⊎_elim}
+use Rattle.std.proofs.Common.{arith}
 use Rattle.std.proofs.lemmas.Bool.{and_parts, or_cases, not-true, both_ways}
-use Rattle.rv_diagram.specs.Nodes.{Valuation, Diagrams, IsRef, value_of, valuation_of}
-use Rattle.rv_diagram.specs.Several.{Ignores, IsSchedule, gone, part_at, ref_at}
-use Rattle.rv_diagram.specs.declared.Triple.{Triple}
-use Rattle.rv_diagram.specs.declared.store.several.Part.{Part}
+use Rattle.rv_diagram.specs.{Nodes.Valuation, Nodes.Diagrams, Nodes.IsRef, Nodes.value_of, Nodes.valuation_of, Several.Ignores, Several.IsSchedule}
+use Rattle.rv_diagram.specs.{Several.gone, Several.part_at, Several.ref_at, declared.Triple.Triple, declared.store.several.Part.Part}
 use Rattle.rv_proofs.specs.Systems.{System}
-use Rattle.rv_symbolic.specs.declared.relation.Parts.{Parts}
-use Rattle.rv_symbolic.specs.declared.relation.Relation.{Relation}
-use Rattle.rv_symbolic.specs.Growing.{Extends}
-use Rattle.rv_symbolic.specs.Variables.{AreAllBut}
 use Rattle.rv_symbolic.specs.Represented.{HaveRefs, AreParts, IsRelation, AreLinks, IsRelationOf}
 use Rattle.rv_symbolic.specs.Linked.{AreRefs, AreParted, AreScheduled, quantified}
+use Rattle.rv_symbolic.specs.{declared.relation.Parts.Parts, declared.relation.Relation.Relation, Growing.Extends, Variables.AreAllBut}
 use Rattle.rv_symbolic.proofs.Extending.{refs_after, links_opened, links_closed, part_refs_after, schedule_after, met_before, met_after}
 use Rattle.rv_base.proofs.Truths.{or_false}
 

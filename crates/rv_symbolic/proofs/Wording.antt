@@ -1,20 +1,13 @@
 -- The least valuations of sets, as words.
-use Rattle.std.proofs.Common.{ℕ, ◌+◌, ◌-◌, ◌*◌, ◌<◌, ◌≤◌, ◌≡◌, ◌↔◌, Bool, true, false, not, ◌&&◌, cond, List, length, refl, sym, ap, ◌∙◌}
-use Rattle.std.proofs.Common.{subst, ⊎_elim, arith, Option, Some, None}
-use Rattle.std.specs.Prelude.{MatchOption}
+use Rattle.std.proofs.Common.{ℕ, ◌+◌, ◌-◌, ◌*◌, ◌<◌, ◌≤◌, ◌≡◌, ◌↔◌, Bool, true, false, not, ◌&&◌, cond, List, length, refl, sym, ap, ◌∙◌, subst, ⊎_elim, arith}
+use Rattle.std.proofs.Common.{Option, Some, None}
 use Rattle.std.proofs.lemmas.Bool.{and_from, and_parts, cases_Bool, cases_lt, both_ways, not-true}
-use Rattle.rv_diagram.specs.declared.frozen.Frozen.{Frozen}
-use Rattle.rv_diagram.specs.declared.store.several.Part.{Part}
+use Rattle.std.specs.Prelude.{MatchOption}
 use Rattle.rv_diagram.specs.Nodes.{Valuation, Diagrams, Answers, IsRef, value_of, choice, valuation_of, IsLeast}
-use Rattle.rv_diagram.specs.Several.{ArePartRefs, part_at}
-use Rattle.rv_proofs.specs.Systems.{System, IsRead, IsSameValuation}
-use Rattle.rv_proofs.specs.Scopes.{IsIn}
-use Rattle.rv_proofs.specs.Ranges.{IsControlSet}
-use Rattle.rv_symbolic.specs.declared.relation.Relation.{Relation}
-use Rattle.rv_symbolic.specs.Growing.{Extends, Makes, Finds}
-use Rattle.rv_symbolic.specs.Variables.{is_of}
-use Rattle.rv_symbolic.specs.Represented.{IsRelationOf}
+use Rattle.rv_diagram.specs.{declared.frozen.Frozen.Frozen, declared.store.several.Part.Part, Several.ArePartRefs, Several.part_at}
+use Rattle.rv_proofs.specs.{Systems.System, Systems.IsRead, Systems.IsSameValuation, Scopes.IsIn, Ranges.IsControlSet}
 use Rattle.rv_symbolic.specs.Words.{IsLeastOf, IsFalseIn, LeadsTo, IsFirstOf, AreCopiesBetween, AreCopies, AreMetWith, IsFalseAt, LeadsAt}
+use Rattle.rv_symbolic.specs.{declared.relation.Relation.Relation, Growing.Extends, Growing.Makes, Growing.Finds, Variables.is_of, Represented.IsRelationOf}
 use Rattle.rv_symbolic.proofs.Extending.{extends_refl, extends_trans, grows_extends, met_before, met_after}
 use Rattle.rv_symbolic.proofs.Reading.{control-value, valuation_state, is_of-bit, read_is, read_off}
 use Rattle.rv_symbolic.proofs.Projecting.{relation_to, relation_from}

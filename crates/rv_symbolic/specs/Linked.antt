@@ -1,10 +1,8 @@
 -- The relation between a control state and the next one: each next copy has the value that its state bit takes.
 use Rattle.std.specs.Prelude.{◌≡◌, ℕ, ◌+◌, ◌*◌, ◌<◌, ◌≤◌, ◌↔◌, Bool, true, List, length}
-use Rattle.rv_diagram.specs.declared.Triple.{Triple}
-use Rattle.rv_diagram.specs.declared.frozen.Frozen.{Frozen}
-use Rattle.rv_diagram.specs.declared.store.several.Part.{Part}
 use Rattle.rv_diagram.specs.Nodes.{Valuation, Diagrams, IsRef, value_of, valuation_of}
 use Rattle.rv_diagram.specs.Several.{SameBut, ref_at, part_at, gone, IsSchedule}
+use Rattle.rv_diagram.specs.{declared.Triple.Triple, declared.frozen.Frozen.Frozen, declared.store.several.Part.Part}
 use Rattle.rv_proofs.specs.Scopes.{IsIn}
 use Rattle.rv_symbolic.specs.Growing.{Extends}
 

@@ -1,8 +1,6 @@
 -- How a list of cases grows by the case of a reference.
 use Rattle.std.specs.Prelude.{◌≡◌, ◌⊎◌, ℕ, Bool, true, false, not, ◌&&◌, List, [], ◌∷◌, ◌++◌}
-use Rattle.rv_diagram.specs.Nodes.{Valuation, Diagrams, value_of, IsOrderedOver}
-use Rattle.rv_diagram.specs.Several.{UsesNeeded}
-use Rattle.rv_diagram.specs.declared.frozen.Frozen.{Frozen}
+use Rattle.rv_diagram.specs.{Nodes.Valuation, Nodes.Diagrams, Nodes.value_of, Nodes.IsOrderedOver, Several.UsesNeeded, declared.frozen.Frozen.Frozen}
 use Rattle.rv_proofs.specs.declared.report.Case.{Case}
 use Rattle.rv_symbolic.specs.declared.relation.Parts.{Parts}
 

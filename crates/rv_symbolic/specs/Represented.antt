@@ -1,13 +1,10 @@
 -- When references in a store mean what a system of valuations is.
 use Rattle.std.specs.Prelude.{◌≡◌, ℕ, ◌*◌, ◌<◌, ◌≤◌, ◌↔◌, List, length}
 use Rattle.rv_diagram.specs.Nodes.{Valuation, Diagrams, IsRef, value_of}
-use Rattle.rv_diagram.specs.Several.{ref_at, IsSchedule, ArePartRefs}
-use Rattle.rv_diagram.specs.declared.store.several.Part.{Part}
+use Rattle.rv_diagram.specs.{Several.ref_at, Several.IsSchedule, Several.ArePartRefs, declared.store.several.Part.Part}
 use Rattle.rv_proofs.specs.Systems.{System, IsSystem}
-use Rattle.rv_symbolic.specs.declared.relation.Parts.{Parts}
-use Rattle.rv_symbolic.specs.declared.relation.Relation.{Relation}
-use Rattle.rv_symbolic.specs.Variables.{AreAllBut}
 use Rattle.rv_symbolic.specs.Linked.{AreRefs, AreLinked, AreMet, quantified}
+use Rattle.rv_symbolic.specs.{declared.relation.Parts.Parts, declared.relation.Relation.Relation, Variables.AreAllBut}
 
 -- The references are those of the store, which has a variable for each state bit and for its next copy.
 pub record HaveRefs (d : Diagrams) (p : Parts) : Type 0 where

@@ -1,15 +1,9 @@
 -- Projections, and one step from all valuations of a set of control states.
 use Rattle.std.specs.Prelude.{◌≡◌, ◌↔◌, ℕ, Bool, true, false, IsTrue, List}
 use Rattle.rv_diagram.specs.Nodes.{Valuation, Diagrams, value_of, IsOrderedOver}
-use Rattle.rv_diagram.specs.Several.{SameBut, IsUnused}
-use Rattle.rv_diagram.specs.declared.frozen.Frozen.{Frozen}
-use Rattle.rv_proofs.specs.Systems.{System, HasSameState}
-use Rattle.rv_proofs.specs.Scopes.{IsIn}
-use Rattle.rv_proofs.specs.Ranges.{IsControlSet}
-use Rattle.rv_symbolic.specs.declared.relation.NextStates.{NextStates}
-use Rattle.rv_diagram.specs.declared.store.several.Part.{Part}
-use Rattle.rv_symbolic.specs.Linked.{AreMet}
-use Rattle.rv_symbolic.specs.declared.relation.Parts.{Parts}
+use Rattle.rv_diagram.specs.{Several.SameBut, Several.IsUnused, declared.frozen.Frozen.Frozen, declared.store.several.Part.Part}
+use Rattle.rv_proofs.specs.{Systems.System, Systems.HasSameState, Scopes.IsIn, Ranges.IsControlSet}
+use Rattle.rv_symbolic.specs.{declared.relation.NextStates.NextStates, Linked.AreMet, declared.relation.Parts.Parts}
 
 -- The diagram is true exactly where this holds for some values of the given variables, none of which is that of a node.
 pub record IsProjected (m : ℕ) (over : Valuation) (holds : Valuation → Type 0) (f : Frozen) : Type 0 where

@@ -1,12 +1,8 @@
 -- Words, which have a truth value for each diagram variable, and the least of them at which something holds.
 use Rattle.std.specs.Prelude.{◌≡◌, ℕ, ◌+◌, ◌*◌, ◌<◌, ◌≤◌, Bool, true, false, List, length, Option, Some, None, IsTrue}
-use Rattle.rv_diagram.specs.declared.Triple.{Triple}
-use Rattle.rv_diagram.specs.declared.frozen.Frozen.{Frozen}
-use Rattle.rv_diagram.specs.declared.store.several.Part.{Part}
 use Rattle.rv_diagram.specs.Nodes.{Valuation, valuation_of, value_of, ComesBefore}
-use Rattle.rv_diagram.specs.Several.{part_at}
-use Rattle.rv_proofs.specs.Systems.{System, IsRead, HasSameState}
-use Rattle.rv_proofs.specs.Scopes.{IsIn}
+use Rattle.rv_diagram.specs.{declared.Triple.Triple, declared.frozen.Frozen.Frozen, declared.store.several.Part.Part, Several.part_at}
+use Rattle.rv_proofs.specs.{Systems.System, Systems.IsRead, Systems.HasSameState, Scopes.IsIn}
 use Rattle.rv_symbolic.specs.Linked.{AreMet}
 
 -- w comes before v where next copies do not count: at the first other variable at which they differ w is false.

@@ -1,20 +1,13 @@
 -- How much the parts of a text's tree are at most: each token has an offset of its own, and tokens are no more than bytes.
 use Rattle.std.proofs.Common.{◌≡◌, ℕ, zero, suc, ◌+◌, ◌-◌, ◌<◌, ◌≤◌, Bool, false, cond, ltb, eqb, List, [], ◌∷◌, ◌++◌, map, length, take, get_or, refl, sym, ap}
 use Rattle.std.proofs.Common.{subst, arith, length-append}
-use Rattle.std.specs.Prelude.{Option, Some, None}
-use Rattle.std.specs.List.{All, Contains}
-use Rattle.std.proofs.lemmas.List.{length-map}
-use Rattle.std.proofs.lemmas.Bool.Decides.{nat_tests}
+use Rattle.std.proofs.{lemmas.List.length-map, lemmas.Bool.Decides.nat_tests}
+use Rattle.std.specs.{Prelude.Option, Prelude.Some, Prelude.None, List.All, List.Contains}
 use Rattle.rv_base.specs.Limits.{source_limit}
-use Rattle.rv_syntax.specs.declared.token.Kind.{Kind}
-use Rattle.rv_syntax.specs.declared.token.Token.{Token}
-use Rattle.rv_tree.specs.Tree.{NodeTree, ProgramTree}
-use Rattle.rv_tree.specs.Places.{flows}
-use Rattle.rv_tree.specs.Sites.{equation_offsets, assertion_offsets, node_offsets, site_count, with_sites}
-use Rattle.rv_tree.specs.Bounded.{IsBounded}
-use Rattle.rv_syntax.specs.TextTrees.{IsTreeOfText}
 use Rattle.rv_syntax.specs.Lexing.{cut, kind_of, emitted, ends_in_tel, lex, tokens}
-use Rattle.rv_syntax.specs.ProgramText.{IsProgram}
+use Rattle.rv_syntax.specs.{declared.token.Kind.Kind, declared.token.Token.Token, TextTrees.IsTreeOfText, ProgramText.IsProgram}
+use Rattle.rv_tree.specs.Sites.{equation_offsets, assertion_offsets, node_offsets, site_count, with_sites}
+use Rattle.rv_tree.specs.{Tree.NodeTree, Tree.ProgramTree, Places.flows, Bounded.IsBounded}
 use Rattle.rv_syntax.proofs.Earlier.{length-flows}
 use Rattle.rv_syntax.proofs.Spelled.{all_of, of_name, of_flow, of_body, of_type, of_constant, of_node, of_program, of_tokens, tells-program}
 use Rattle.rv_base.proofs.Lists.{from_map}

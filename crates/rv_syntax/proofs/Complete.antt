@@ -1,24 +1,20 @@
 -- What the grammar derives is read by the machine without a limit.
 use Rattle.std.proofs.Common.{◌≡◌, ℕ, ◌<◌, ◌≤◌, true, false, not, cond, List, [], ◌∷◌, ◌++◌, refl, sym, ap, ◌∙◌, subst, inl, inr, arith, append_assoc}
+use Rattle.std.proofs.lemmas.Bool.{cases_lt, le-leb, lt-leb, and_from, and_left, and_right, cond-true}
 use Rattle.std.specs.Prelude.{Some, Ok}
-use Rattle.std.proofs.lemmas.Bool.{cases_lt, le-leb, lt-leb, and_from, and_left, and_right}
 use Rattle.rv_syntax.specs.declared.token.Mark.TheVariants as mark
-use Rattle.rv_syntax.specs.declared.token.Token.{Token}
-use Rattle.rv_tree.specs.declared.tree.Name.{Name}
-use Rattle.rv_tree.specs.declared.tree.Op.{Op}
-use Rattle.rv_tree.specs.declared.tree.Op.TheVariants as op
-use Rattle.rv_syntax.specs.declared.operator.Prefix.{Prefix}
-use Rattle.rv_syntax.specs.declared.operator.Prefix.TheVariants as prefixed
-use Rattle.rv_syntax.specs.declared.parser.Start.TheVariants as start
-use Rattle.rv_syntax.specs.declared.parser.Next.{Next}
-use Rattle.rv_syntax.specs.declared.parser.Next.TheVariants as next
 use Rattle.rv_syntax.specs.Grammar.{Leaf, Yes, No, Count, Called, Callee, Function, Hash, Written, Atom, InBrackets, Before, Between, Gated, If, Given, Front}
 use Rattle.rv_syntax.specs.Grammar.{NoneBefore, Then, fixed, leaf_token, name_token, callee_token, prefix_mark, op_mark, spelling, front_spelling, Sampled}
 use Rattle.rv_syntax.specs.Grammar.{syntax_of, front_trees, level_of, Side, ToLeft, ToRight, Alone, side, left_by, right_by, left_level, right_level, level}
 use Rattle.rv_syntax.specs.Grammar.{is_open, IsGrammatical, AreGrammatical}
 use Rattle.rv_syntax.specs.Machine.{start_of, next_of, Frame, Brackets, Under, After, Asked, Answered, Else, Within, need_of, need, Held, held, leaf_held, Want}
 use Rattle.rv_syntax.specs.Machine.{Have, Ends, accepts, taken, wrapped, awaited, onward, settle, begin, at_end, going, run, following}
-use Rattle.std.proofs.lemmas.Bool.{cond-true}
+use Rattle.rv_syntax.specs.{declared.token.Token.Token, declared.operator.Prefix.Prefix, declared.parser.Next.Next}
+use Rattle.rv_tree.specs.{declared.tree.Name.Name, declared.tree.Op.Op}
+use Rattle.rv_tree.specs.declared.tree.Op.TheVariants as op
+use Rattle.rv_syntax.specs.declared.operator.Prefix.TheVariants as prefixed
+use Rattle.rv_syntax.specs.declared.parser.Start.TheVariants as start
+use Rattle.rv_syntax.specs.declared.parser.Next.TheVariants as next
 
 -- the operand that is written
 abbrev pub operand : Written → Held

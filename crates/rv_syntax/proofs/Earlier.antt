@@ -1,14 +1,9 @@
 -- How many offsets are less than one: the place of the first that is not, where they rise, in whatever order they were.
 use Rattle.std.proofs.Common.{◌≡◌, ℕ, zero, suc, ◌+◌, ◌≤◌, true, false, cond, ltb, List, [], ◌∷◌, ◌++◌, map, length, refl, sym, ap, ◌∙◌, arith, length-append}
-use Rattle.std.specs.List.{AllWithin, sum_by}
-use Rattle.std.specs.List.Sorted.{IsPermutation}
-use Rattle.std.proofs.lemmas.List.Sorted.{sum_by-IsPermutation}
-use Rattle.std.proofs.lemmas.List.Recursion.{is_sum_by}
-use Rattle.std.proofs.lemmas.List.{length-map}
-use Rattle.rv_tree.specs.declared.tree.Decl.{Decl}
-use Rattle.rv_tree.specs.Tree.{EquationTree, AssertionTree, NodeTree}
-use Rattle.rv_tree.specs.Places.{flows}
+use Rattle.std.proofs.{lemmas.List.Sorted.sum_by-IsPermutation, lemmas.List.Recursion.is_sum_by, lemmas.List.length-map}
+use Rattle.std.specs.{List.AllWithin, List.sum_by, List.Sorted.IsPermutation}
 use Rattle.rv_tree.specs.Sites.{earlier, numbered_from, equation_offsets, assertion_offsets, node_offsets, site_at}
+use Rattle.rv_tree.specs.{declared.tree.Decl.Decl, Tree.EquationTree, Tree.AssertionTree, Tree.NodeTree, Places.flows}
 
 pub earlier-place : (at : ℕ) (xs : List ℕ) (i : ℕ) → i ≤ length xs → AllWithin (λ y. ltb y at ≡ true) xs 0 i
     → AllWithin (λ y. ltb y at ≡ false) xs i (length xs) → earlier at xs ≡ i

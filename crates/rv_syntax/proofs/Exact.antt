@@ -1,20 +1,13 @@
 -- When a reader reads a rule: each rule's law from the laws of its parts.
 use Rattle.std.proofs.Common.{inl, inr, ◌≡◌, ℕ, zero, suc, ◌+◌, ◌<◌, ◌≤◌, Bool, true, false, cond, List, [], ◌∷◌, ◌++◌, length, refl, sym, ap, ◌∙◌, subst}
 use Rattle.std.proofs.Common.{arith, append_assoc, length-append}
-use Rattle.std.specs.Prelude.{Option, Some, None, ⊤, Ok, Err, ◌⊎◌}
 use Rattle.std.proofs.lemmas.List.{append-nil, append_cancel_right}
-use Rattle.rv_syntax.specs.declared.fault.Why.{Why}
-use Rattle.rv_syntax.specs.declared.fault.Why.TheVariants.{Offends, TooDeep}
-use Rattle.rv_syntax.specs.declared.token.Mark.{Mark}
-use Rattle.rv_syntax.specs.declared.token.Token.{Token}
-use Rattle.rv_syntax.specs.Grammar.{fixed}
-use Rattle.rv_syntax.specs.Marks.{has_mark}
-use Rattle.rv_syntax.specs.Nesting.{Standing, behind, behind_all, depth, limit, IsShallowText}
-use Rattle.rv_syntax.specs.Rules.{Gives, Word, Part, OneOf, Each, Maybe}
+use Rattle.std.specs.Prelude.{Option, Some, None, ⊤, Ok, Err, ◌⊎◌}
 use Rattle.rv_syntax.specs.Parse.{Reading, Parse, bind, then, done, stop, one_of, one, starts, choose, after_turn, turns, loop, found, many, maybe}
-use Rattle.rv_syntax.specs.Reading.{word}
-use Rattle.rv_syntax.proofs.Marked.{from-has, has-mark}
-use Rattle.rv_syntax.proofs.Exactly.{Begins, Answers, left, with_left, ReadsAs, Exact}
+use Rattle.rv_syntax.specs.{declared.fault.Why.Why, declared.fault.Why.TheVariants.Offends, declared.fault.Why.TheVariants.TooDeep, declared.token.Mark.Mark}
+use Rattle.rv_syntax.specs.{declared.token.Token.Token, Grammar.fixed, Marks.has_mark, Nesting.Standing, Nesting.behind, Nesting.behind_all, Nesting.depth}
+use Rattle.rv_syntax.specs.{Nesting.limit, Nesting.IsShallowText, Rules.Gives, Rules.Word, Rules.Part, Rules.OneOf, Rules.Each, Rules.Maybe, Reading.word}
+use Rattle.rv_syntax.proofs.{Marked.from-has, Marked.has-mark, Exactly.Begins, Exactly.Answers, Exactly.left, Exactly.with_left, Exactly.ReadsAs, Exactly.Exact}
 
 -- some word
 abbrev pub Has : {A : Type 0} → (A → List Token → Type 0) → Type 0

@@ -2,20 +2,6 @@
 use Rattle.std.proofs.lemmas.List.{append-nil}
 use Rattle.std.proofs.Common.{append_assoc, inl, inr, ◌≡◌, ℕ, ◌≤◌, Bool, true, false, cond, List, [], ◌∷◌, ◌++◌, refl, sym, ap, ◌∙◌, subst, lit≤}
 use Rattle.std.specs.Prelude.{◌⊎◌, Option, Some, None, ⊤}
-use Rattle.rv_syntax.specs.declared.token.Mark.{Mark}
-use Rattle.rv_syntax.specs.declared.token.Mark.TheVariants as mark
-use Rattle.rv_syntax.specs.declared.token.Kind.{Kind}
-use Rattle.rv_syntax.specs.declared.token.Kind.TheVariants as kind
-use Rattle.rv_syntax.specs.declared.token.Token.{Token}
-use Rattle.rv_tree.specs.declared.tree.Name.{Name}
-use Rattle.rv_tree.specs.declared.tree.Decl.{Decl}
-use Rattle.rv_tree.specs.declared.tree.TypeName.{TypeName}
-use Rattle.rv_tree.specs.declared.tree.TypeName.TheVariants as type_name
-use Rattle.rv_tree.specs.declared.tree.TypeBody.{TypeBody}
-use Rattle.rv_tree.specs.declared.tree.TypeBody.TheVariants as body_of
-use Rattle.rv_tree.specs.declared.tree.TypeDecl.{TypeDecl}
-use Rattle.rv_syntax.specs.Grammar.{fixed}
-use Rattle.rv_tree.specs.Tree.{Tree, ConstantTree, NodeTree}
 use Rattle.rv_syntax.specs.Nesting.{Standing, Outside, Inside, opened_by, outside, behind, depth, limit, IsExprOf}
 use Rattle.rv_syntax.specs.Marks.{kind_is, kind_named, is_mark, is_name, mark_at, kind_name, name_of}
 use Rattle.rv_syntax.specs.Rules.{Gives, Word, Only, Marked, Maybe, Part, OneOf, Each}
@@ -23,16 +9,19 @@ use Rattle.rv_syntax.specs.ProgramText.{IsName, IsNames, IsKind, IsEnumeration, 
 use Rattle.rv_syntax.specs.ProgramText.{IsConstants, IsGroup, all_flows, IsDecls, IsClock, IsLocal, joined, IsVar, IsLefts, Item, Equates, Assumes, equation_of}
 use Rattle.rv_syntax.specs.ProgramText.{assertion_of, IsItem, IsTitle, IsInputs, IsOutputs, IsBody, node_of, IsNode, Section, Types, Constants, OneNode}
 use Rattle.rv_syntax.specs.ProgramText.{IsSection, program_of, IsProgram}
-use Rattle.rv_tree.specs.Groups.{Group, flows_of}
 use Rattle.rv_syntax.specs.Parse.{Parse, done, then, one, starts, choose, many, maybe}
-use Rattle.rv_syntax.specs.Reads.{expression}
+use Rattle.rv_syntax.specs.{declared.token.Mark.Mark, declared.token.Kind.Kind, declared.token.Token.Token, Grammar.fixed, Reads.expression, Reading.word}
+use Rattle.rv_syntax.specs.declared.token.Mark.TheVariants as mark
+use Rattle.rv_syntax.specs.declared.token.Kind.TheVariants as kind
+use Rattle.rv_tree.specs.{declared.tree.Name.Name, declared.tree.Decl.Decl, declared.tree.TypeName.TypeName, declared.tree.TypeBody.TypeBody}
+use Rattle.rv_tree.specs.{declared.tree.TypeDecl.TypeDecl, Tree.Tree, Tree.ConstantTree, Tree.NodeTree, Groups.Group, Groups.flows_of}
+use Rattle.rv_tree.specs.declared.tree.TypeName.TheVariants as type_name
+use Rattle.rv_tree.specs.declared.tree.TypeBody.TheVariants as body_of
 use Rattle.rv_syntax.specs.Reading as read
-use Rattle.rv_syntax.specs.Reading.{word}
-use Rattle.rv_syntax.proofs.Marked.{mark-token, token-mark}
-use Rattle.rv_syntax.proofs.Exactly.{Exact}
 use Rattle.rv_syntax.proofs.Exact.{IsOne, Any, StepsOver, exact-one, exact-done, exact-then, exact-to, exact-many, exact-choose, exact-before, exact-word}
 use Rattle.rv_syntax.proofs.Exact.{exact-maybe, exact-or, starts-more, Turns, exact-loop}
 use Rattle.rv_syntax.proofs.Expressions.{Ended, IsFresh, IsInside, Exact-expression}
+use Rattle.rv_syntax.proofs.{Marked.mark-token, Marked.token-mark, Exactly.Exact}
 
 -- ---- Standings.
 abbrev pub IsOutside : Standing → Type 0

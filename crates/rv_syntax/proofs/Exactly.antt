@@ -1,10 +1,8 @@
 -- When a reader reads a language exactly, and what it stops at.
 use Rattle.std.proofs.Common.{◌≡◌, ◌<◌, List, [], ◌∷◌, ◌++◌}
 use Rattle.std.specs.Prelude.{Ok, Err, ◌⊎◌}
-use Rattle.rv_syntax.specs.declared.fault.Why.TheVariants.{Offends, TooDeep}
-use Rattle.rv_syntax.specs.declared.token.Token.{Token}
-use Rattle.rv_syntax.specs.Nesting.{Standing, behind_all, depth, limit, IsShallowText}
-use Rattle.rv_syntax.specs.Parse.{Reading, Parse}
+use Rattle.rv_syntax.specs.{declared.fault.Why.TheVariants.Offends, declared.fault.Why.TheVariants.TooDeep, declared.token.Token.Token, Nesting.Standing}
+use Rattle.rv_syntax.specs.{Nesting.behind_all, Nesting.depth, Nesting.limit, Nesting.IsShallowText, Parse.Reading, Parse.Parse}
 
 -- The tokens begin a word of the language.
 abbrev pub Begins : {A : Type 0} → (A → List Token → Type 0) → List Token → Type 0

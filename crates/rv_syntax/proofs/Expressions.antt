@@ -1,24 +1,18 @@
 -- Expressions are read exactly.
 use Rattle.std.proofs.Common.{inl, inr, ◌≡◌, List, [], ◌∷◌, ◌++◌, refl, sym, ap, ◌∙◌, subst, append_assoc}
-use Rattle.std.specs.Prelude.{Ok, Err, ◌<◌}
 use Rattle.std.proofs.lemmas.List.{append-nil, append_cancel_right}
-use Rattle.rv_syntax.specs.declared.token.Token.{Token}
-use Rattle.rv_syntax.specs.declared.fault.Why.TheVariants.{Offends, TooDeep}
-use Rattle.rv_tree.specs.Tree.{Tree}
+use Rattle.std.specs.Prelude.{Ok, Err, ◌<◌}
 use Rattle.rv_syntax.specs.Grammar.{Atom, Yes, spelling, syntax_of, Just}
 use Rattle.rv_syntax.specs.Nesting.{Parts, outside, limit, IsExprOf, Standing, Inside, behind_all, depth, IsShallowText}
-use Rattle.rv_syntax.specs.Machine.{Want, following, run}
-use Rattle.rv_syntax.specs.Limited.{counts, limited, Limited}
-use Rattle.rv_syntax.specs.Parse.{Reading}
-use Rattle.rv_syntax.specs.Reads.{expression}
-use Rattle.rv_syntax.proofs.Complete.{IsEnd, complete}
+use Rattle.rv_syntax.specs.{declared.token.Token.Token, declared.fault.Why.TheVariants.Offends, declared.fault.Why.TheVariants.TooDeep, Machine.Want}
+use Rattle.rv_syntax.specs.{Machine.following, Machine.run, Limited.counts, Limited.limited, Limited.Limited, Parse.Reading, Reads.expression}
+use Rattle.rv_tree.specs.Tree.{Tree}
 use Rattle.rv_syntax.proofs.Shallow.{IsWithin, IsTooDeep, within-before, Agrees, agrees, OrDeep, reads-or-deep}
-use Rattle.rv_syntax.proofs.Sound as machine
-use Rattle.rv_syntax.proofs.Sound.{Wants, Comes, comes, one-token}
-use Rattle.rv_syntax.proofs.Nested.{past_all, from-shallow, to-shallow, to-deep}
 use Rattle.rv_syntax.proofs.Standings.{Stay, stay-front, stay-spelled, behind-inside, to-shallow-text, from-shallow-text, to-deep-text}
 use Rattle.rv_syntax.proofs.Exactly.{Begins, Answers, left, with_left, ReadsAs, Exact}
-use Rattle.rv_syntax.proofs.OneFault.{head-same}
+use Rattle.rv_syntax.proofs.{Complete.IsEnd, Complete.complete, Sound.Wants, Sound.Comes, Sound.comes, Sound.one-token, Nested.past_all, Nested.from-shallow}
+use Rattle.rv_syntax.proofs.{Nested.to-shallow, Nested.to-deep, OneFault.head-same}
+use Rattle.rv_syntax.proofs.Sound as machine
 
 -- where an expression begins, and where it goes on
 abbrev pub IsFresh : Standing → Type 0

@@ -1,28 +1,19 @@
 -- The tokens of a text: names are words, and numbers are at most 2^40 + 1. And what a rule derives from such tokens.
 use Rattle.std.proofs.Common.{◌≡◌, ℕ, zero, suc, ◌+◌, ◌-◌, ◌<◌, Bool, true, false, cond, nat_le, List, [], ◌∷◌, ◌++◌, length, take, get_or, refl, sym, ap, ◌∙◌}
 use Rattle.std.proofs.Common.{subst, arith, inl, inr, one-add}
-use Rattle.std.specs.Prelude.{◌&&◌, ◌||◌, ◌==◌, ⊤, Option, Some, slice_index}
-use Rattle.std.specs.Prelude.{None as Nothing}
-use Rattle.std.specs.Char.{is_ascii_digit}
-use Rattle.std.specs.Int.{is_in_range}
-use Rattle.std.specs.List.{Contains, prefix_len}
-use Rattle.std.specs.Str.Parse.{digits_value}
-use Rattle.std.proofs.lemmas.Bool.{cases_Bool}
-use Rattle.std.proofs.lemmas.Bool.Decides.{nat_tests}
+use Rattle.std.proofs.{lemmas.Bool.cases_Bool, lemmas.Bool.Decides.nat_tests}
+use Rattle.std.specs.Prelude.{◌&&◌, ◌||◌, ◌==◌, ⊤, Option, Some, slice_index, None as Nothing}
+use Rattle.std.specs.{Char.is_ascii_digit, Int.is_in_range, List.Contains, List.prefix_len, Str.Parse.digits_value}
 use Rattle.rv_base.specs.Limits.{too_heavy}
 use Rattle.rv_tree.specs.Words.{is_name_byte, is_name}
-use Rattle.rv_syntax.specs.declared.lexer.Comment.{Comment}
-use Rattle.rv_syntax.specs.declared.lexer.Comment.TheVariants as comment
-use Rattle.rv_syntax.specs.declared.lexer.Shape.{Shape}
-use Rattle.rv_syntax.specs.declared.lexer.Shape.TheVariants as shape
-use Rattle.rv_syntax.specs.declared.token.Kind.{Kind}
-use Rattle.rv_syntax.specs.declared.token.Kind.TheVariants as kind
-use Rattle.rv_syntax.specs.declared.token.Mark.{Mark}
-use Rattle.rv_syntax.specs.declared.token.Mark.TheVariants as mark
-use Rattle.rv_syntax.specs.declared.token.Token.{Token}
 use Rattle.rv_syntax.specs.Lexing.{bracket, close_len, closed_or, comment_len, comment_or, cut, emitted, ends_in_tel, fixed_or, is_letter, is_space}
 use Rattle.rv_syntax.specs.Lexing.{is_word_byte, kept, kind_of, lex, number_len, opens, operator, or_else, or_single, other, pair, rare, single, word, word_len}
-use Rattle.rv_syntax.specs.Rules.{Each, Gives, OneOf, Part, Word}
+use Rattle.rv_syntax.specs.{declared.lexer.Comment.Comment, declared.lexer.Shape.Shape, declared.token.Kind.Kind, declared.token.Mark.Mark}
+use Rattle.rv_syntax.specs.{declared.token.Token.Token, Rules.Each, Rules.Gives, Rules.OneOf, Rules.Part, Rules.Word}
+use Rattle.rv_syntax.specs.declared.lexer.Comment.TheVariants as comment
+use Rattle.rv_syntax.specs.declared.lexer.Shape.TheVariants as shape
+use Rattle.rv_syntax.specs.declared.token.Kind.TheVariants as kind
+use Rattle.rv_syntax.specs.declared.token.Mark.TheVariants as mark
 
 -- ---- Tokens.
 -- a name is a word, and a number is as it is kept

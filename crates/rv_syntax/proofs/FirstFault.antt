@@ -3,20 +3,14 @@ use Rattle.std.proofs.Common.{inl, inr, ◌≡◌, ℕ, Bool, true, false, cond,
 use Rattle.std.proofs.Common.{arith, ◌≤◌}
 use Rattle.std.proofs.lemmas.List.{append-nil, append_cancel_right}
 use Rattle.std.specs.Prelude.{◌⊎◌, Option, Some, None, Ok, Err, ◌<◌, Result, IfOk, IfErr}
-use Rattle.rv_syntax.specs.declared.token.Token.{Token}
-use Rattle.rv_syntax.specs.declared.fault.Why.{Why}
-use Rattle.rv_syntax.specs.declared.fault.Why.TheVariants as why
-use Rattle.rv_syntax.specs.declared.fault.TextFault.{TextFault}
-use Rattle.rv_syntax.specs.declared.fault.TextFault.TheVariants as fault
-use Rattle.rv_tree.specs.declared.tree.Program.{Program}
-use Rattle.rv_tree.specs.Tree.{ProgramTree, program_tree}
-use Rattle.rv_syntax.specs.Lexing.{tokens}
 use Rattle.rv_syntax.specs.Nesting.{Standing, Outside, behind_all, depth, limit, IsShallowText}
-use Rattle.rv_syntax.specs.ProgramText.{IsProgram, IsTextOf, program_with_sites}
 use Rattle.rv_syntax.specs.Faults.{BeginsProgram, IsCut, IsDead, is_left_out, EndsEarly, IsFault}
-use Rattle.rv_syntax.specs.Correct.{Finds, Explains, IsOrMemory, Refuses}
-use Rattle.rv_syntax.specs.Parse.{Reading, Parse}
-use Rattle.rv_syntax.specs.Stopped.{fault_at, shortfall, FallsShort, Tells}
+use Rattle.rv_syntax.specs.{declared.token.Token.Token, declared.fault.Why.Why, declared.fault.TextFault.TextFault, Lexing.tokens, ProgramText.IsProgram}
+use Rattle.rv_syntax.specs.{ProgramText.IsTextOf, ProgramText.program_with_sites, Correct.Finds, Correct.Explains, Correct.IsOrMemory, Correct.Refuses}
+use Rattle.rv_syntax.specs.{Parse.Reading, Parse.Parse, Stopped.fault_at, Stopped.shortfall, Stopped.FallsShort, Stopped.Tells}
+use Rattle.rv_syntax.specs.declared.fault.Why.TheVariants as why
+use Rattle.rv_syntax.specs.declared.fault.TextFault.TheVariants as fault
+use Rattle.rv_tree.specs.{declared.tree.Program.Program, Tree.ProgramTree, Tree.program_tree}
 use Rattle.rv_syntax.proofs.OneFault.{head-same, begins-before, one-fault, no-tree}
 use Rattle.rv_syntax.proofs.Exactly.{Answers, left, with_left, ReadsAs, Exact}
 

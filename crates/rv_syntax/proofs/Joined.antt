@@ -1,9 +1,7 @@
 -- Offsets that are collected one element after the other, and expressions that get their sites so.
 use Rattle.std.proofs.Common.{◌≡◌, ℕ, ◌+◌, ◌<◌, ◌≤◌, ◌∷◌, [], ◌++◌, List, map, length, get_or, drop, refl, sym, ap, ◌∙◌, append_assoc}
 use Rattle.std.proofs.lemmas.List.{append-nil, map_push, drop_all}
-use Rattle.rv_tree.specs.declared.tree.Expr.{Expr}
-use Rattle.rv_tree.specs.Tree.{Tree, Trees, None, More, trees, tree_of}
-use Rattle.rv_tree.specs.Sites.{sited, sited_trees}
+use Rattle.rv_tree.specs.{declared.tree.Expr.Expr, Tree.Tree, Tree.Trees, Tree.None, Tree.More, Tree.trees, Tree.tree_of, Sites.sited, Sites.sited_trees}
 use Rattle.rv_base.proofs.Lists.{next_of}
 
 -- one more element, where a list's offsets are those of its first element and then those of the others

@@ -1,8 +1,7 @@
 -- The tokens of a text, from one place to the next.
 use Rattle.std.proofs.Common.{◌≡◌, ℕ, zero, suc, ◌+◌, ◌-◌, ◌<◌, ◌≤◌, Bool, List, [], ◌∷◌, ◌++◌, length, drop, take, refl, sym, ap, ◌∙◌, arith}
 use Rattle.std.proofs.lemmas.List.{length-drop, drop-drop, drop_all}
-use Rattle.rv_syntax.specs.declared.lexer.Shape.{Shape}
-use Rattle.rv_syntax.specs.Lexing.{cut, emitted, kind_of, first_token, ends_in_tel, lex}
+use Rattle.rv_syntax.specs.{declared.lexer.Shape.Shape, Lexing.cut, Lexing.emitted, Lexing.kind_of, Lexing.first_token, Lexing.ends_in_tel, Lexing.lex}
 
 -- the bytes that are read are passed
 pub lex-skip : (k : ℕ) (tel : Bool) (at : ℕ) (bs : List ℕ) → lex k tel at bs ≡ lex 0 tel (at + k) (drop k bs)

@@ -1,27 +1,18 @@
 -- A piece of a text is the longest front that is one, and a text is made up of such pieces.
 use Rattle.std.proofs.Common.{◌≡◌, ℕ, zero, suc, ◌+◌, ◌-◌, ◌<◌, ◌≤◌, Bool, true, false, cond, ◌||◌, List, [], ◌∷◌, ◌++◌, length, take, drop, refl, sym, ap, ◌∙◌}
 use Rattle.std.proofs.Common.{subst, inl, inr, arith, one-add}
-use Rattle.std.specs.Prelude.{Option, Some, None, ◌==◌}
-use Rattle.std.specs.List.{prefix_len}
-use Rattle.std.specs.Int.{is_in_range}
-use Rattle.std.specs.Char.{is_ascii_digit}
-use Rattle.std.proofs.Math.Seq.{take-length, take-append_seam, drop-append_seam}
-use Rattle.std.proofs.lemmas.Bool.{cases_Bool, cases_lt, and_from, and_left, and_right, eq-eqb, ne_eqb}
+use Rattle.std.proofs.lemmas.Bool.{cases_Bool, cases_lt, and_from, and_left, and_right, eq-eqb, ne_eqb, cond-true, cond-false}
 use Rattle.std.proofs.lemmas.List.{length-append, length-drop, length-take-le, take-append-drop}
-use Rattle.std.proofs.lemmas.List.Sums.{prefix_len-le-length}
-use Rattle.rv_syntax.specs.declared.token.Token.{Token}
-use Rattle.rv_syntax.specs.declared.lexer.Shape.{Shape}
-use Rattle.rv_syntax.specs.declared.lexer.Shape.TheVariants as shape
-use Rattle.rv_syntax.specs.declared.lexer.Comment.{Comment}
-use Rattle.rv_syntax.specs.declared.lexer.Comment.TheVariants as comment
+use Rattle.std.proofs.{Math.Seq.take-length, Math.Seq.take-append_seam, Math.Seq.drop-append_seam, lemmas.List.Sums.prefix_len-le-length}
+use Rattle.std.specs.{Prelude.Option, Prelude.Some, Prelude.None, Prelude.◌==◌, List.prefix_len, Int.is_in_range, Char.is_ascii_digit}
 use Rattle.rv_syntax.specs.Lexing.{is_space, is_letter, is_word_byte, is_in_line, word_len, number_len, line_len, word, pair, or_single, opens, close_len}
 use Rattle.rv_syntax.specs.Lexing.{closed_or, two_more, comment_or, other, cut, kind_of, emitted, ends_in_tel, lex, tokens}
 use Rattle.rv_syntax.specs.Longest.{every, if_none, if_every, closed_at, comment_of, comment_or_pair, pair_of, other_of, one_piece, IsLongest, flat, AreLongest}
 use Rattle.rv_syntax.specs.Longest.{or_bad, shape_of, tokens_of, AreTokens}
-use Rattle.rv_syntax.proofs.Closing.{close-fits, close-take}
-use Rattle.rv_syntax.proofs.Lexed.{lex-from, lex-past}
-use Rattle.std.proofs.lemmas.Bool.{cond-true}
-use Rattle.std.proofs.lemmas.Bool.{cond-false}
+use Rattle.rv_syntax.specs.{declared.token.Token.Token, declared.lexer.Shape.Shape, declared.lexer.Comment.Comment}
+use Rattle.rv_syntax.specs.declared.lexer.Shape.TheVariants as shape
+use Rattle.rv_syntax.specs.declared.lexer.Comment.TheVariants as comment
+use Rattle.rv_syntax.proofs.{Closing.close-fits, Closing.close-take, Lexed.lex-from, Lexed.lex-past}
 
 len-more : (p : ℕ → Bool) (b : ℕ) (bs : List ℕ) → p b ≡ true → prefix_len p (b ∷ bs) ≡ suc (prefix_len p bs)
 len-more p b bs e = ap (λ c. cond c (1 + prefix_len p bs) 0) e ∙ one-add (prefix_len p bs)

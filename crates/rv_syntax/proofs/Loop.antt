@@ -1,32 +1,18 @@
 -- A loop over parts, a turn at a time.
 use Rattle.std.proofs.Common.{◌≡◌, ◌<◌, Bool, true, false, cond, List, [], ◌∷◌, ◌++◌, length, refl, sym, ap, ◌∙◌, append_assoc}
 use Rattle.std.proofs.lemmas.List.{append-nil}
-use Rattle.rv_tree.specs.declared.tree.Name.{Name}
-use Rattle.std.specs.Prelude.{Ok, Err, Option, Some, None, IsTrue, ◌↔◌}
-use Rattle.rv_syntax.specs.declared.token.Mark.{Mark}
-use Rattle.rv_syntax.specs.declared.token.Mark.TheVariants as mark
-use Rattle.rv_tree.specs.declared.tree.Decl.{Decl}
-use Rattle.rv_tree.specs.declared.tree.TypeDecl.{TypeDecl}
-use Rattle.rv_tree.specs.declared.tree.Equation.{Equation}
-use Rattle.rv_tree.specs.declared.tree.Assertion.{Assertion}
-use Rattle.rv_tree.specs.declared.tree.ConstDecl.{ConstDecl}
-use Rattle.rv_tree.specs.declared.tree.Node.{Node}
-use Rattle.rv_syntax.specs.declared.rules.Signature.{Signature}
 use Rattle.rv_tree.specs.Tree.{ConstantTree, NodeTree, ProgramTree, program_tree}
-use Rattle.rv_syntax.specs.declared.token.Token.{Token}
-use Rattle.rv_syntax.specs.declared.fault.Why.{Why}
-use Rattle.rv_syntax.specs.declared.fault.Stop.{Stop}
-use Rattle.rv_syntax.specs.declared.fault.Stop.TheVariants as stop
-use Rattle.rv_syntax.specs.Nesting.{Outside}
-use Rattle.rv_syntax.specs.Marks.{is_mark, is_name, has_mark}
-use Rattle.rv_syntax.specs.Rules.{Word}
+use Rattle.rv_tree.specs.{declared.tree.Name.Name, declared.tree.Decl.Decl, declared.tree.TypeDecl.TypeDecl, declared.tree.Equation.Equation}
+use Rattle.rv_tree.specs.{declared.tree.Assertion.Assertion, declared.tree.ConstDecl.ConstDecl, declared.tree.Node.Node, Groups.Group, Groups.flows_of}
+use Rattle.std.specs.Prelude.{Ok, Err, Option, Some, None, IsTrue, ◌↔◌}
 use Rattle.rv_syntax.specs.ProgramText.{IsName, IsType, IsConstant, all_flows, joined, IsLocal, IsVar, Item, Equates, Assumes, equations_of, assertions_of}
 use Rattle.rv_syntax.specs.ProgramText.{IsItem, node_of, Section, Types, Constants, OneNode, types_of, constants_of, nodes_of, program_of, IsSection}
-use Rattle.rv_tree.specs.Groups.{Group, flows_of}
 use Rattle.rv_syntax.specs.Parse.{Reading, Parse, bind, then, done, one, starts, choose, many, found}
-use Rattle.rv_syntax.specs.Reads.{Reads}
+use Rattle.rv_syntax.specs.{declared.token.Mark.Mark, declared.rules.Signature.Signature, declared.token.Token.Token, declared.fault.Why.Why}
+use Rattle.rv_syntax.specs.{declared.fault.Stop.Stop, Nesting.Outside, Marks.is_mark, Marks.is_name, Marks.has_mark, Rules.Word, Reads.Reads, Reading.mapped}
+use Rattle.rv_syntax.specs.declared.token.Mark.TheVariants as mark
+use Rattle.rv_syntax.specs.declared.fault.Stop.TheVariants as stop
 use Rattle.rv_syntax.specs.Reading as read
-use Rattle.rv_syntax.specs.Reading.{mapped}
 use Rattle.rv_syntax.proofs.Exactly.{Exact, left}
 use Rattle.rv_syntax.proofs.Exact.{Any, exact-found, starts-found, Found, shrinks, loop-more, loop-last, loop-none, loop-stops}
 use Rattle.rv_syntax.proofs.ExactRules.{IsOutside, NoName, NoLocal, NoMore, Exact-next-name, starts-word, Exact-type, type-first, name-starts, Exact-constant}

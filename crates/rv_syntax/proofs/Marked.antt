@@ -1,14 +1,11 @@
 -- A word or symbol is known by its number.
 use Rattle.std.proofs.Common.{◌≡◌, ℕ, true, false, [], ◌∷◌, get_or, refl, sym, ap, ◌∙◌}
-use Rattle.std.specs.Prelude.{nat_eq, Some, None, ⊤, cond, Bool}
 use Rattle.std.proofs.lemmas.Bool.{eqb-true, eq-eqb}
-use Rattle.rv_syntax.specs.declared.token.Mark.{Mark}
-use Rattle.rv_syntax.specs.declared.token.Mark.TheVariants as mark
-use Rattle.rv_syntax.specs.declared.token.Kind.{Kind}
-use Rattle.rv_syntax.specs.declared.token.Kind.TheVariants as kind
-use Rattle.rv_syntax.specs.declared.token.Token.{Token}
-use Rattle.rv_syntax.specs.Grammar.{fixed}
+use Rattle.std.specs.Prelude.{nat_eq, Some, None, ⊤, cond, Bool}
 use Rattle.rv_syntax.specs.Marks.{number_of, kind_is, is_mark, has_mark}
+use Rattle.rv_syntax.specs.{declared.token.Mark.Mark, declared.token.Kind.Kind, declared.token.Token.Token, Grammar.fixed}
+use Rattle.rv_syntax.specs.declared.token.Mark.TheVariants as mark
+use Rattle.rv_syntax.specs.declared.token.Kind.TheVariants as kind
 
 abbrev marked : ℕ → Mark
 marked n = get_or (

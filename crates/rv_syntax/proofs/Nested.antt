@@ -1,9 +1,8 @@
 -- The counter of nesting counts what the definition of nesting says.
 use Rattle.std.proofs.Common.{◌≡◌, ℕ, ◌+◌, ◌≤◌, List, [], ◌∷◌, ◌++◌, refl, sym, ap, subst, arith}
 use Rattle.std.specs.Prelude.{◌<◌}
-use Rattle.rv_syntax.specs.declared.token.Token.{Token}
 use Rattle.rv_syntax.specs.Nesting.{Weight, Operator, Opening, Closing, Parting, Plain, Parts, weight, past, past_weight, nesting, limit, IsShallow}
-use Rattle.rv_syntax.specs.Limited.{Counts, counts, count}
+use Rattle.rv_syntax.specs.{declared.token.Token.Token, Limited.Counts, Limited.counts, Limited.count}
 use Rattle.rv_syntax.proofs.Shallow.{IsWithin, IsTooDeep}
 
 abbrev savings : List ℕ → List ℕ

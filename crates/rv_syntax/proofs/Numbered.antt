@@ -1,23 +1,18 @@
 -- The sites of a node of a text are numbered.
 use Rattle.std.proofs.Common.{◌≡◌, ℕ, zero, suc, ◌+◌, ◌<◌, ◌≤◌, cond, ltb, List, [], ◌∷◌, ◌++◌, map, length, get_or, refl, sym, ap, ◌∙◌, subst, inl, inr, ◌⊎◌}
 use Rattle.std.proofs.Common.{arith}
-use Rattle.std.specs.Prelude.{Option, Some}
-use Rattle.std.specs.List.{Contains}
-use Rattle.std.proofs.lemmas.List.{length-map, map-append, get_or_default}
-use Rattle.std.proofs.lemmas.Bool.{cases_order}
-use Rattle.std.proofs.lemmas.Bool.Decides.{nat_tests}
+use Rattle.std.proofs.{lemmas.List.length-map, lemmas.List.map-append, lemmas.List.get_or_default, lemmas.Bool.cases_order, lemmas.Bool.Decides.nat_tests}
+use Rattle.std.specs.{Prelude.Option, Prelude.Some, List.Contains}
 use Rattle.rv_base.specs.Limits.{source_limit}
-use Rattle.rv_tree.specs.declared.tree.Op.{Op}
-use Rattle.rv_tree.specs.declared.tree.Op.TheVariants as op
 use Rattle.rv_tree.specs.Tree.{Tree, Node, Form, True, False, Number, Named, Not, Minus, Pre, Current, When, Binary, If, AtMostOne, Call, Trees, None, More}
 use Rattle.rv_tree.specs.Tree.{EquationTree, AssertionTree, NodeTree, ProgramTree}
-use Rattle.rv_tree.specs.Places.{flows}
 use Rattle.rv_tree.specs.Delays.{Delay, delays, delays_of_all, delays_in_equations, delays_in_assertions, node_delays, IsNumbered}
 use Rattle.rv_tree.specs.Sites.{compared, offsets, form_offsets, trees_offsets, equation_offsets, assertion_offsets, node_offsets, earlier, numbered_from}
 use Rattle.rv_tree.specs.Sites.{site_at, compared_site, sited, sited_node, sited_trees, sited_equation, sited_assertion, with_sites}
 use Rattle.rv_tree.specs.SitedParts.{SitedPart, part, comparison, parts, trees_parts, equation_parts, assertion_parts, node_parts}
-use Rattle.rv_syntax.specs.ProgramText.{IsTextOf}
-use Rattle.rv_syntax.specs.Lexing.{tokens}
+use Rattle.rv_tree.specs.{declared.tree.Op.Op, Places.flows}
+use Rattle.rv_tree.specs.declared.tree.Op.TheVariants as op
+use Rattle.rv_syntax.specs.{ProgramText.IsTextOf, Lexing.tokens}
 use Rattle.rv_syntax.proofs.Spelled.{all_of, all_of-append, of_node, tells-program}
 use Rattle.rv_syntax.proofs.Bounds.{alone, each, tokens-alone, program-short, one-of, node-weighs}
 use Rattle.rv_base.proofs.Lists.{from_map}

@@ -2,14 +2,11 @@
 use Rattle.std.proofs.Common.{inl, inr, ◌≡◌, ◌≤◌, ℕ, true, false, List, [], ◌∷◌, ◌++◌, length, refl, sym, ap, ◌∙◌, subst, arith, append_assoc}
 use Rattle.std.proofs.lemmas.List.{append-nil}
 use Rattle.std.specs.Prelude.{◌<◌, ◌⊎◌}
-use Rattle.rv_syntax.specs.declared.token.Token.{Token}
-use Rattle.rv_syntax.specs.declared.fault.TextFault.{TextFault}
+use Rattle.rv_syntax.specs.Nesting.{Standing, Outside, behind, behind_all, depth, limit, IsShallowText}
+use Rattle.rv_syntax.specs.Faults.{BeginsProgram, IsDead, is_left_out, Offends, EndsEarly, IsFault}
+use Rattle.rv_syntax.specs.{declared.token.Token.Token, declared.fault.TextFault.TextFault, Lexing.tokens, ProgramText.IsProgram, ProgramText.IsTextOf}
 use Rattle.rv_syntax.specs.declared.fault.TextFault.TheVariants as fault
 use Rattle.rv_tree.specs.Tree.{ProgramTree}
-use Rattle.rv_syntax.specs.Lexing.{tokens}
-use Rattle.rv_syntax.specs.Nesting.{Standing, Outside, behind, behind_all, depth, limit, IsShallowText}
-use Rattle.rv_syntax.specs.ProgramText.{IsProgram, IsTextOf}
-use Rattle.rv_syntax.specs.Faults.{BeginsProgram, IsDead, is_left_out, Offends, EndsEarly, IsFault}
 
 -- ---- Cuts.
 abbrev tail : List Token → List Token

@@ -1,17 +1,12 @@
 -- The constants of a text stand in the order of their offsets: tokens do, and each constant has that of its name's token.
 use Rattle.std.proofs.Common.{◌≡◌, ℕ, zero, suc, ◌+◌, ◌-◌, ◌<◌, ◌≤◌, Bool, false, List, [], ◌∷◌, ◌++◌, length, take, get_or, refl, sym, ap, ◌∙◌, subst, inl}
 use Rattle.std.proofs.Common.{inr, arith}
-use Rattle.std.specs.Prelude.{Option, Some, None}
-use Rattle.std.specs.List.{All}
+use Rattle.std.specs.{Prelude.Option, Prelude.Some, Prelude.None, List.All}
 use Rattle.rv_syntax.specs.declared.token.Mark.TheVariants as mark
-use Rattle.rv_syntax.specs.declared.token.Kind.{Kind}
-use Rattle.rv_syntax.specs.declared.token.Token.{Token}
-use Rattle.rv_tree.specs.Tree.{ConstantTree, ProgramTree}
-use Rattle.rv_syntax.specs.TextTrees.{IsTreeOfText}
-use Rattle.rv_syntax.specs.Grammar.{fixed, name_token}
 use Rattle.rv_syntax.specs.Lexing.{cut, kind_of, emitted, ends_in_tel, lex, tokens}
-use Rattle.rv_syntax.specs.Rules.{Each}
 use Rattle.rv_syntax.specs.ProgramText.{IsConstant, IsConstants, Section, Types, Constants, OneNode, IsSection, constants_of, IsProgram}
+use Rattle.rv_syntax.specs.{declared.token.Kind.Kind, declared.token.Token.Token, TextTrees.IsTreeOfText, Grammar.fixed, Grammar.name_token, Rules.Each}
+use Rattle.rv_tree.specs.Tree.{ConstantTree, ProgramTree}
 
 -- ---- What stands at rising offsets, from one on and before another.
 abbrev Rising : {A : Type 0} → (A → ℕ) → ℕ → List A → ℕ → Type 0

@@ -1,27 +1,21 @@
 -- Each token that is left out is one at which no program goes on: in a program a name and then no `(` follow each
 -- `when`, behind the word `node`, a name and `(` there is no `)`, and up to the next `var` or `let` no `when`.
 use Rattle.std.proofs.Common.{inl, inr, ◌≡◌, ℕ, Bool, true, false, List, [], ◌∷◌, ◌++◌, refl, sym, ap, ◌∙◌, subst, append_assoc}
-use Rattle.std.specs.Prelude.{◌⊎◌, ◌&&◌, ◌||◌, Some}
-use Rattle.std.specs.Prelude.{None as Nothing}
-use Rattle.rv_syntax.specs.declared.token.Mark.{Mark}
-use Rattle.rv_syntax.specs.declared.token.Mark.TheVariants as mark
-use Rattle.rv_syntax.specs.declared.token.Kind.{Kind}
-use Rattle.rv_syntax.specs.declared.token.Kind.TheVariants as kind
-use Rattle.rv_syntax.specs.declared.token.Token.{Token}
-use Rattle.rv_tree.specs.declared.tree.Op.{Op}
-use Rattle.rv_tree.specs.declared.tree.Op.TheVariants as op
-use Rattle.rv_syntax.specs.declared.operator.Prefix.{Prefix}
-use Rattle.rv_syntax.specs.declared.operator.Prefix.TheVariants as prefixed
-use Rattle.rv_tree.specs.declared.tree.Decl.{Decl}
+use Rattle.std.specs.Prelude.{◌⊎◌, ◌&&◌, ◌||◌, Some, None as Nothing}
 use Rattle.rv_syntax.specs.Grammar.{Leaf, Yes, No, Count, Called, Callee, Function, Hash, Written, Atom, InBrackets, Before, Between, Gated, If, Given, Front}
 use Rattle.rv_syntax.specs.Grammar.{NoneBefore, Then, fixed, name_token, leaf_token, callee_token, prefix_mark, op_mark, spelling, front_spelling}
-use Rattle.rv_syntax.specs.Nesting.{IsExprOf}
 use Rattle.rv_syntax.specs.Rules.{Gives, Word, Only, Marked, Maybe, Part, OneOf, Each}
 use Rattle.rv_syntax.specs.ProgramText.{IsName, IsNames, IsKind, IsEnumeration, IsTypeBody, IsType, IsTypes, IsRight, IsConstant, IsConstants, IsGroup, IsDecls}
 use Rattle.rv_syntax.specs.ProgramText.{IsClock, IsLocal, IsVar, IsLefts, IsItem, IsInputs, IsOutputs, IsBody, IsNode, IsSection, IsProgram}
-use Rattle.rv_syntax.specs.Faults as fault
 use Rattle.rv_syntax.specs.Faults.{IsDead, kind_is, is_name, is_when, is_open, is_close, is_not, is_node, headed, still_headed, nothing_before, one_later}
 use Rattle.rv_syntax.specs.Faults.{looked_back, kind_left_out, negates_clock, calls_clock, has_no_inputs, clocks_port, is_left_out}
+use Rattle.rv_syntax.specs.{declared.token.Mark.Mark, declared.token.Kind.Kind, declared.token.Token.Token, declared.operator.Prefix.Prefix, Nesting.IsExprOf}
+use Rattle.rv_syntax.specs.declared.token.Mark.TheVariants as mark
+use Rattle.rv_syntax.specs.declared.token.Kind.TheVariants as kind
+use Rattle.rv_tree.specs.{declared.tree.Op.Op, declared.tree.Decl.Decl}
+use Rattle.rv_tree.specs.declared.tree.Op.TheVariants as op
+use Rattle.rv_syntax.specs.declared.operator.Prefix.TheVariants as prefixed
+use Rattle.rv_syntax.specs.Faults as fault
 use Rattle.rv_base.proofs.Truths.{clash}
 
 -- ---- What follows a `when` and the word `node`.

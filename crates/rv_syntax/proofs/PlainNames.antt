@@ -1,23 +1,14 @@
 -- The names in the tree of a text are words: each is that of a token.
 use Rattle.std.proofs.Common.{◌≡◌, true, false, List, [], ◌∷◌, map, sym, subst, ℕ}
-use Rattle.std.specs.Prelude.{⊤}
-use Rattle.std.specs.Prelude.{None as Nothing}
-use Rattle.rv_tree.specs.declared.tree.Decl.{Decl}
-use Rattle.rv_tree.specs.declared.tree.Name.{Name}
-use Rattle.rv_tree.specs.declared.tree.TypeBody.{TypeBody}
-use Rattle.rv_tree.specs.declared.tree.TypeBody.TheVariants.{Alias, Labels}
-use Rattle.rv_tree.specs.declared.tree.TypeDecl.{TypeDecl}
-use Rattle.rv_tree.specs.declared.tree.TypeName.{TypeName}
-use Rattle.rv_tree.specs.Groups.{Group, flow, flows_of}
-use Rattle.rv_tree.specs.Sites.{with_sites}
-use Rattle.rv_tree.specs.Tree.{NodeTree, ProgramTree}
-use Rattle.rv_tree.specs.Words.{is_name, HasPlainNames}
+use Rattle.std.specs.Prelude.{⊤, None as Nothing}
+use Rattle.rv_tree.specs.{declared.tree.Decl.Decl, declared.tree.Name.Name, declared.tree.TypeBody.TypeBody, declared.tree.TypeBody.TheVariants.Alias}
+use Rattle.rv_tree.specs.{declared.tree.TypeBody.TheVariants.Labels, declared.tree.TypeDecl.TypeDecl, declared.tree.TypeName.TypeName, Groups.Group}
+use Rattle.rv_tree.specs.{Groups.flow, Groups.flows_of, Sites.with_sites, Tree.NodeTree, Tree.ProgramTree, Words.is_name, Words.HasPlainNames}
 use Rattle.rv_syntax.specs.declared.token.Mark.TheVariants as mark
-use Rattle.rv_syntax.specs.Lexing.{tokens}
 use Rattle.rv_syntax.specs.ProgramText.{IsBody, IsConstants, IsDecls, IsEnumeration, IsGroup, IsInputs, IsKind, IsName, IsNames, IsNode, IsOutputs, IsProgram}
 use Rattle.rv_syntax.specs.ProgramText.{IsSection, IsTextOf, IsTitle, IsType, IsTypeBody, IsTypes, IsVar, Section, Types, Constants, OneNode, all_flows}
 use Rattle.rv_syntax.specs.ProgramText.{node_of, nodes_of, program_of, type_of, types_of}
-use Rattle.rv_syntax.specs.Rules.{Each, Gives, Maybe, OneOf, Only, Part, Word}
+use Rattle.rv_syntax.specs.{Lexing.tokens, Rules.Each, Rules.Gives, Rules.Maybe, Rules.OneOf, Rules.Only, Rules.Part, Rules.Word}
 use Rattle.rv_syntax.proofs.FineTokens.{AreFine, Keeps, Every, any, gives, after-word, parts, one-of, each, lex-fine, joined-every, every-of}
 use Rattle.rv_base.proofs.Lists.{from_map}
 

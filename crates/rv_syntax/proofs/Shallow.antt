@@ -1,14 +1,12 @@
 -- The limited machine is the free one, up to the first token that is nested too deep.
 use Rattle.std.proofs.Common.{inl, inr, ◌≡◌, ◌≤◌, Bool, true, false, cond, List, [], ◌∷◌, ◌++◌, length, refl, sym, ap, ◌∙◌, subst, arith, length-append}
-use Rattle.std.specs.Prelude.{◌⊎◌, nat_le, Ok, Err, ◌<◌}
 use Rattle.std.proofs.lemmas.Bool.{leb-true, leb-false}
-use Rattle.rv_syntax.specs.declared.token.Token.{Token}
-use Rattle.rv_syntax.specs.declared.fault.Why.TheVariants.{Offends, TooDeep}
-use Rattle.rv_tree.specs.Tree.{Tree}
-use Rattle.rv_syntax.specs.Nesting.{weight, limit}
+use Rattle.std.specs.Prelude.{◌⊎◌, nat_le, Ok, Err, ◌<◌}
 use Rattle.rv_syntax.specs.Machine.{State, Move, To, Ends, Fails, step, finish, Reading, run}
+use Rattle.rv_syntax.specs.{declared.token.Token.Token, declared.fault.Why.TheVariants.Offends, declared.fault.Why.TheVariants.TooDeep, Nesting.weight}
+use Rattle.rv_syntax.specs.{Nesting.limit, Limited.Counts, Limited.count, Limited.Limited, Limited.at_end, Limited.going, Limited.limited}
+use Rattle.rv_tree.specs.Tree.{Tree}
 use Rattle.rv_syntax.specs.Machine as free
-use Rattle.rv_syntax.specs.Limited.{Counts, count, Limited, at_end, going, limited}
 use Rattle.rv_syntax.proofs.OneFault.{head-same}
 
 -- The nesting is within the limit at each of the tokens.

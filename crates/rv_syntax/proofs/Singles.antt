@@ -1,17 +1,13 @@
 -- What takes one token within an expression reads it as a rule does.
 use Rattle.std.proofs.Common.{◌≡◌, ℕ, true, false, cond, List, [], ◌∷◌, length, refl, sym, ap, ◌∙◌}
 use Rattle.std.specs.Prelude.{Some, None, Result, Ok, Err, ⊤}
-use Rattle.rv_syntax.specs.declared.token.Mark.{Mark}
-use Rattle.rv_syntax.specs.declared.token.Kind.{Kind}
-use Rattle.rv_syntax.specs.declared.token.Kind.TheVariants as kind
-use Rattle.rv_syntax.specs.declared.token.Token.{Token}
-use Rattle.rv_tree.specs.declared.tree.Name.{Name}
-use Rattle.rv_syntax.specs.declared.fault.Stop.{Stop}
-use Rattle.rv_syntax.specs.declared.fault.Stop.TheVariants as stop
-use Rattle.rv_syntax.specs.declared.fault.Why.TheVariants.{Offends}
 use Rattle.rv_syntax.specs.Marks.{is_mark, is_name, has_mark, kind_named, kind_name, name_of}
-use Rattle.rv_syntax.specs.Parse.{one_of, one, starts}
 use Rattle.rv_syntax.specs.Reads.{Ahead, tail, same, Reads, TakesName, Passes}
+use Rattle.rv_syntax.specs.{declared.token.Mark.Mark, declared.token.Kind.Kind, declared.token.Token.Token, declared.fault.Stop.Stop}
+use Rattle.rv_syntax.specs.{declared.fault.Why.TheVariants.Offends, Parse.one_of, Parse.one, Parse.starts}
+use Rattle.rv_syntax.specs.declared.token.Kind.TheVariants as kind
+use Rattle.rv_tree.specs.declared.tree.Name.{Name}
+use Rattle.rv_syntax.specs.declared.fault.Stop.TheVariants as stop
 
 none-named : (k : Kind) (at : ℕ) (ts : List Token) → kind_named k ≡ false
     → one_of (kind_name k at) (record { kind = k; at = at }) ts ≡ Err (Offends, record { kind = k; at = at } ∷ ts)

@@ -1,25 +1,22 @@
 -- The literals in the tree of a text are those of its tokens: each is at most 2^40 + 1.
 use Rattle.std.proofs.Common.{◌≡◌, ℕ, ◌≤◌, true, false, nat_le, List, [], ◌∷◌, ◌++◌, map, sym, subst, arith}
-use Rattle.std.specs.Prelude.{⊤}
-use Rattle.std.specs.List.{Contains}
 use Rattle.std.proofs.lemmas.Bool.Decides.{nat_tests}
+use Rattle.std.specs.{Prelude.⊤, List.Contains}
 use Rattle.rv_base.specs.Limits.{too_heavy}
 use Rattle.rv_tree.specs.Sites.{sited, sited_node, sited_trees, sited_equation, sited_assertion, site_at, with_sites}
 use Rattle.rv_tree.specs.Tree.{Tree, Node, Form, Trees, trees, EquationTree, AssertionTree, ConstantTree, NodeTree, ProgramTree}
 use Rattle.rv_tree.specs.Tree as tree
-use Rattle.rv_syntax.specs.declared.operator.Prefix.{Prefix}
-use Rattle.rv_syntax.specs.declared.operator.Prefix.TheVariants as prefixed
-use Rattle.rv_syntax.specs.declared.token.Mark.TheVariants as mark
 use Rattle.rv_syntax.specs.Grammar.{Leaf, Yes, No, Count, Called, Callee, Function, Hash, Written, Atom, InBrackets, Before, Between, Gated, If, Given, Front}
 use Rattle.rv_syntax.specs.Grammar.{NoneBefore, Then, fixed, leaf_token, op_mark, name_token, spelling, front_spelling, syntax_of, front_trees, Just, Applied}
 use Rattle.rv_syntax.specs.Grammar.{Invoked}
-use Rattle.rv_syntax.specs.Lexing.{tokens}
 use Rattle.rv_syntax.specs.Literals.{IsSmall, IsSmallForm, AreSmall, HasSmallLiterals}
-use Rattle.rv_syntax.specs.Nesting.{IsExprOf}
 use Rattle.rv_syntax.specs.ProgramText.{IsBody, IsConstant, IsConstants, IsInputs, IsItem, IsKind, IsLefts, IsName, IsNode, IsOutputs, IsProgram, IsRight}
 use Rattle.rv_syntax.specs.ProgramText.{IsSection, IsTextOf, IsTitle, IsTypes, IsVar, Item, Equates, Assumes, Section, Types, Constants, OneNode, equation_of}
 use Rattle.rv_syntax.specs.ProgramText.{equations_of, assertion_of, assertions_of, constant_of, constants_of, node_of, nodes_of, program_of}
 use Rattle.rv_syntax.specs.Rules.{Each, Gives, Marked, Maybe, OneOf, Only, Part, Word}
+use Rattle.rv_syntax.specs.{declared.operator.Prefix.Prefix, Lexing.tokens, Nesting.IsExprOf}
+use Rattle.rv_syntax.specs.declared.operator.Prefix.TheVariants as prefixed
+use Rattle.rv_syntax.specs.declared.token.Mark.TheVariants as mark
 use Rattle.rv_syntax.proofs.FineTokens.{AreFine, fine-left, fine-right, Keeps, Every, any, gives, after-word, parts, one-of, each, lex-fine, joined-every}
 use Rattle.rv_syntax.proofs.FineTokens.{every-of}
 use Rattle.rv_base.proofs.Lists.{from_map}

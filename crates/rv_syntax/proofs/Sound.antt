@@ -1,33 +1,25 @@
 -- What the limited machine reads is derived by the grammar, and what was read before it stops begins an
 -- expression, whatever its nesting.
 use Rattle.std.proofs.Common.{◌≡◌, ℕ, ◌≤◌, Bool, true, false, cond, List, [], ◌∷◌, ◌++◌, length, refl, sym, ap, ◌∙◌, subst, arith, append_assoc, length-append}
+use Rattle.std.proofs.{lemmas.Bool.leb-true, lemmas.Bool.and_parts, lemmas.Bool.eqb-true, lemmas.Bool.not-true, lemmas.List.append-nil}
 use Rattle.std.specs.Prelude.{Ok, Err, nat_le}
-use Rattle.std.proofs.lemmas.Bool.{leb-true, and_parts, eqb-true, not-true}
-use Rattle.std.proofs.lemmas.List.{append-nil}
-use Rattle.rv_syntax.specs.declared.token.Mark.{Mark}
-use Rattle.rv_syntax.specs.declared.token.Mark.TheVariants as mark
-use Rattle.rv_syntax.specs.declared.token.Kind.{Kind}
-use Rattle.rv_syntax.specs.declared.token.Kind.TheVariants as kind
-use Rattle.rv_syntax.specs.declared.token.Token.{Token}
-use Rattle.rv_tree.specs.declared.tree.Op.{Op}
-use Rattle.rv_tree.specs.declared.tree.Op.TheVariants as op
-use Rattle.rv_syntax.specs.declared.operator.Prefix.{Prefix}
-use Rattle.rv_syntax.specs.declared.parser.Start.{Start}
-use Rattle.rv_syntax.specs.declared.parser.Start.TheVariants as start
-use Rattle.rv_syntax.specs.declared.parser.Next.{Next}
-use Rattle.rv_syntax.specs.declared.parser.Next.TheVariants as next
-use Rattle.rv_syntax.specs.declared.fault.Why.TheVariants.{Offends, TooDeep}
 use Rattle.rv_syntax.specs.Grammar.{Leaf, Yes, No, Count, Called, Callee, Hash, Written, Atom, InBrackets, Before, Between, Gated, If, Given, Front, NoneBefore}
 use Rattle.rv_syntax.specs.Grammar.{Then, fixed, leaf_token, callee_token, prefix_mark, op_mark, spelling, front_spelling, syntax_of, front_trees, level_of}
 use Rattle.rv_syntax.specs.Grammar.{left_level, right_level, leaf_level, level, is_open, IsGrammatical, AreGrammatical}
-use Rattle.rv_syntax.specs.Nesting.{weight, limit}
-use Rattle.rv_syntax.specs.Marks.{kind_name}
 use Rattle.rv_syntax.specs.Machine.{start_of, next_of, Frame, Brackets, Under, After, Asked, Answered, Else, Within, need, leaf_held, State, Want, Have, Clock}
 use Rattle.rv_syntax.specs.Machine.{Hashed, Move, To, Ends, Fails, callee_of, accepts, taken, closed, answered, otherwise, argued, settle, begin, clocked}
 use Rattle.rv_syntax.specs.Machine.{opened, step, finish}
 use Rattle.rv_syntax.specs.Limited.{Counts, count, Limited, at_end, going, limited}
-use Rattle.rv_syntax.proofs.Complete.{operand, below-eight}
-use Rattle.rv_syntax.proofs.Exactly.{left, with_left}
+use Rattle.rv_syntax.specs.{declared.token.Mark.Mark, declared.token.Kind.Kind, declared.token.Token.Token, declared.operator.Prefix.Prefix}
+use Rattle.rv_syntax.specs.{declared.parser.Start.Start, declared.parser.Next.Next, declared.fault.Why.TheVariants.Offends}
+use Rattle.rv_syntax.specs.{declared.fault.Why.TheVariants.TooDeep, Nesting.weight, Nesting.limit, Marks.kind_name}
+use Rattle.rv_syntax.specs.declared.token.Mark.TheVariants as mark
+use Rattle.rv_syntax.specs.declared.token.Kind.TheVariants as kind
+use Rattle.rv_tree.specs.declared.tree.Op.{Op}
+use Rattle.rv_tree.specs.declared.tree.Op.TheVariants as op
+use Rattle.rv_syntax.specs.declared.parser.Start.TheVariants as start
+use Rattle.rv_syntax.specs.declared.parser.Next.TheVariants as next
+use Rattle.rv_syntax.proofs.{Complete.operand, Complete.below-eight, Exactly.left, Exactly.with_left}
 
 -- a frame, with what is written in it
 pub data Item : Type 0 where

@@ -2,28 +2,22 @@
 -- offset weighs, those of a program weigh no more than those of its tokens.
 use Rattle.std.proofs.Common.{◌≡◌, ℕ, ◌+◌, ◌≤◌, List, [], ◌∷◌, ◌++◌, map, refl, ap, inl, inr, arith}
 use Rattle.std.specs.Prelude.{Option, Some, None}
-use Rattle.rv_syntax.specs.declared.token.Mark.{Mark}
-use Rattle.rv_syntax.specs.declared.token.Mark.TheVariants as mark
-use Rattle.rv_syntax.specs.declared.token.Token.{Token}
-use Rattle.rv_tree.specs.declared.tree.Name.{Name}
-use Rattle.rv_tree.specs.declared.tree.Decl.{Decl}
-use Rattle.rv_tree.specs.declared.tree.Op.{Op}
-use Rattle.rv_tree.specs.declared.tree.Op.TheVariants as op
-use Rattle.rv_syntax.specs.declared.operator.Prefix.TheVariants as prefixed
-use Rattle.rv_tree.specs.declared.tree.TypeBody.{TypeBody}
-use Rattle.rv_tree.specs.declared.tree.TypeBody.TheVariants as type_body
-use Rattle.rv_tree.specs.declared.tree.TypeDecl.{TypeDecl}
-use Rattle.rv_tree.specs.Tree.{Tree, trees, EquationTree, AssertionTree, ConstantTree, NodeTree, ProgramTree}
-use Rattle.rv_tree.specs.Sites.{compared, offsets, trees_offsets, equation_offsets, assertion_offsets}
 use Rattle.rv_syntax.specs.Grammar.{Leaf, Yes, No, Count, Called, Callee, Function, Hash, Written, Atom, InBrackets, Before, Between, Gated, If, Given, Front}
 use Rattle.rv_syntax.specs.Grammar.{NoneBefore, Then, fixed, spelling, front_spelling, Invoked, syntax_of, front_trees, callee_token, name_token, op_mark}
-use Rattle.rv_syntax.specs.Nesting.{IsExprOf}
 use Rattle.rv_syntax.specs.Rules.{Gives, Word, Only, Marked, Maybe, Part, OneOf, Each}
 use Rattle.rv_syntax.specs.ProgramText.{IsName, IsNames, IsKind, IsEnumeration, IsTypeBody, type_of, IsType, IsTypes, IsRight, constant_of, IsConstant}
 use Rattle.rv_syntax.specs.ProgramText.{IsConstants, IsGroup, all_flows, IsDecls, IsClock, IsLocal, joined, IsVar, IsLefts, Item, Equates, Assumes, equation_of}
 use Rattle.rv_syntax.specs.ProgramText.{assertion_of, IsItem, equations_of, assertions_of, IsTitle, IsInputs, IsOutputs, IsBody, node_of, IsNode, Section}
 use Rattle.rv_syntax.specs.ProgramText.{Types, Constants, OneNode, IsSection, types_of, constants_of, program_of, IsProgram}
-use Rattle.rv_tree.specs.Groups.{flow, Group, flows_of}
+use Rattle.rv_syntax.specs.{declared.token.Mark.Mark, declared.token.Token.Token, Nesting.IsExprOf}
+use Rattle.rv_syntax.specs.declared.token.Mark.TheVariants as mark
+use Rattle.rv_tree.specs.Tree.{Tree, trees, EquationTree, AssertionTree, ConstantTree, NodeTree, ProgramTree}
+use Rattle.rv_tree.specs.Sites.{compared, offsets, trees_offsets, equation_offsets, assertion_offsets}
+use Rattle.rv_tree.specs.{declared.tree.Name.Name, declared.tree.Decl.Decl, declared.tree.Op.Op, declared.tree.TypeBody.TypeBody}
+use Rattle.rv_tree.specs.{declared.tree.TypeDecl.TypeDecl, Groups.flow, Groups.Group, Groups.flows_of}
+use Rattle.rv_tree.specs.declared.tree.Op.TheVariants as op
+use Rattle.rv_syntax.specs.declared.operator.Prefix.TheVariants as prefixed
+use Rattle.rv_tree.specs.declared.tree.TypeBody.TheVariants as type_body
 
 -- what all of them weigh
 abbrev pub all_of : {A : Type 0} → (A → ℕ) → List A → ℕ

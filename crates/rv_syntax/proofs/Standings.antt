@@ -2,14 +2,13 @@
 use Rattle.std.proofs.Common.{◌≡◌, ◌≤◌, ℕ, List, [], ◌∷◌, ◌++◌, refl, sym, ap, ◌∙◌, subst}
 use Rattle.std.specs.Prelude.{◌<◌}
 use Rattle.rv_syntax.specs.declared.token.Mark.TheVariants as mark
-use Rattle.rv_syntax.specs.declared.token.Token.{Token}
-use Rattle.rv_tree.specs.declared.tree.Op.{Op}
-use Rattle.rv_tree.specs.declared.tree.Op.TheVariants as op
-use Rattle.rv_syntax.specs.declared.operator.Prefix.{Prefix}
-use Rattle.rv_syntax.specs.declared.operator.Prefix.TheVariants as prefixed
 use Rattle.rv_syntax.specs.Grammar.{Leaf, Yes, No, Count, Called, Callee, Function, Hash, Written, Atom, InBrackets, Before, Between, Gated, If, Given, Front}
 use Rattle.rv_syntax.specs.Grammar.{NoneBefore, Then, fixed, leaf_token, callee_token, prefix_mark, op_mark, spelling, front_spelling}
 use Rattle.rv_syntax.specs.Nesting.{Parts, past, limit, nesting, IsShallow, Inside, behind, behind_all, depth, IsShallowText}
+use Rattle.rv_syntax.specs.{declared.token.Token.Token, declared.operator.Prefix.Prefix}
+use Rattle.rv_tree.specs.declared.tree.Op.{Op}
+use Rattle.rv_tree.specs.declared.tree.Op.TheVariants as op
+use Rattle.rv_syntax.specs.declared.operator.Prefix.TheVariants as prefixed
 use Rattle.rv_syntax.proofs.Nested.{past_all}
 
 -- the token ends no expression

@@ -1,25 +1,8 @@
 -- The steps of the limited machine, as the parser's methods take them.
 use Rattle.std.proofs.Common.{◌≡◌, ℕ, ◌+◌, ◌<◌, ◌≤◌, Bool, true, false, cond, List, [], ◌∷◌, ◌++◌, length, refl, sym, ap, ◌∙◌, subst, arith}
-use Rattle.std.specs.Prelude.{Some, None, Result, Ok, Err, IfOk, IfErr, nat_le}
 use Rattle.std.proofs.lemmas.Bool.{le-leb, lt-leb, and_parts}
-use Rattle.rv_syntax.specs.declared.token.Mark.{Mark}
-use Rattle.rv_syntax.specs.declared.token.Mark.TheVariants as mark
-use Rattle.rv_syntax.specs.declared.token.Kind.{Kind}
-use Rattle.rv_syntax.specs.declared.token.Kind.TheVariants as kind
-use Rattle.rv_syntax.specs.declared.token.Token.{Token}
-use Rattle.rv_tree.specs.declared.tree.Name.{Name}
-use Rattle.rv_tree.specs.declared.tree.Op.TheVariants as op
-use Rattle.rv_syntax.specs.declared.parser.Start.{Start}
-use Rattle.rv_syntax.specs.declared.parser.Start.TheVariants as start
-use Rattle.rv_syntax.specs.declared.parser.Next.{Next}
-use Rattle.rv_syntax.specs.declared.parser.Next.TheVariants as next
-use Rattle.rv_syntax.specs.declared.parser.Link.{Link}
-use Rattle.rv_syntax.specs.declared.parser.Link.TheVariants as link
-use Rattle.rv_syntax.specs.declared.parser.Operand.{Operand}
-use Rattle.rv_syntax.specs.declared.fault.Stop.{Stop}
-use Rattle.rv_syntax.specs.declared.fault.Stop.TheVariants as stop
+use Rattle.std.specs.Prelude.{Some, None, Result, Ok, Err, IfOk, IfErr, nat_le}
 use Rattle.rv_syntax.specs.declared.fault.Why.TheVariants.{Offends, TooDeep}
-use Rattle.rv_tree.specs.Tree.{Tree}
 use Rattle.rv_syntax.specs.Grammar.{Yes, Called, Callee, Function, Hash, fixed, name_token, Just, Sampled, Invoked}
 use Rattle.rv_syntax.specs.Nesting.{Weight, Operator, Opening, Plain, mark_weight, weight, limit}
 use Rattle.rv_syntax.specs.Marks.{is_mark, is_name, kind_is, kind_name}
@@ -27,12 +10,19 @@ use Rattle.rv_syntax.specs.Machine.{mark_start, start_of, mark_next, kind_next, 
 use Rattle.rv_syntax.specs.Machine.{Within, need_of, need, Held, held, whole, leaf_held, State, Want, Have, Clock, Hashed, To, Ends, Fails, accepts, taken}
 use Rattle.rv_syntax.specs.Machine.{wrapped, closed, answered, otherwise, argued, awaited, onward, settle, begin, clocked, opened, step, starting, following}
 use Rattle.rv_syntax.specs.Limited.{Counts, counts, count, at_end, going, limited, Limited, meets, left_to, leave}
-use Rattle.rv_syntax.specs.Parse.{starts}
 use Rattle.rv_syntax.specs.Reads.{Ahead, tail, Stops, Around, from, Wanting, Calling, argued_from, TakesLeaf, starts_call, link_next, linked, SeesLink, Enters}
-use Rattle.rv_syntax.specs.Reads.{TakesName, Passes, TakesMark, Part, Test, Yes, mark_behind, frame_of, next_frame, Choosing}
-use Rattle.rv_syntax.specs.Reads.{held_of, ReadsAs}
-use Rattle.rv_syntax.proofs.Marked.{token-mark}
-use Rattle.rv_syntax.proofs.Complete.{settle-taken}
+use Rattle.rv_syntax.specs.Reads.{TakesName, Passes, TakesMark, Part, Test, Yes, mark_behind, frame_of, next_frame, Choosing, held_of, ReadsAs}
+use Rattle.rv_syntax.specs.{declared.token.Mark.Mark, declared.token.Kind.Kind, declared.token.Token.Token, declared.parser.Start.Start}
+use Rattle.rv_syntax.specs.{declared.parser.Next.Next, declared.parser.Link.Link, declared.parser.Operand.Operand, declared.fault.Stop.Stop, Parse.starts}
+use Rattle.rv_syntax.specs.declared.token.Mark.TheVariants as mark
+use Rattle.rv_syntax.specs.declared.token.Kind.TheVariants as kind
+use Rattle.rv_tree.specs.{declared.tree.Name.Name, Tree.Tree}
+use Rattle.rv_tree.specs.declared.tree.Op.TheVariants as op
+use Rattle.rv_syntax.specs.declared.parser.Start.TheVariants as start
+use Rattle.rv_syntax.specs.declared.parser.Next.TheVariants as next
+use Rattle.rv_syntax.specs.declared.parser.Link.TheVariants as link
+use Rattle.rv_syntax.specs.declared.fault.Stop.TheVariants as stop
+use Rattle.rv_syntax.proofs.{Marked.token-mark, Complete.settle-taken}
 use Rattle.rv_base.proofs.Truths.{clash}
 
 -- What a token is says what it is to the nesting.

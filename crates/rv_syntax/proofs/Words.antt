@@ -1,16 +1,12 @@
 -- The bytes of a word.
 use Rattle.std.proofs.Common.{◌≡◌, ℕ, zero, suc, ◌+◌, ◌<◌, ◌≤◌, true, false, cond, ◌||◌, List, [], ◌∷◌, take, refl, sym, ap, ◌∙◌, subst, inl, inr, arith}
 use Rattle.std.proofs.Common.{one-add, lit<}
-use Rattle.std.specs.List.{prefix_len}
-use Rattle.std.specs.Str.{IsAscii}
-use Rattle.std.specs.Char.{is_ascii_alphanumeric, is_ascii_digit}
-use Rattle.std.specs.Int.{is_in_range}
-use Rattle.std.specs.Prelude.{◌==◌, nat_le, Result, Ok, Err, MatchResult, is_ok}
 use Rattle.std.proofs.lemmas.Bool.{cases_Bool, or_cases, and_parts, leb-true, eqb-true}
+use Rattle.std.proofs.lemmas.Str.Ascii.{IsAscii-nil as ascii-none, IsAscii-cons as ascii-more}
+use Rattle.std.specs.Prelude.{◌==◌, nat_le, Result, Ok, Err, MatchResult, is_ok}
+use Rattle.std.specs.{List.prefix_len, Str.IsAscii, Char.is_ascii_alphanumeric, Char.is_ascii_digit, Int.is_in_range}
 use Rattle.rv_syntax.specs.Lexing.{is_word_byte, AreDigits}
 use Rattle.rv_syntax.proofs.FineTokens.{word-more, word-none}
-use Rattle.std.proofs.lemmas.Str.Ascii.{IsAscii-nil as ascii-none}
-use Rattle.std.proofs.lemmas.Str.Ascii.{IsAscii-cons as ascii-more}
 
 in-range : (lo hi b : ℕ) → is_in_range lo hi b ≡ true → hi < 128 → b < 128
 in-range lo hi b h l =

@@ -1,8 +1,7 @@
 -- What the reading of a whole text is to answer.
 use Rattle.std.specs.Prelude.{◌≡◌, ℕ, List, Result, Ok, Err}
-use Rattle.rv_syntax.specs.declared.fault.TextFault.{TextFault}
+use Rattle.rv_syntax.specs.{declared.fault.TextFault.TextFault, Faults.IsFault}
 use Rattle.rv_syntax.specs.declared.fault.TextFault.TheVariants as fault
-use Rattle.rv_syntax.specs.Faults.{IsFault}
 
 -- the answer is this value, unless memory ran out
 abbrev pub Finds : {X A : Type 0} → (X → A) → A → Result X TextFault → Type 0

@@ -1,16 +1,11 @@
 -- The first offending token of a text, and its fault.
 use Rattle.std.specs.Prelude.{◌≡◌, ◌<◌, ◌⊎◌, ℕ, Bool, true, false, ◌&&◌, ◌||◌, List, [], ◌∷◌, ◌++◌, length}
-use Rattle.rv_syntax.specs.declared.token.Mark.{Mark}
+use Rattle.rv_syntax.specs.{declared.token.Mark.Mark, declared.token.Kind.Kind, declared.token.Token.Token, declared.fault.TextFault.TextFault, Lexing.tokens}
+use Rattle.rv_syntax.specs.{Nesting.Outside, Nesting.behind_all, Nesting.depth, Nesting.limit, Nesting.IsShallowText, ProgramText.IsProgram}
 use Rattle.rv_syntax.specs.declared.token.Mark.TheVariants as mark
-use Rattle.rv_syntax.specs.declared.token.Kind.{Kind}
 use Rattle.rv_syntax.specs.declared.token.Kind.TheVariants as kind
-use Rattle.rv_syntax.specs.declared.token.Token.{Token}
-use Rattle.rv_syntax.specs.declared.fault.TextFault.{TextFault}
 use Rattle.rv_syntax.specs.declared.fault.TextFault.TheVariants as fault
 use Rattle.rv_tree.specs.Tree.{ProgramTree}
-use Rattle.rv_syntax.specs.Lexing.{tokens}
-use Rattle.rv_syntax.specs.Nesting.{Outside, behind_all, depth, limit, IsShallowText}
-use Rattle.rv_syntax.specs.ProgramText.{IsProgram}
 
 -- The tokens of some program begin with these. (The limit on nesting does not matter here.)
 abbrev pub BeginsProgram : List Token → Type 0

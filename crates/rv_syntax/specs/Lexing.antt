@@ -2,18 +2,13 @@
 use Rattle.std.specs.Prelude.{◌≡◌, ℕ, zero, suc, ◌+◌, ◌-◌, ◌<◌, min, Bool, true, false, not, ◌&&◌, ◌||◌, cond, ◌==◌, List, [], ◌∷◌, ◌++◌, length, take}
 use Rattle.std.specs.Prelude.{slice_index, Option, Some, None, codes}
 use Rattle.std.specs.Char.{is_ascii_alphabetic, is_ascii_alphanumeric, is_ascii_digit}
-use Rattle.std.specs.List.{prefix_len}
-use Rattle.std.specs.Str.{bytes_eq, IsAscii}
-use Rattle.std.specs.Str.Parse.{digits_value}
+use Rattle.std.specs.{List.prefix_len, Str.bytes_eq, Str.IsAscii, Str.Parse.digits_value}
 use Rattle.rv_base.specs.Limits.{too_heavy}
-use Rattle.rv_syntax.specs.declared.token.Mark.{Mark}
+use Rattle.rv_syntax.specs.{declared.token.Mark.Mark, declared.token.Kind.Kind, declared.token.Token.Token, declared.lexer.Shape.Shape}
+use Rattle.rv_syntax.specs.{declared.lexer.Comment.Comment}
 use Rattle.rv_syntax.specs.declared.token.Mark.TheVariants as mark
-use Rattle.rv_syntax.specs.declared.token.Kind.{Kind}
 use Rattle.rv_syntax.specs.declared.token.Kind.TheVariants as kind
-use Rattle.rv_syntax.specs.declared.token.Token.{Token}
-use Rattle.rv_syntax.specs.declared.lexer.Shape.{Shape}
 use Rattle.rv_syntax.specs.declared.lexer.Shape.TheVariants as shape
-use Rattle.rv_syntax.specs.declared.lexer.Comment.{Comment}
 use Rattle.rv_syntax.specs.declared.lexer.Comment.TheVariants as comment
 
 -- white space: space, tab, line feed, form feed and carriage return

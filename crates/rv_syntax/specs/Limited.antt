@@ -1,11 +1,9 @@
 -- Reading an expression beside a counter of its nesting.
 use Rattle.std.specs.Prelude.{ℕ, ◌+◌, cond, nat_le, List, [], ◌∷◌, Option, Some, None, Result, Ok, Err}
-use Rattle.rv_syntax.specs.declared.token.Token.{Token}
-use Rattle.rv_syntax.specs.declared.fault.Why.{Why}
-use Rattle.rv_syntax.specs.declared.fault.Why.TheVariants.{Offends, TooDeep}
-use Rattle.rv_tree.specs.Tree.{Tree}
 use Rattle.rv_syntax.specs.Nesting.{Weight, Operator, Opening, Closing, Parting, Plain, weight, limit}
 use Rattle.rv_syntax.specs.Machine.{next_of, Frame, Held, State, Have, Move, To, Ends, Fails, wrapped, awaited, step, finish}
+use Rattle.rv_syntax.specs.{declared.token.Token.Token, declared.fault.Why.Why, declared.fault.Why.TheVariants.Offends, declared.fault.Why.TheVariants.TooDeep}
+use Rattle.rv_tree.specs.Tree.{Tree}
 
 -- the nesting now, and what it was before each open bracket
 pub record Counts : Type 0 where

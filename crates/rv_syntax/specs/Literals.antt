@@ -1,6 +1,5 @@
 -- The integer literals of the tree of a text. A literal above 2^40 is kept as 2^40 + 1.
-use Rattle.std.specs.Prelude.{⊤, ◌≤◌}
-use Rattle.std.specs.List.{Contains}
+use Rattle.std.specs.{Prelude.⊤, Prelude.◌≤◌, List.Contains}
 use Rattle.rv_base.specs.Limits.{too_heavy}
 use Rattle.rv_tree.specs.Tree.{Tree, Node, Form, True, False, Number, Named, Not, Minus, Pre, Current, When, Binary, If, AtMostOne, Call, Trees, None, More}
 use Rattle.rv_tree.specs.Tree.{EquationTree, AssertionTree, ConstantTree, NodeTree, ProgramTree}

@@ -1,12 +1,10 @@
 -- The pieces of a text: its white space, comments and tokens, each the longest at its place.
 use Rattle.std.specs.Prelude.{◌≡◌, ◌<◌, ◌≤◌, ℕ, ◌+◌, Bool, true, false, ◌&&◌, ◌==◌, cond, List, [], ◌∷◌, ◌++◌, take, length, Option, Some, None}
 use Rattle.std.specs.Char.{is_ascii_digit}
-use Rattle.rv_syntax.specs.declared.token.Token.{Token}
-use Rattle.rv_syntax.specs.declared.lexer.Shape.{Shape}
-use Rattle.rv_syntax.specs.declared.lexer.Shape.TheVariants as shape
-use Rattle.rv_syntax.specs.declared.lexer.Comment.{Comment}
-use Rattle.rv_syntax.specs.declared.lexer.Comment.TheVariants as comment
 use Rattle.rv_syntax.specs.Lexing.{is_space, is_letter, is_word_byte, is_in_line, word, single, pair, opens, close_len, kind_of, emitted, ends_in_tel}
+use Rattle.rv_syntax.specs.{declared.token.Token.Token, declared.lexer.Shape.Shape, declared.lexer.Comment.Comment}
+use Rattle.rv_syntax.specs.declared.lexer.Shape.TheVariants as shape
+use Rattle.rv_syntax.specs.declared.lexer.Comment.TheVariants as comment
 
 abbrev pub every : (ℕ → Bool) → List ℕ → Bool
 every test [] = true

@@ -1,24 +1,17 @@
 -- Reading an expression a token at a time, without a limit on nesting.
 use Rattle.std.specs.Prelude.{ℕ, Bool, true, false, not, ◌&&◌, cond, nat_le, ◌==◌, List, [], ◌∷◌, ◌++◌, Option, Some, None, Result, Ok, Err}
-use Rattle.rv_syntax.specs.declared.token.Mark.{Mark}
-use Rattle.rv_syntax.specs.declared.token.Mark.TheVariants as mark
-use Rattle.rv_syntax.specs.declared.token.Kind.{Kind}
-use Rattle.rv_syntax.specs.declared.token.Kind.TheVariants as kind
-use Rattle.rv_syntax.specs.declared.token.Token.{Token}
-use Rattle.rv_tree.specs.declared.tree.Name.{Name}
-use Rattle.rv_tree.specs.declared.tree.Op.{Op}
-use Rattle.rv_tree.specs.declared.tree.Op.TheVariants as op
-use Rattle.rv_syntax.specs.declared.operator.Prefix.{Prefix}
-use Rattle.rv_syntax.specs.declared.operator.Prefix.TheVariants as prefixed
-use Rattle.rv_syntax.specs.declared.parser.Start.{Start}
-use Rattle.rv_syntax.specs.declared.parser.Start.TheVariants as start
-use Rattle.rv_syntax.specs.declared.parser.Next.{Next}
-use Rattle.rv_syntax.specs.declared.parser.Next.TheVariants as next
-use Rattle.rv_tree.specs.Tree.{Tree, Node, Form}
-use Rattle.rv_tree.specs.Tree as tree
-use Rattle.rv_syntax.specs.Marks.{name_of}
 use Rattle.rv_syntax.specs.Grammar.{Leaf, Yes, No, Count, Called, Callee, Function, Hash, Just, Applied, Joined, Sampled, Chosen, Invoked, leaf_level, level_of}
 use Rattle.rv_syntax.specs.Grammar.{left_level, right_level}
+use Rattle.rv_syntax.specs.{declared.token.Mark.Mark, declared.token.Kind.Kind, declared.token.Token.Token, declared.operator.Prefix.Prefix}
+use Rattle.rv_syntax.specs.{declared.parser.Start.Start, declared.parser.Next.Next, Marks.name_of}
+use Rattle.rv_syntax.specs.declared.token.Mark.TheVariants as mark
+use Rattle.rv_syntax.specs.declared.token.Kind.TheVariants as kind
+use Rattle.rv_tree.specs.{declared.tree.Name.Name, declared.tree.Op.Op, Tree.Tree, Tree.Node, Tree.Form}
+use Rattle.rv_tree.specs.declared.tree.Op.TheVariants as op
+use Rattle.rv_syntax.specs.declared.operator.Prefix.TheVariants as prefixed
+use Rattle.rv_syntax.specs.declared.parser.Start.TheVariants as start
+use Rattle.rv_syntax.specs.declared.parser.Next.TheVariants as next
+use Rattle.rv_tree.specs.Tree as tree
 
 -- what a token is where an operand is wanted
 abbrev pub mark_start : Mark → ℕ → Start

@@ -1,10 +1,8 @@
 -- Words and symbols, told apart by number.
 use Rattle.std.specs.Prelude.{ℕ, Bool, true, false, cond, nat_eq, Option, Some, None, ⊤}
-use Rattle.rv_syntax.specs.declared.token.Mark.{Mark}
+use Rattle.rv_syntax.specs.{declared.token.Mark.Mark, declared.token.Kind.Kind, declared.token.Token.Token}
 use Rattle.rv_syntax.specs.declared.token.Mark.TheVariants as mark
-use Rattle.rv_syntax.specs.declared.token.Kind.{Kind}
 use Rattle.rv_syntax.specs.declared.token.Kind.TheVariants as kind
-use Rattle.rv_syntax.specs.declared.token.Token.{Token}
 use Rattle.rv_tree.specs.declared.tree.Name.{Name}
 
 abbrev pub number_of : Mark → ℕ

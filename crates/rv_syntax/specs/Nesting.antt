@@ -1,12 +1,10 @@
 -- The nesting at a token of an expression.
 use Rattle.std.specs.Prelude.{◌≡◌, ◌≤◌, ℕ, ◌+◌, ◌-◌, List, [], ◌∷◌, length}
-use Rattle.rv_syntax.specs.declared.token.Mark.{Mark}
-use Rattle.rv_syntax.specs.declared.token.Mark.TheVariants as mark
-use Rattle.rv_syntax.specs.declared.token.Kind.{Kind}
-use Rattle.rv_syntax.specs.declared.token.Kind.TheVariants as kind
-use Rattle.rv_syntax.specs.declared.token.Token.{Token}
-use Rattle.rv_tree.specs.Tree.{Tree}
 use Rattle.rv_syntax.specs.Grammar.{Written, spelling, syntax_of, IsGrammatical}
+use Rattle.rv_syntax.specs.{declared.token.Mark.Mark, declared.token.Kind.Kind, declared.token.Token.Token}
+use Rattle.rv_syntax.specs.declared.token.Mark.TheVariants as mark
+use Rattle.rv_syntax.specs.declared.token.Kind.TheVariants as kind
+use Rattle.rv_tree.specs.Tree.{Tree}
 
 -- What a token is to the nesting: an operator token, a bracket that opens or closes, a comma, or nothing. The operator
 -- tokens are the operators, `if` and `#`; `then` and `else` are none.

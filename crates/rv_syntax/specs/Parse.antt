@@ -1,9 +1,7 @@
 -- Readers of tokens, and how rules are read: each gives a value and the tokens after it, or why it stops and the
 -- tokens from the first one on that it stops at.
 use Rattle.std.specs.Prelude.{ℕ, zero, suc, Bool, false, cond, List, [], ◌∷◌, length, Option, Some, None, Result, Ok, Err}
-use Rattle.rv_syntax.specs.declared.fault.Why.{Why}
-use Rattle.rv_syntax.specs.declared.fault.Why.TheVariants.{Offends}
-use Rattle.rv_syntax.specs.declared.token.Token.{Token}
+use Rattle.rv_syntax.specs.{declared.fault.Why.Why, declared.fault.Why.TheVariants.Offends, declared.token.Token.Token}
 
 abbrev pub Reading : Type 0 → Type 0
 Reading A = Result (A × List Token) (Why × List Token)

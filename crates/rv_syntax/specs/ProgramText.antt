@@ -12,24 +12,16 @@
 --     local    = group [ 'when' NAME ] ';' | '(' group ')' 'when' NAME ';'
 --     equation = lefts '=' expr ';' | 'assert' expr ';'
 --     lefts    = NAME { ',' NAME } | '(' NAME { ',' NAME } ')'
-use Rattle.std.specs.Prelude.{◌≡◌, ℕ, List, [], ◌∷◌, ◌++◌, map, Option, Some}
-use Rattle.std.specs.Prelude.{None as Nothing}
+use Rattle.std.specs.Prelude.{◌≡◌, ℕ, List, [], ◌∷◌, ◌++◌, map, Option, Some, None as Nothing}
 use Rattle.rv_syntax.specs.declared.token.Mark.TheVariants as mark
 use Rattle.rv_syntax.specs.declared.token.Kind.TheVariants as kind
-use Rattle.rv_syntax.specs.declared.token.Token.{Token}
-use Rattle.rv_tree.specs.declared.tree.Name.{Name}
-use Rattle.rv_tree.specs.declared.tree.Decl.{Decl}
-use Rattle.rv_tree.specs.declared.tree.TypeName.{TypeName}
-use Rattle.rv_tree.specs.Groups.{Group, flows_of}
-use Rattle.rv_tree.specs.declared.tree.TypeName.TheVariants as type_name
-use Rattle.rv_tree.specs.declared.tree.TypeBody.{TypeBody}
-use Rattle.rv_tree.specs.declared.tree.TypeBody.TheVariants as type_body
-use Rattle.rv_tree.specs.declared.tree.TypeDecl.{TypeDecl}
-use Rattle.rv_tree.specs.Tree.{Tree, EquationTree, AssertionTree, ConstantTree, NodeTree, ProgramTree}
-use Rattle.rv_syntax.specs.Lexing.{tokens}
-use Rattle.rv_syntax.specs.Nesting.{IsExprOf, Outside, IsShallowText}
-use Rattle.rv_tree.specs.Sites.{with_sites}
 use Rattle.rv_syntax.specs.Rules.{Gives, Word, Only, Marked, Maybe, Part, OneOf, Each}
+use Rattle.rv_syntax.specs.{declared.token.Token.Token, Lexing.tokens, Nesting.IsExprOf, Nesting.Outside, Nesting.IsShallowText}
+use Rattle.rv_tree.specs.Tree.{Tree, EquationTree, AssertionTree, ConstantTree, NodeTree, ProgramTree}
+use Rattle.rv_tree.specs.{declared.tree.Name.Name, declared.tree.Decl.Decl, declared.tree.TypeName.TypeName, Groups.Group, Groups.flows_of}
+use Rattle.rv_tree.specs.{declared.tree.TypeBody.TypeBody, declared.tree.TypeDecl.TypeDecl, Sites.with_sites}
+use Rattle.rv_tree.specs.declared.tree.TypeName.TheVariants as type_name
+use Rattle.rv_tree.specs.declared.tree.TypeBody.TheVariants as type_body
 
 -- a name, with the offset of its token
 abbrev pub IsName : Name → List Token → Type 0

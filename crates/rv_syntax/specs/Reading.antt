@@ -1,29 +1,21 @@
 -- How the rules of a program's text are read: everywhere one token decides.
-use Rattle.std.specs.Prelude.{⊤, Bool, true, false, ◌||◌, List, [], ◌∷◌, ◌++◌, map, Option, Some}
-use Rattle.std.specs.Prelude.{None as Nothing}
-use Rattle.rv_syntax.specs.declared.token.Mark.{Mark}
+use Rattle.std.specs.Prelude.{⊤, Bool, true, false, ◌||◌, List, [], ◌∷◌, ◌++◌, map, Option, Some, None as Nothing}
+use Rattle.rv_syntax.specs.Marks.{is_mark, is_name, has_mark, mark_at, name_of}
+use Rattle.rv_syntax.specs.Parse.{Reading, Parse, bind, then, done, one, choose, loop, many, maybe}
+use Rattle.rv_syntax.specs.ProgramText.{type_of, constant_of, all_flows, joined, Item, Equates, Assumes, equation_of, assertion_of, equations_of, assertions_of}
+use Rattle.rv_syntax.specs.ProgramText.{node_of, Section, Types, Constants, OneNode, program_of}
+use Rattle.rv_syntax.specs.{declared.token.Mark.Mark, declared.token.Token.Token, declared.rules.Signature.Signature, Reads.expression}
 use Rattle.rv_syntax.specs.declared.token.Mark.TheVariants as mark
-use Rattle.rv_syntax.specs.declared.token.Token.{Token}
-use Rattle.rv_tree.specs.declared.tree.Name.{Name}
-use Rattle.rv_tree.specs.declared.tree.Decl.{Decl}
-use Rattle.rv_tree.specs.declared.tree.TypeName.{TypeName}
+use Rattle.rv_tree.specs.Tree.{equation_tree, assertion_tree, Tree, EquationTree, AssertionTree, ConstantTree, NodeTree, ProgramTree}
+use Rattle.rv_tree.specs.{declared.tree.Name.Name, declared.tree.Decl.Decl, declared.tree.TypeName.TypeName, declared.tree.TypeBody.TypeBody}
+use Rattle.rv_tree.specs.{declared.tree.TypeDecl.TypeDecl, Groups.Group, Groups.flows_of}
 use Rattle.rv_tree.specs.declared.tree.TypeName.TheVariants as type_name
-use Rattle.rv_tree.specs.declared.tree.TypeBody.{TypeBody}
 use Rattle.rv_tree.specs.declared.tree.TypeBody.TheVariants as body_of
-use Rattle.rv_tree.specs.declared.tree.TypeDecl.{TypeDecl}
 use Rattle.rv_syntax.specs.declared.rules.Group as written
 use Rattle.rv_syntax.specs.declared.rules.Local as local_written
 use Rattle.rv_syntax.specs.declared.rules.Statement as statement_written
 use Rattle.rv_syntax.specs.declared.rules.Statement.TheVariants as statement
 use Rattle.rv_syntax.specs.declared.rules.Body as body_written
-use Rattle.rv_syntax.specs.declared.rules.Signature.{Signature}
-use Rattle.rv_tree.specs.Tree.{equation_tree, assertion_tree, Tree, EquationTree, AssertionTree, ConstantTree, NodeTree, ProgramTree}
-use Rattle.rv_syntax.specs.Marks.{is_mark, is_name, has_mark, mark_at, name_of}
-use Rattle.rv_syntax.specs.Parse.{Reading, Parse, bind, then, done, one, choose, loop, many, maybe}
-use Rattle.rv_syntax.specs.Reads.{expression}
-use Rattle.rv_syntax.specs.ProgramText.{type_of, constant_of, all_flows, joined, Item, Equates, Assumes, equation_of, assertion_of, equations_of, assertions_of}
-use Rattle.rv_syntax.specs.ProgramText.{node_of, Section, Types, Constants, OneNode, program_of}
-use Rattle.rv_tree.specs.Groups.{Group, flows_of}
 
 -- this word or symbol, and then the rest
 abbrev pub word : {B : Type 0} → Mark → Parse B → Parse B

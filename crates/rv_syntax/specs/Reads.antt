@@ -1,28 +1,18 @@
 -- What the parser's methods do, in the words of the readers and of the limited machine.
 use Rattle.std.specs.Prelude.{◌≡◌, ◌≤◌, ◌<◌, ◌+◌, ℕ, Bool, true, false, ◌&&◌, List, [], ◌∷◌, map, length, Option, Some, None, Result, Ok, Err, ⊤}
-use Rattle.rv_syntax.specs.declared.token.Mark.{Mark}
-use Rattle.rv_syntax.specs.declared.token.Mark.TheVariants as mark
-use Rattle.rv_syntax.specs.declared.token.Token.{Token}
-use Rattle.rv_tree.specs.declared.tree.Name.{Name}
-use Rattle.rv_tree.specs.declared.tree.Op.{Op}
-use Rattle.rv_tree.specs.declared.tree.Expr.{Expr}
-use Rattle.rv_syntax.specs.declared.parser.Start.TheVariants as start
-use Rattle.rv_syntax.specs.declared.parser.Next.{Next}
-use Rattle.rv_syntax.specs.declared.parser.Next.TheVariants as next
-use Rattle.rv_syntax.specs.declared.parser.Link.{Link}
-use Rattle.rv_syntax.specs.declared.parser.Link.TheVariants as link
-use Rattle.rv_syntax.specs.declared.parser.Operand.{Operand}
-use Rattle.rv_syntax.specs.declared.fault.Stop.{Stop}
-use Rattle.rv_syntax.specs.declared.fault.Stop.TheVariants as stop
-use Rattle.rv_syntax.specs.declared.fault.Why.TheVariants.{Offends, TooDeep}
-use Rattle.rv_tree.specs.Tree.{Tree, tree_of}
 use Rattle.rv_syntax.specs.Grammar.{name_token, Callee, Chosen, Invoked, Joined, Sampled, level_of}
-use Rattle.rv_syntax.specs.Nesting.{limit}
-use Rattle.rv_syntax.specs.Marks.{is_mark, is_name}
-use Rattle.rv_syntax.specs.Machine.{Frame, Asked, Answered, Else, After, Within, need, Held, held, whole, State, Want, Have, Clock}
-use Rattle.rv_syntax.specs.Machine.{accepts, starting, following, leaf_tree}
+use Rattle.rv_syntax.specs.Machine.{Frame, Asked, Answered, Else, After, Within, need, Held, held, whole, State, Want, Have, Clock, accepts, starting}
+use Rattle.rv_syntax.specs.Machine.{following, leaf_tree}
 use Rattle.rv_syntax.specs.Limited.{counts, limited, Limited, leave}
-use Rattle.rv_syntax.specs.Parse.{Reading, Parse, starts}
+use Rattle.rv_syntax.specs.{declared.token.Mark.Mark, declared.token.Token.Token, declared.parser.Next.Next, declared.parser.Link.Link}
+use Rattle.rv_syntax.specs.{declared.parser.Operand.Operand, declared.fault.Stop.Stop, declared.fault.Why.TheVariants.Offends}
+use Rattle.rv_syntax.specs.{declared.fault.Why.TheVariants.TooDeep, Nesting.limit, Marks.is_mark, Marks.is_name, Parse.Reading, Parse.Parse, Parse.starts}
+use Rattle.rv_syntax.specs.declared.token.Mark.TheVariants as mark
+use Rattle.rv_tree.specs.{declared.tree.Name.Name, declared.tree.Op.Op, declared.tree.Expr.Expr, Tree.Tree, Tree.tree_of}
+use Rattle.rv_syntax.specs.declared.parser.Start.TheVariants as start
+use Rattle.rv_syntax.specs.declared.parser.Next.TheVariants as next
+use Rattle.rv_syntax.specs.declared.parser.Link.TheVariants as link
+use Rattle.rv_syntax.specs.declared.fault.Stop.TheVariants as stop
 
 -- the tokens that are left, and the nesting at the last one that was read
 pub record Ahead : Type 0 where

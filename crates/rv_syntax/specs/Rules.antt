@@ -1,8 +1,6 @@
 -- What the rules of a grammar are made of. A rule says of a value and tokens that these spell that.
 use Rattle.std.specs.Prelude.{◌≡◌, ⊤, ℕ, List, [], ◌∷◌, ◌++◌, ◌⊎◌, Option, Some, None}
-use Rattle.rv_syntax.specs.declared.token.Mark.{Mark}
-use Rattle.rv_syntax.specs.declared.token.Token.{Token}
-use Rattle.rv_syntax.specs.Grammar.{fixed}
+use Rattle.rv_syntax.specs.{declared.token.Mark.Mark, declared.token.Token.Token, Grammar.fixed}
 
 -- the end of a rule: no token, and this value
 abbrev pub Gives : {T B : Type 0} → B → B → List T → Type 0

@@ -1,12 +1,8 @@
 -- The fault of a text, by where and why its reading stops.
 use Rattle.std.specs.Prelude.{◌≡◌, ℕ, cond, List, [], ◌∷◌, ◌++◌, Option, Some, None, Ok, Err}
-use Rattle.rv_syntax.specs.declared.token.Token.{Token}
-use Rattle.rv_syntax.specs.declared.fault.Why.{Why}
+use Rattle.rv_syntax.specs.{declared.token.Token.Token, declared.fault.Why.Why, declared.fault.TextFault.TextFault, Faults.is_left_out, Parse.Reading}
 use Rattle.rv_syntax.specs.declared.fault.Why.TheVariants as why
-use Rattle.rv_syntax.specs.declared.fault.TextFault.{TextFault}
 use Rattle.rv_syntax.specs.declared.fault.TextFault.TheVariants as fault
-use Rattle.rv_syntax.specs.Faults.{is_left_out}
-use Rattle.rv_syntax.specs.Parse.{Reading}
 
 -- The fault of a text of this length that is read up to the tokens that are left.
 abbrev pub fault_at : List Token → List Token → Why → ℕ → TextFault

@@ -1,18 +1,13 @@
 -- Parts in the making.
 use Rattle.std.proofs.Common.{ℕ, ◌<◌, ◌≡◌, ◌≢◌, ◌⊎◌, Bool, true, false, ◌||◌, List, [], ◌∷◌, ◌++◌, length, set, refl, sym, ap, ◌∙◌, subst, ⊎_elim, inl, inr}
 use Rattle.std.proofs.Common.{arith, length-append}
-use Rattle.std.proofs.lemmas.Bool.{cases_lt, cases_eq, cases_Bool, or_cases, false≢true}
+use Rattle.std.proofs.lemmas.Bool.{cases_lt, cases_eq, cases_Bool, or_cases, false≢true, or_left, or_right}
 use Rattle.std.proofs.lemmas.List.{append-nil, length-set, get_or_append_left, get_or-set_same, get_or-set_other}
 use Rattle.std.proofs.Math.Seq.{get_or-append_seam}
 use Rattle.rv_rows.specs.declared.linear.Form.{Form}
-use Rattle.rv_diagram.specs.declared.Triple.{Triple}
-use Rattle.rv_diagram.specs.Nodes.{Valuation, Diagrams, IsRef, value_of}
-use Rattle.rv_terms.specs.declared.parted.Part.{Part}
-use Rattle.rv_terms.specs.Growing.{Extends}
-use Rattle.rv_terms.specs.Parts.{no_form, part_at, holds, ArePartsOf, Adds}
+use Rattle.rv_diagram.specs.{declared.Triple.Triple, Nodes.Valuation, Nodes.Diagrams, Nodes.IsRef, Nodes.value_of}
+use Rattle.rv_terms.specs.{declared.parted.Part.Part, Growing.Extends, Parts.no_form, Parts.part_at, Parts.holds, Parts.ArePartsOf, Parts.Adds}
 use Rattle.rv_base.proofs.Truths.{or_false_is}
-use Rattle.std.proofs.lemmas.Bool.{or_left}
-use Rattle.std.proofs.lemmas.Bool.{or_right}
 
 -- the same parts, of an equal set
 pub parts_as : (nodes : List Triple) (width : ℕ) (p q : Valuation → Bool) (f : Valuation → Form) (parts : List Part) → ((v : Valuation) → p v ≡ q v)

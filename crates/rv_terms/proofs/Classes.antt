@@ -1,22 +1,15 @@
 -- Parts that hold exactly where a function has their form: how one is added, and what they need.
-use Rattle.std.proofs.Common.{ℕ, zero, suc, ◌+◌, ◌*◌, ◌^◌, ◌<◌, ◌≤◌, ◌≡◌, ◌≢◌, ◌⊎◌, ◌↔◌, Bool, true, false, ◌||◌, cond, List, [], ◌∷◌, ◌++◌, length}
-use Rattle.std.proofs.Common.{refl, sym, ap, ◌∙◌, subst, ⊎_elim, inl, inr, arith}
-use Rattle.std.proofs.Common.{Option, Some, is_some, Result, Ok, Err}
-use Rattle.std.proofs.Common.{None as Nothing}
+use Rattle.std.proofs.Common.{ℕ, zero, suc, ◌+◌, ◌*◌, ◌^◌, ◌<◌, ◌≤◌, ◌≡◌, ◌≢◌, ◌⊎◌, ◌↔◌, Bool, true, false, ◌||◌, cond, List, [], ◌∷◌, ◌++◌, length, refl, sym}
+use Rattle.std.proofs.Common.{ap, ◌∙◌, subst, ⊎_elim, inl, inr, arith, Option, Some, is_some, Result, Ok, Err, None as Nothing}
+use Rattle.std.proofs.{lemmas.Bool.cases_lt, lemmas.Bool.cases_eq, lemmas.Bool.cases_Bool, lemmas.Bool.false≢true, lemmas.List.length_push}
 use Rattle.std.specs.Prelude.{MatchOption, IsErrOf}
-use Rattle.std.proofs.lemmas.Bool.{cases_lt, cases_eq, cases_Bool, false≢true}
-use Rattle.std.proofs.lemmas.List.{length_push}
 use Rattle.rv_rows.specs.declared.linear.Form.{Form}
-use Rattle.rv_diagram.specs.declared.Triple.{Triple}
-use Rattle.rv_diagram.specs.Nodes.{Valuation, Diagrams, IsRef, ReadsBelow, value_of, choice}
+use Rattle.rv_diagram.specs.{declared.Triple.Triple, Nodes.Valuation, Nodes.Diagrams, Nodes.IsRef, Nodes.ReadsBelow, Nodes.value_of, Nodes.choice}
 use Rattle.rv_diagram.proofs.Calls.{value_of-false}
-use Rattle.rv_terms.specs.declared.parted.Part.{Part}
-use Rattle.rv_terms.specs.Growing.{Extends}
-use Rattle.rv_terms.specs.Counting.{count, ReadsOnly}
 use Rattle.rv_terms.specs.Parts.{part_at, holds, form_at, AreDifferent, IsTerm, IsTermOf, among, HasForm, AreClasses, chosen_form, held, IsFilledBy, LacksFew}
-use Rattle.rv_terms.proofs.Adding.{IsPlaced, placed_last}
+use Rattle.rv_terms.specs.{declared.parted.Part.Part, Growing.Extends, Counting.count, Counting.ReadsOnly}
 use Rattle.rv_terms.proofs.Combining.{form_is, form_later, form_width, among-more, among_some}
-use Rattle.rv_terms.proofs.Counting.{count-same, count-join, count-most}
+use Rattle.rv_terms.proofs.{Adding.IsPlaced, Adding.placed_last, Counting.count-same, Counting.count-join, Counting.count-most}
 
 -- WHERE A TERM HAS A FORM
 

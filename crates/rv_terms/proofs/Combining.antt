@@ -1,17 +1,12 @@
 -- Forms that are added one after another.
-use Rattle.std.proofs.Common.{ℕ, zero, suc, ◌+◌, ◌<◌, ◌≤◌, ◌≡◌, Bool, true, false, ◌&&◌, ◌||◌, cond, List, [], ◌∷◌, length, refl, sym, ap, ◌∙◌, ⊎_elim}
-use Rattle.std.proofs.Common.{arith}
-use Rattle.std.proofs.lemmas.Bool.{cases_eq, cases_Bool, or_cases, and_parts}
+use Rattle.std.proofs.Common.{ℕ, zero, suc, ◌+◌, ◌<◌, ◌≤◌, ◌≡◌, Bool, true, false, ◌&&◌, ◌||◌, cond, List, [], ◌∷◌, length, refl, sym, ap, ◌∙◌, ⊎_elim, arith}
+use Rattle.std.proofs.lemmas.Bool.{cases_eq, cases_Bool, or_cases, and_parts, or_left, or_right}
 use Rattle.rv_rows.specs.declared.linear.Form.{Form}
-use Rattle.rv_diagram.specs.declared.Triple.{Triple}
-use Rattle.rv_diagram.specs.Nodes.{Valuation, Diagrams, value_of}
-use Rattle.rv_terms.specs.declared.parted.Part.{Part}
-use Rattle.rv_terms.specs.Growing.{Extends}
+use Rattle.rv_diagram.specs.{declared.Triple.Triple, Nodes.Valuation, Nodes.Diagrams, Nodes.value_of}
 use Rattle.rv_terms.specs.Parts.{part_at, holds, form_at, AreRefs, AreDisjoint, Covers, IsTerm, IsTermOf, ArePartsOf, Adds, among}
+use Rattle.rv_terms.specs.{declared.parted.Part.Part, Growing.Extends}
 use Rattle.rv_terms.proofs.Adding.{parts_as, parts_later}
 use Rattle.rv_base.proofs.Truths.{or_assoc}
-use Rattle.std.proofs.lemmas.Bool.{or_left}
-use Rattle.std.proofs.lemmas.Bool.{or_right}
 
 -- COMPOSITION
 

@@ -1,14 +1,12 @@
 -- Few valuations need few nodes: each lies on one path of a diagram, and a path has at most one node for each variable (Bryant 1986).
-use Rattle.std.proofs.Common.{ℕ, zero, suc, ◌+◌, ◌*◌, ◌^◌, ◌<◌, ◌≤◌, ◌≡◌, ◌≢◌, ◌⊎◌, Bool, true, false, ◌||◌, cond, List, [], ◌∷◌, ◌++◌, length}
-use Rattle.std.proofs.Common.{◌&&◌, refl, sym, ap, ◌∙◌, subst, ⊎_elim, inl, inr, arith}
-use Rattle.std.proofs.lemmas.Bool.{cases_eq, cases_Bool}
-use Rattle.std.proofs.lemmas.List.{length_push}
+use Rattle.std.proofs.Common.{ℕ, zero, suc, ◌+◌, ◌*◌, ◌^◌, ◌<◌, ◌≤◌, ◌≡◌, ◌≢◌, ◌⊎◌, Bool, true, false, ◌||◌, cond, List, [], ◌∷◌, ◌++◌, length, ◌&&◌, refl, sym}
+use Rattle.std.proofs.Common.{ap, ◌∙◌, subst, ⊎_elim, inl, inr, arith}
+use Rattle.std.proofs.{lemmas.Bool.cases_eq, lemmas.Bool.cases_Bool, lemmas.List.length_push}
 use Rattle.rv_diagram.specs.declared.Triple.{Triple}
 use Rattle.rv_diagram.specs.Nodes.{ReadsBelow, Valuation, put, node_at, value_of, IsRef, IsReduced, BeginsWith, Has, IsAbsent, Built, NeedsMore, IsFewest}
-use Rattle.rv_diagram.proofs.Canon.{put-same, put-other, canonical}
-use Rattle.rv_diagram.proofs.Calls.{value_of-true, value_of-false}
 use Rattle.rv_diagram.proofs.Needed.{ReadsFrom, IsNew, has_from, has_fixed, length-longer, value_of-begins}
 use Rattle.rv_diagram.proofs.Building.{IsSplit, built_there, built_equal, built_found, built_push, built_split}
+use Rattle.rv_diagram.proofs.{Canon.put-same, Canon.put-other, Canon.canonical, Calls.value_of-true, Calls.value_of-false}
 use Rattle.rv_terms.specs.Counting.{count_from, count, ReadsOnly}
 use Rattle.rv_base.proofs.Truths.{bit_most, or_false_is}
 

@@ -1,18 +1,14 @@
 -- Where a function of finitely many variables is true, and which parts meet it.
-use Rattle.std.proofs.Common.{ℕ, zero, suc, ◌+◌, ◌<◌, ◌≤◌, ◌≡◌, ◌≢◌, ◌⊎◌, Bool, true, false, List, [], ◌∷◌, length, Option, Some, refl, sym, ap, ◌∙◌}
-use Rattle.std.proofs.Common.{subst, ⊎_elim, inl, inr, arith}
-use Rattle.std.proofs.Common.{None as Nothing}
-use Rattle.std.specs.Prelude.{MatchOption}
+use Rattle.std.proofs.Common.{ℕ, zero, suc, ◌+◌, ◌<◌, ◌≤◌, ◌≡◌, ◌≢◌, ◌⊎◌, Bool, true, false, List, [], ◌∷◌, length, Option, Some, refl, sym, ap, ◌∙◌, subst}
+use Rattle.std.proofs.Common.{⊎_elim, inl, inr, arith, None as Nothing}
 use Rattle.std.proofs.lemmas.Bool.{cases_eq, cases_Bool, false≢true}
+use Rattle.std.specs.Prelude.{MatchOption}
 use Rattle.rv_rows.specs.declared.linear.Form.{Form}
-use Rattle.rv_diagram.specs.declared.Triple.{Triple}
-use Rattle.rv_diagram.specs.Nodes.{Valuation, put, value_of, IsRef, ReadsBelow}
-use Rattle.rv_diagram.proofs.Calls.{value_of-true}
+use Rattle.rv_diagram.specs.{declared.Triple.Triple, Nodes.Valuation, Nodes.put, Nodes.value_of, Nodes.IsRef, Nodes.ReadsBelow}
+use Rattle.rv_diagram.proofs.{Calls.value_of-true, Canon.put-other, Canon.put-same}
 use Rattle.rv_terms.specs.declared.parted.Part.{Part}
 use Rattle.rv_terms.specs.Parts.{part_at, holds, Covers, IsTerm, IsTermOf, HasNoSingle, IsSingle, IsAlone, IsMet}
-use Rattle.rv_terms.proofs.Combining.{form_is}
-use Rattle.rv_diagram.proofs.Canon.{put-other, put-same}
-use Rattle.rv_terms.proofs.Counting.{same_put}
+use Rattle.rv_terms.proofs.{Combining.form_is, Counting.same_put}
 
 -- it has one value at valuations that agree below m
 abbrev pub ReadsOnly : ℕ → (Valuation → Bool) → Type 0

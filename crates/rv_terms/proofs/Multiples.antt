@@ -1,20 +1,13 @@
 -- Multiples of forms: by 0 all are one, by another number different forms have different multiples.
-use Rattle.std.proofs.Common.{ℕ, ◌*◌, ◌<◌, ◌≡◌, ◌≢◌, ◌⊎◌, ℤ, pos, ◌+ℤ◌, ◌-ℤ◌, ◌*ℤ◌, List, [], ◌∷◌, length, refl, sym, ap, ◌∙◌}
-use Rattle.std.proofs.Common.{◌++◌, subst, ⊎_elim, inl, inr, arith, get_or, drop, true, mul-pos}
+use Rattle.std.proofs.Common.{ℕ, ◌*◌, ◌<◌, ◌≡◌, ◌≢◌, ◌⊎◌, ℤ, pos, ◌+ℤ◌, ◌-ℤ◌, ◌*ℤ◌, List, [], ◌∷◌, length, refl, sym, ap, ◌∙◌, ◌++◌, subst, ⊎_elim, inl, inr}
+use Rattle.std.proofs.Common.{arith, get_or, drop, true, mul-pos}
+use Rattle.std.proofs.{lemmas.Int.ints, lemmas.Int.unsigned_abs-mul, lemmas.Bool.cases_eq, Math.IntN.zero-*ℤ}
 use Rattle.std.specs.Int.RustNames.{unsigned_abs}
-use Rattle.std.proofs.lemmas.Int.{ints, unsigned_abs-mul}
-use Rattle.std.proofs.lemmas.Bool.{cases_eq}
-use Rattle.std.proofs.Math.IntN.{zero-*ℤ}
-use Rattle.rv_rows.specs.declared.linear.Form.{Form}
-use Rattle.rv_rows.specs.Arithmetic.{times, form_times}
+use Rattle.rv_rows.specs.{declared.linear.Form.Form, Arithmetic.times, Arithmetic.form_times}
 use Rattle.rv_rows.proofs.IntLemmas.{mul_add}
 use Rattle.rv_diagram.specs.declared.Triple.{Triple}
-use Rattle.rv_terms.specs.declared.parted.Part.{Part}
-use Rattle.rv_terms.specs.Parts.{part_at, holds, form_at, IsTerm, IsTermOf}
-use Rattle.rv_terms.proofs.Combining.{form_width}
-use Rattle.rv_terms.proofs.Adding.{IsPlaced, placed_last}
-use Rattle.rv_terms.proofs.Sums.{length-multiple}
-use Rattle.rv_terms.proofs.Finding.{leaf_made}
+use Rattle.rv_terms.specs.{declared.parted.Part.Part, Parts.part_at, Parts.holds, Parts.form_at, Parts.IsTerm, Parts.IsTermOf}
+use Rattle.rv_terms.proofs.{Combining.form_width, Adding.IsPlaced, Adding.placed_last, Sums.length-multiple, Finding.leaf_made}
 use Rattle.rv_base.proofs.Numbers.{size_zero}
 
 no_product : (a b : ℕ) → a ≢ 0 → a * b ≡ 0 → b ≡ 0

@@ -1,13 +1,10 @@
 -- Sums and multiples of forms are what their relations say.
 use Rattle.std.proofs.Common.{ℕ, zero, suc, ◌<◌, ◌^◌, ◌≡◌, Bool, true, false, ℤ, pos, ◌+ℤ◌, ◌*ℤ◌, List, [], ◌∷◌, length, refl, sym, ◌∙◌, ⊎_elim, arith}
+use Rattle.std.proofs.{lemmas.Int.ints, lemmas.Bool.cases_lt, lemmas.Bool.cases_Bool, lemmas.List.ext_get_or, lemmas.List.length-map}
 use Rattle.std.specs.Int.RustNames.{unsigned_abs}
-use Rattle.std.proofs.lemmas.Int.{ints}
-use Rattle.std.proofs.lemmas.Bool.{cases_lt, cases_Bool}
-use Rattle.std.proofs.lemmas.List.{ext_get_or, length-map}
-use Rattle.rv_rows.specs.declared.linear.Form.{Form}
 use Rattle.rv_rows.specs.Forms.{number, IsSum, IsMultiple, CanAdd, CanScale}
+use Rattle.rv_rows.specs.{declared.linear.Form.Form, Arithmetic.plus, Arithmetic.times, Arithmetic.form_sum, Arithmetic.form_times}
 use Rattle.rv_diagram.specs.Nodes.{Valuation}
-use Rattle.rv_rows.specs.Arithmetic.{plus, times, form_sum, form_times}
 use Rattle.rv_base.proofs.Numbers.{zero_add}
 
 pub zero_right : (x : ℤ) → x +ℤ pos 0 ≡ x

@@ -2,10 +2,8 @@
 use Rattle.std.specs.Prelude.{◌≡◌, ◌≢◌, ◌↔◌, ◌+◌, ◌*◌, ◌^◌, ◌≤◌, ℕ, zero, suc, ◌<◌, ◌⊎◌, ◌||◌, Bool, true, false, if◌then◌else◌, pos, List, [], ◌∷◌, length}
 use Rattle.std.specs.Prelude.{slice_index_or}
 use Rattle.rv_rows.specs.declared.linear.Form.{Form}
-use Rattle.rv_diagram.specs.declared.Triple.{Triple}
-use Rattle.rv_diagram.specs.Nodes.{Valuation, Diagrams, IsRef, value_of}
-use Rattle.rv_terms.specs.Counting.{count}
-use Rattle.rv_terms.specs.declared.parted.Part.{Part}
+use Rattle.rv_diagram.specs.{declared.Triple.Triple, Nodes.Valuation, Nodes.Diagrams, Nodes.IsRef, Nodes.value_of}
+use Rattle.rv_terms.specs.{Counting.count, declared.parted.Part.Part}
 
 -- the form without columns that is 0
 abbrev pub no_form : Form

@@ -1,23 +1,15 @@
 -- Questions whose answers are exact are those of their system.
-use Rattle.std.proofs.Common.{◌≡◌, ◌⊎◌, inl, inr, ◌↔◌, ℕ, suc, ◌+◌, ◌-◌, ◌<◌, ◌≤◌, Bool, true, List, [], length, sym, ◌∙◌, ap, subst}
-use Rattle.std.proofs.Common.{arith, Option, Some}
+use Rattle.std.proofs.Common.{◌≡◌, ◌⊎◌, inl, inr, ◌↔◌, ℕ, suc, ◌+◌, ◌-◌, ◌<◌, ◌≤◌, Bool, true, List, [], length, sym, ◌∙◌, ap, subst, arith, Option, Some}
+use Rattle.std.proofs.{lemmas.Bool.cases_lt, lemmas.Option.get_or_from_slice_get, Math.ListN.get_or-eq_default}
 use Rattle.std.specs.Prelude.{slice_get}
-use Rattle.std.proofs.lemmas.Bool.{cases_lt}
-use Rattle.std.proofs.lemmas.Option.{get_or_from_slice_get}
-use Rattle.std.proofs.Math.ListN.{get_or-eq_default}
-use Rattle.rv_rows.specs.declared.linear.Row.{Row}
-use Rattle.rv_rows.specs.declared.linear.Form.{Form}
-use Rattle.rv_rows.specs.Rows.{row_at}
-use Rattle.rv_diagram.specs.declared.Triple.{Triple}
-use Rattle.rv_diagram.specs.Nodes.{Valuation, Diagrams}
-use Rattle.rv_diagram.specs.Several.{ref_at}
+use Rattle.rv_rows.specs.{declared.linear.Row.Row, declared.linear.Form.Form, Rows.row_at}
+use Rattle.rv_diagram.specs.{declared.Triple.Triple, Nodes.Valuation, Nodes.Diagrams, Several.ref_at}
 use Rattle.rv_proofs.specs.Systems.{System, IsSystem, IsSameValuation}
 use Rattle.rv_symbolic.specs.Growing.{Extends}
 use Rattle.rv_terms.specs.Parts.{no_form}
-use Rattle.rv_cases.specs.declared.asking.Questions.{Questions}
-use Rattle.rv_cases.specs.Conditions.{is_in, list_at, AreAnswers}
 use Rattle.rv_cases.specs.Questions.{rows_at, forms_at, memory_answers, observer_answers, HaveAnswers, AreTestAnswers, AreUpdateAnswers, AreSides, AreQuestions}
 use Rattle.rv_cases.specs.Questions.{AreDistinct}
+use Rattle.rv_cases.specs.{declared.asking.Questions.Questions, Conditions.is_in, Conditions.list_at, Conditions.AreAnswers}
 use Rattle.rv_tested.specs.Exact.{AreExact, row_answer, form_answer, side_answer, AreAsked}
 use Rattle.rv_base.proofs.Lists.{within_got}
 use Rattle.rv_diagram.proofs.Several.{same_truth}

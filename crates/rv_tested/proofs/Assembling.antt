@@ -1,29 +1,19 @@
 -- The questions of a flat system, put together.
-use Rattle.std.proofs.Common.{◌≡◌, ◌≢◌, inl, inr, ◌↔◌, ℕ, zero, suc, ◌+◌, ◌<◌, Bool, true, false, not, List, [], ◌∷◌, ◌++◌, length, length-append}
-use Rattle.std.proofs.Common.{map, refl, sym, ◌∙◌, ap, subst, arith, Option}
-use Rattle.std.proofs.lemmas.Bool.{cases_lt, cases_eq, false≢true}
+use Rattle.std.proofs.Common.{◌≡◌, ◌≢◌, inl, inr, ◌↔◌, ℕ, zero, suc, ◌+◌, ◌<◌, Bool, true, false, not, List, [], ◌∷◌, ◌++◌, length, length-append, map, refl}
+use Rattle.std.proofs.Common.{sym, ◌∙◌, ap, subst, arith, Option}
 use Rattle.std.proofs.lemmas.List.{get_or_append_left, get_or-append-add, get_or-map, length-map}
-use Rattle.std.proofs.Math.Seq.{get_or-append_seam}
-use Rattle.rv_rows.specs.declared.linear.Row.{Row}
-use Rattle.rv_rows.specs.declared.linear.Form.{Form}
-use Rattle.rv_diagram.specs.declared.Triple.{Triple}
-use Rattle.rv_diagram.specs.Nodes.{Valuation, Diagrams, IsMeant, IsRef, value_of}
-use Rattle.rv_diagram.specs.Several.{ref_at}
-use Rattle.rv_flat.specs.declared.flat.Flat.{Flat}
-use Rattle.rv_flat.specs.Lists.{variable_of}
+use Rattle.std.proofs.{lemmas.Bool.cases_lt, lemmas.Bool.cases_eq, lemmas.Bool.false≢true, Math.Seq.get_or-append_seam}
+use Rattle.rv_rows.specs.{declared.linear.Row.Row, declared.linear.Form.Form}
+use Rattle.rv_diagram.specs.{declared.Triple.Triple, Nodes.Valuation, Nodes.Diagrams, Nodes.IsMeant, Nodes.IsRef, Nodes.value_of, Several.ref_at}
+use Rattle.rv_flat.specs.{declared.flat.Flat.Flat, Lists.variable_of}
 use Rattle.rv_control.specs.Control.{control_of}
 use Rattle.rv_proofs.specs.Systems.{System}
 use Rattle.rv_symbolic.specs.Growing.{Extends}
 use Rattle.rv_symbolic.proofs.Extending.{extends_trans}
-use Rattle.rv_terms.specs.declared.parted.Part.{Part}
-use Rattle.rv_terms.specs.declared.parted.Term.{Term}
-use Rattle.rv_terms.specs.Parts.{no_form, part_at, holds, form_at, IsTerm}
-use Rattle.rv_terms.proofs.Combining.{form_is}
-use Rattle.rv_terms.proofs.Classes.{part_iff}
-use Rattle.rv_cases.specs.Conditions.{is_in, list_at}
-use Rattle.rv_cases.specs.Questions.{rows_at, forms_at}
-use Rattle.rv_forms.specs.Choices.{refs_in, forms_in}
-use Rattle.rv_forms.specs.Terms.{columns_of, parts_at, AreUpdatesRead}
+use Rattle.rv_terms.specs.{declared.parted.Part.Part, declared.parted.Term.Term, Parts.no_form, Parts.part_at, Parts.holds, Parts.form_at, Parts.IsTerm}
+use Rattle.rv_terms.proofs.{Combining.form_is, Classes.part_iff}
+use Rattle.rv_cases.specs.{Conditions.is_in, Conditions.list_at, Questions.rows_at, Questions.forms_at}
+use Rattle.rv_forms.specs.{Choices.refs_in, Choices.forms_in, Terms.columns_of, Terms.parts_at, Terms.AreUpdatesRead}
 use Rattle.rv_tested.specs.Exact.{AreExact, form_answer, side_answer, row_answer, IsTestRead, IsMemoryRead, AreAsked}
 use Rattle.rv_tested.specs.Testing.{AreTestsRead, IsObserverAsked}
 use Rattle.rv_tested.proofs.Asking.{exact_later}

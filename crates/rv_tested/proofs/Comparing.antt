@@ -1,27 +1,18 @@
 -- The rows of a comparison are put to the answers of a test.
-use Rattle.std.proofs.Common.{◌≡◌, ◌↔◌, inl, inr, ℕ, ◌+◌, ◌<◌, ◌≤◌, Bool, true, false, cond, ◌||◌, ◌&&◌, List, length, refl, sym, ◌∙◌, ap, subst}
-use Rattle.std.proofs.Common.{arith, Option, Some}
-use Rattle.std.proofs.Common.{None as Nothing}
-use Rattle.std.specs.Prelude.{slice_set, is_none}
+use Rattle.std.proofs.Common.{◌≡◌, ◌↔◌, inl, inr, ℕ, ◌+◌, ◌<◌, ◌≤◌, Bool, true, false, cond, ◌||◌, ◌&&◌, List, length, refl, sym, ◌∙◌, ap, subst, arith, Option}
+use Rattle.std.proofs.Common.{Some, None as Nothing}
 use Rattle.std.proofs.lemmas.Bool.{false≢true, and_parts, cases_eq}
 use Rattle.std.proofs.lemmas.List.{length-set, get_or-set_same, get_or-set_other}
-use Rattle.rv_rows.specs.declared.linear.Row.{Row}
-use Rattle.rv_rows.specs.declared.linear.Form.{Form}
-use Rattle.rv_rows.specs.Rows.{row_at}
-use Rattle.rv_rows.specs.Arithmetic.{test_row}
-use Rattle.rv_diagram.specs.declared.Triple.{Triple}
-use Rattle.rv_diagram.specs.Nodes.{Valuation, Diagrams, IsRef, value_of}
-use Rattle.rv_diagram.specs.Several.{ref_at}
+use Rattle.std.specs.Prelude.{slice_set, is_none}
+use Rattle.rv_rows.specs.{declared.linear.Row.Row, declared.linear.Form.Form, Rows.row_at, Arithmetic.test_row}
+use Rattle.rv_diagram.specs.{declared.Triple.Triple, Nodes.Valuation, Nodes.Diagrams, Nodes.IsRef, Nodes.value_of, Several.ref_at}
 use Rattle.rv_control.specs.Tightening.{tightened}
 use Rattle.rv_cases.specs.Conditions.{is_in}
 use Rattle.rv_symbolic.specs.Growing.{Extends}
-use Rattle.rv_terms.specs.declared.parted.Part.{Part}
-use Rattle.rv_terms.specs.Parts.{part_at, holds, form_at, among, AreRefs, AreDisjoint, Covers}
-use Rattle.rv_terms.proofs.Combining.{among-more, among_some, among_has, form_is}
-use Rattle.rv_tested.specs.declared.rows.Answered.{Answered}
-use Rattle.rv_tested.specs.Rows.{IsLaid, HasRows, IsPut, IsAnswered, first_of}
+use Rattle.rv_terms.specs.{declared.parted.Part.Part, Parts.part_at, Parts.holds, Parts.form_at, Parts.among, Parts.AreRefs, Parts.AreDisjoint, Parts.Covers}
+use Rattle.rv_terms.proofs.{Combining.among-more, Combining.among_some, Combining.among_has, Combining.form_is, Summing.and-or}
+use Rattle.rv_tested.specs.{declared.rows.Answered.Answered, Rows.IsLaid, Rows.HasRows, Rows.IsPut, Rows.IsAnswered, Rows.first_of}
 use Rattle.rv_tested.proofs.Putting.{rows_as, rows_later, put_none, put_both, put_as, put_after}
-use Rattle.rv_terms.proofs.Summing.{and-or}
 use Rattle.rv_base.proofs.Truths.{and_false}
 
 -- TWO SIDES

@@ -1,43 +1,23 @@
 -- Steps over comparisons and over tests.
-use Rattle.std.proofs.Common.{◌≡◌, ◌⊎◌, inl, inr, ℕ, ◌+◌, ◌-◌, ◌<◌, ◌≤◌, List, [], ◌∷◌, ◌++◌, length, length-append, map, refl}
-use Rattle.std.proofs.Common.{sym, ◌∙◌, ap, subst, ⊎_elim, arith, Option, Some, Result, Ok, Err, OnOk}
-use Rattle.std.proofs.Common.{None as Nothing}
-use Rattle.std.specs.Prelude.{slice_get, slice_index_or}
-use Rattle.std.proofs.lemmas.Bool.{cases_lt}
+use Rattle.std.proofs.Common.{◌≡◌, ◌⊎◌, inl, inr, ℕ, ◌+◌, ◌-◌, ◌<◌, ◌≤◌, List, [], ◌∷◌, ◌++◌, length, length-append, map, refl, sym, ◌∙◌, ap, subst, ⊎_elim}
+use Rattle.std.proofs.Common.{arith, Option, Some, Result, Ok, Err, OnOk, None as Nothing}
 use Rattle.std.proofs.lemmas.List.{length-map, get_or_append_left, get_or_push, get_or-map}
-use Rattle.std.proofs.lemmas.Option.{get_or_from_slice_get}
+use Rattle.std.proofs.{lemmas.Bool.cases_lt, lemmas.Option.get_or_from_slice_get}
+use Rattle.std.specs.Prelude.{slice_get, slice_index_or}
 use Rattle.rv_types.specs.declared.typed.Kind.TheVariants as kind
 use Rattle.rv_types.specs.Lists.{Variable, MainTick, Tick, Kept, Next, Input, Test}
 use Rattle.rv_rows.specs.declared.linear.Row.{Row}
-use Rattle.rv_diagram.specs.declared.Triple.{Triple}
-use Rattle.rv_diagram.specs.Nodes.{Valuation, Diagrams}
-use Rattle.rv_agreement.specs.Agreement.{Fits, IsNamed}
-use Rattle.rv_agreement.specs.Trees.{FlatTree}
-use Rattle.rv_agreement.specs.Valuations.{Reading, IsSymbolic}
-use Rattle.rv_flat.specs.declared.flat.Flat.{Flat}
-use Rattle.rv_flat.specs.declared.parts.Bit.{Bit}
-use Rattle.rv_flat.specs.FlatInstants.{system_of}
-use Rattle.rv_flat.specs.Lists.{variable_of}
-use Rattle.rv_flat.specs.Systems.{flow_item}
-use Rattle.rv_flat.specs.Tame.{IsOver}
-use Rattle.rv_control.specs.Control.{control_of, order_tests}
-use Rattle.rv_control.specs.Named.{named, variables_of}
+use Rattle.rv_diagram.specs.{declared.Triple.Triple, Nodes.Valuation, Nodes.Diagrams}
+use Rattle.rv_agreement.specs.{Agreement.Fits, Agreement.IsNamed, Trees.FlatTree, Valuations.Reading, Valuations.IsSymbolic}
+use Rattle.rv_flat.specs.{declared.flat.Flat.Flat, declared.parts.Bit.Bit, FlatInstants.system_of, Lists.variable_of, Systems.flow_item, Tame.IsOver}
+use Rattle.rv_control.specs.{Control.control_of, Control.order_tests, Named.named, Named.variables_of}
 use Rattle.rv_symbolic.specs.Growing.{Extends}
-use Rattle.rv_bits.specs.declared.around.FlowRefs.{FlowRefs}
-use Rattle.rv_bits.specs.Shown.{AreFlowRefs, clock_bit, is_there_at}
+use Rattle.rv_bits.specs.{declared.around.FlowRefs.FlowRefs, Shown.AreFlowRefs, Shown.clock_bit, Shown.is_there_at}
 use Rattle.rv_bits.proofs.Fitting.{over_fits}
-use Rattle.rv_cases.specs.Conditions.{list_at}
-use Rattle.rv_cases.specs.Questions.{rows_at}
-use Rattle.rv_tested.specs.declared.compared.Compared.{Compared}
-use Rattle.rv_tested.specs.declared.rows.Answered.{Answered}
-use Rattle.rv_tested.specs.declared.testing.Sides.{Sides}
-use Rattle.rv_tested.specs.Compared.{comparison_in}
-use Rattle.rv_tested.specs.Exact.{IsTestRead, row_answer}
-use Rattle.rv_tested.specs.Rows.{IsAnswered}
-use Rattle.rv_tested.specs.Testing.{AreSidesRead, AreTestsRead, row_of_variable}
-use Rattle.rv_tested.proofs.Asking.{exact_later}
-use Rattle.rv_tested.proofs.Rowing.{answered_as, answered_exact}
-use Rattle.rv_tested.proofs.Siding.{sides_later}
+use Rattle.rv_cases.specs.{Conditions.list_at, Questions.rows_at}
+use Rattle.rv_tested.specs.{declared.compared.Compared.Compared, declared.rows.Answered.Answered, declared.testing.Sides.Sides, Compared.comparison_in}
+use Rattle.rv_tested.specs.{Exact.IsTestRead, Exact.row_answer, Rows.IsAnswered, Testing.AreSidesRead, Testing.AreTestsRead, Testing.row_of_variable}
+use Rattle.rv_tested.proofs.{Asking.exact_later, Rowing.answered_as, Rowing.answered_exact, Siding.sides_later}
 use Rattle.rv_base.proofs.Lists.{push_got}
 
 pub over_inside : (f : Flat) (n : ℕ) (k : Option ℕ) (t : FlatTree) → Fits (system_of f) (length (system_of f).flows) k kind.Int t → n ≡ length f.flows

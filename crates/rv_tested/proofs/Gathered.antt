@@ -1,11 +1,8 @@
 -- The comparisons of flows, memories and assertions are those of the system.
 use Rattle.std.proofs.Common.{◌≡◌, List, [], ◌++◌, map, flat_map, sym, ◌∙◌, ap, append_assoc}
 use Rattle.std.proofs.lemmas.Grind.{flat_map-append}
-use Rattle.rv_agreement.specs.Trees.{Item, memory_items}
-use Rattle.rv_agreement.specs.Valuations.{Comparison, item_comparisons, all_comparisons}
-use Rattle.rv_flat.specs.declared.flat.Flat.{Flat}
-use Rattle.rv_flat.specs.FlatInstants.{system_of}
-use Rattle.rv_flat.specs.Systems.{assertion_item, flow_item, memory_item}
+use Rattle.rv_agreement.specs.{Trees.Item, Trees.memory_items, Valuations.Comparison, Valuations.item_comparisons, Valuations.all_comparisons}
+use Rattle.rv_flat.specs.{declared.flat.Flat.Flat, FlatInstants.system_of, Systems.assertion_item, Systems.flow_item, Systems.memory_item}
 use Rattle.rv_flat.proofs.Inlining.{items_kept}
 
 pub gathered : (f : Flat) (a b c d : List Comparison) → a ≡ []

@@ -1,34 +1,24 @@
 -- What a comparison of a flat system compares.
-use Rattle.std.proofs.Common.{◌≡◌, ◌≢◌, inl, inr, ℕ, zero, suc, ◌<◌, Bool, true, false, ◌&&◌, cond, nat_eq, List, [], ◌∷◌, ◌++◌, length, map, refl, sym}
-use Rattle.std.proofs.Common.{◌∙◌, ap, subst, arith, get_or, Option}
-use Rattle.std.specs.Prelude.{nat_abs, nat_le}
-use Rattle.std.specs.List.{Contains}
-use Rattle.std.proofs.lemmas.Bool.{and_parts, false≢true}
-use Rattle.std.proofs.lemmas.List.{length-map, get_or-map}
-use Rattle.std.proofs.lemmas.Option.{get_or_from_slice_get, slice_get_within}
-use Rattle.std.proofs.lemmas.List.Elements.{Contains-append_cases, Contains-get_or}
-use Rattle.rv_tree.specs.declared.tree.Op.{Op}
+use Rattle.std.proofs.Common.{◌≡◌, ◌≢◌, inl, inr, ℕ, zero, suc, ◌<◌, Bool, true, false, ◌&&◌, cond, nat_eq, List, [], ◌∷◌, ◌++◌, length, map, refl, sym, ◌∙◌}
+use Rattle.std.proofs.Common.{ap, subst, arith, get_or, Option}
+use Rattle.std.proofs.{lemmas.Bool.and_parts, lemmas.Bool.false≢true, lemmas.List.length-map, lemmas.List.get_or-map, lemmas.Option.get_or_from_slice_get}
+use Rattle.std.proofs.{lemmas.Option.slice_get_within, lemmas.List.Elements.Contains-append_cases, lemmas.List.Elements.Contains-get_or}
+use Rattle.std.specs.{Prelude.nat_abs, Prelude.nat_le, List.Contains}
+use Rattle.rv_tree.specs.{declared.tree.Op.Op, Places.Sites}
 use Rattle.rv_base.specs.Limits.{heaviest}
-use Rattle.rv_tree.specs.Places.{Sites}
-use Rattle.rv_types.specs.declared.typed.Kind.{Kind}
+use Rattle.rv_types.specs.{declared.typed.Kind.Kind, Lists.sides_of, Variables.is_integer}
 use Rattle.rv_types.specs.declared.typed.Kind.TheVariants as kind
-use Rattle.rv_types.specs.Lists.{sides_of}
-use Rattle.rv_types.specs.Variables.{is_integer}
 use Rattle.rv_agreement.specs.Trees.{FlatTree, Node, TreeForm, FlatTrees, Constant, Flow, Memory, Ticked, Input, Not, Binary, Scale, If, AtMostOne, When}
 use Rattle.rv_agreement.specs.Trees.{Current, None, More, Item, nth_item, System, memory_items, memory_kinds, kind_at}
 use Rattle.rv_agreement.specs.Valuations.{Comparison, is_placed, own, comparisons, form_comparisons, comparisons_of, item_comparisons, all_items}
 use Rattle.rv_agreement.specs.Valuations.{all_comparisons}
 use Rattle.rv_agreement.specs.Agreement.{IsNamed, IsPlaced, Fits, FormFits, AllFit, ItemFits, IsWell}
 use Rattle.rv_agreement.proofs.Matching.{in_own, read_in, wider_item}
-use Rattle.rv_flat.specs.declared.flat.Flat.{Flat}
 use Rattle.rv_flat.specs.Facts.{form_flat_weight, is_light, form_is_light, all_light}
-use Rattle.rv_flat.specs.FlatInstants.{system_of}
-use Rattle.rv_flat.specs.Systems.{kept_of, memory_item}
-use Rattle.rv_flat.proofs.FlowWeights.{item_light}
+use Rattle.rv_flat.specs.{declared.flat.Flat.Flat, FlatInstants.system_of, Systems.kept_of, Systems.memory_item}
+use Rattle.rv_flat.proofs.{FlowWeights.item_light, Inlining.items_kept}
 use Rattle.rv_forms.specs.Terms.{weights_of}
-use Rattle.rv_tested.specs.declared.compared.Compared.{Compared}
-use Rattle.rv_tested.specs.Compared.{comparison_in, AreInside, IsInside}
-use Rattle.rv_flat.proofs.Inlining.{items_kept}
+use Rattle.rv_tested.specs.{declared.compared.Compared.Compared, Compared.comparison_in, Compared.AreInside, Compared.IsInside}
 use Rattle.rv_types.proofs.Members.{nothing_in, of_flat_map}
 
 pub integer_kind : (i : Kind) → is_integer i ≡ true → i ≡ kind.Int

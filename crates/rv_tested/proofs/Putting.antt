@@ -1,26 +1,17 @@
 -- One row after another is put to the answers of a test.
-use Rattle.std.proofs.Common.{◌≡◌, ◌≢◌, ◌⊎◌, inl, inr, ◌↔◌, ℕ, ◌+◌, ◌<◌, Bool, true, false, cond, ◌||◌, List, [], ◌∷◌, ◌++◌, length}
-use Rattle.std.proofs.Common.{refl, sym, ◌∙◌, ap, subst, arith, Option, Some}
-use Rattle.std.proofs.Common.{None as Nothing}
-use Rattle.std.specs.Prelude.{slice_set}
-use Rattle.std.proofs.lemmas.Bool.{cases_lt, cases_eq, false≢true}
-use Rattle.std.proofs.lemmas.List.{length-set, get_or_append_left, get_or-set_same, get_or-set_other}
+use Rattle.std.proofs.Common.{◌≡◌, ◌≢◌, ◌⊎◌, inl, inr, ◌↔◌, ℕ, ◌+◌, ◌<◌, Bool, true, false, cond, ◌||◌, List, [], ◌∷◌, ◌++◌, length, refl, sym, ◌∙◌, ap, subst}
+use Rattle.std.proofs.Common.{arith, Option, Some, None as Nothing}
+use Rattle.std.proofs.lemmas.Bool.{cases_lt, cases_eq, false≢true, or_left, or_right}
+use Rattle.std.proofs.lemmas.List.{length-set, get_or_append_left, get_or-set_same, get_or-set_other, length_push}
 use Rattle.std.proofs.Math.Seq.{get_or-append_seam}
-use Rattle.rv_rows.specs.declared.linear.Row.{Row}
-use Rattle.rv_rows.specs.Rows.{row_at}
-use Rattle.rv_diagram.specs.declared.Triple.{Triple}
-use Rattle.rv_diagram.specs.Nodes.{Valuation, Diagrams, IsRef, value_of}
-use Rattle.rv_diagram.specs.Several.{ref_at}
+use Rattle.std.specs.Prelude.{slice_set}
+use Rattle.rv_rows.specs.{declared.linear.Row.Row, Rows.row_at}
+use Rattle.rv_diagram.specs.{declared.Triple.Triple, Nodes.Valuation, Nodes.Diagrams, Nodes.IsRef, Nodes.value_of, Several.ref_at}
 use Rattle.rv_cases.specs.Conditions.{is_in}
 use Rattle.rv_symbolic.specs.Growing.{Extends}
-use Rattle.rv_tested.specs.declared.rows.Answered.{Answered}
-use Rattle.rv_tested.specs.Rows.{IsLaid, HasRows, IsPut, IsAnswered}
+use Rattle.rv_tested.specs.{declared.rows.Answered.Answered, Rows.IsLaid, Rows.HasRows, Rows.IsPut, Rows.IsAnswered}
 use Rattle.rv_cases.proofs.Gathering.{before-at}
-use Rattle.rv_base.proofs.Options.{some_same}
-use Rattle.rv_base.proofs.Truths.{or_false, or_true}
-use Rattle.std.proofs.lemmas.Bool.{or_left}
-use Rattle.std.proofs.lemmas.Bool.{or_right}
-use Rattle.std.proofs.lemmas.List.{length_push}
+use Rattle.rv_base.proofs.{Options.some_same, Truths.or_false, Truths.or_true}
 
 no_some : (r : Row) → Nothing ≡ Some r → ⊥
 no_some r e = cc

@@ -1,49 +1,28 @@
 -- The row of a test among comparisons, one after another.
-use Rattle.std.proofs.Common.{◌≡◌, ◌⊎◌, inl, inr, ◌↔◌, ℕ, zero, suc, ◌+◌, ◌<◌, Bool, true, false, ◌&&◌, cond, List, [], ◌∷◌, ◌++◌, length, refl, sym}
-use Rattle.std.proofs.Common.{◌∙◌, ap, subst, arith, Option, Some}
-use Rattle.std.proofs.Common.{None as Nothing}
+use Rattle.std.proofs.Common.{◌≡◌, ◌⊎◌, inl, inr, ◌↔◌, ℕ, zero, suc, ◌+◌, ◌<◌, Bool, true, false, ◌&&◌, cond, List, [], ◌∷◌, ◌++◌, length, refl, sym, ◌∙◌, ap}
+use Rattle.std.proofs.Common.{subst, arith, Option, Some, None as Nothing}
+use Rattle.std.proofs.lemmas.Bool.{cases_Bool, false≢true, and_left, and_right}
+use Rattle.std.proofs.{lemmas.Option.get_or_from_slice_get, lemmas.Option.slice_get_within, lemmas.List.map_more}
 use Rattle.std.specs.Prelude.{slice_get, is_none}
-use Rattle.std.proofs.lemmas.Bool.{cases_Bool, false≢true}
-use Rattle.std.proofs.lemmas.Option.{get_or_from_slice_get, slice_get_within}
-use Rattle.std.proofs.lemmas.List.{map_more}
-use Rattle.rv_tree.specs.declared.tree.Op.{Op}
+use Rattle.rv_tree.specs.{declared.tree.Op.Op, Places.Sites}
 use Rattle.rv_tree.specs.declared.tree.Op.TheVariants as op
-use Rattle.rv_tree.specs.Places.{Sites}
 use Rattle.rv_types.specs.Lists.{Side, Test, sides_of}
-use Rattle.rv_rows.specs.declared.linear.Row.{Row}
-use Rattle.rv_rows.specs.declared.linear.Form.{Form}
-use Rattle.rv_rows.specs.Rows.{row_at}
-use Rattle.rv_rows.specs.Arithmetic.{test_row}
-use Rattle.rv_diagram.specs.declared.Triple.{Triple}
-use Rattle.rv_diagram.specs.Nodes.{Valuation as Numbered, Diagrams, IsRef, value_of}
-use Rattle.rv_diagram.specs.Several.{ref_at}
+use Rattle.rv_rows.specs.{declared.linear.Row.Row, declared.linear.Form.Form, Rows.row_at, Arithmetic.test_row}
+use Rattle.rv_diagram.specs.{declared.Triple.Triple, Nodes.Valuation as Numbered, Nodes.Diagrams, Nodes.IsRef, Nodes.value_of, Several.ref_at}
 use Rattle.rv_diagram.proofs.Calls.{value_of-true}
-use Rattle.rv_agreement.specs.Agreement.{IsWell}
-use Rattle.rv_agreement.specs.Trees.{System}
-use Rattle.rv_agreement.specs.Evaluation.{is_there}
-use Rattle.rv_agreement.specs.Checks.{same_sites}
 use Rattle.rv_agreement.specs.Valuations.{Valuation, Reading, Linear, Comparison, Tested, is_of_integers, reads_at, read, side_form, tested, tested_form, width}
+use Rattle.rv_agreement.specs.{Agreement.IsWell, Trees.System, Evaluation.is_there, Checks.same_sites}
 use Rattle.rv_agreement.proofs.Chosen.{sites_itself, sites_told}
-use Rattle.rv_flat.specs.declared.flat.Flat.{Flat}
-use Rattle.rv_flat.specs.FlatInstants.{system_of}
-use Rattle.rv_control.specs.Control.{has_side, is_present, row_among}
-use Rattle.rv_control.specs.Named.{named, truth_at, variables_of}
-use Rattle.rv_control.specs.Symbolic.{symbolic}
-use Rattle.rv_control.specs.Tightening.{tightened}
+use Rattle.rv_flat.specs.{declared.flat.Flat.Flat, FlatInstants.system_of}
+use Rattle.rv_control.specs.{Control.has_side, Control.is_present, Control.row_among, Named.named, Named.truth_at, Named.variables_of, Symbolic.symbolic}
+use Rattle.rv_control.specs.{Tightening.tightened}
 use Rattle.rv_control.proofs.Readings.{is_symbolic}
 use Rattle.rv_symbolic.specs.Growing.{Extends}
-use Rattle.rv_terms.specs.declared.parted.Part.{Part}
-use Rattle.rv_terms.specs.Parts.{form_at}
+use Rattle.rv_terms.specs.{declared.parted.Part.Part, Parts.form_at}
 use Rattle.rv_cases.specs.Conditions.{is_in}
-use Rattle.rv_tested.specs.declared.compared.Compared.{Compared}
-use Rattle.rv_tested.specs.declared.rows.Answered.{Answered}
-use Rattle.rv_tested.specs.declared.testing.Sides.{Sides}
-use Rattle.rv_tested.specs.Compared.{comparison_in}
-use Rattle.rv_tested.specs.Rows.{IsAnswered, first_of}
-use Rattle.rv_tested.specs.Exact.{AreExact, row_answer}
 use Rattle.rv_tested.specs.Testing.{AreSidesRead, IsTestTerm, row_in, first_comparisons}
-use Rattle.std.proofs.lemmas.Bool.{and_left}
-use Rattle.std.proofs.lemmas.Bool.{and_right}
+use Rattle.rv_tested.specs.{declared.compared.Compared.Compared, declared.rows.Answered.Answered, declared.testing.Sides.Sides, Compared.comparison_in}
+use Rattle.rv_tested.specs.{Rows.IsAnswered, Rows.first_of, Exact.AreExact, Exact.row_answer}
 
 first_nothing : (a : Option Row) → a ≡ first_of a Nothing
 first_nothing Nothing = refl

@@ -1,37 +1,26 @@
 -- The terms of the sides of comparisons.
-use Rattle.std.proofs.Common.{◌≡◌, inl, inr, ℕ, ◌+◌, ◌*◌, ◌^◌, ◌<◌, ◌≤◌, ℤ, pos, negsuc, ◌+ℤ◌, ◌*ℤ◌, Bool, true, false, List, length}
-use Rattle.std.proofs.Common.{sym, ◌∙◌, ap, subst, arith, Option, All, get_or}
+use Rattle.std.proofs.Common.{◌≡◌, inl, inr, ℕ, ◌+◌, ◌*◌, ◌^◌, ◌<◌, ◌≤◌, ℤ, pos, negsuc, ◌+ℤ◌, ◌*ℤ◌, Bool, true, false, List, length, sym, ◌∙◌, ap, subst}
+use Rattle.std.proofs.Common.{arith, Option, All, get_or}
+use Rattle.std.proofs.{lemmas.Bool.cases_lt, lemmas.Bool.cases_Bool, lemmas.Int.ints, lemmas.Int.unsigned_abs-mul, lemmas.List.Elements.All-from_get_or}
 use Rattle.std.specs.Int.RustNames.{unsigned_abs}
-use Rattle.std.proofs.lemmas.Bool.{cases_lt, cases_Bool}
-use Rattle.std.proofs.lemmas.Int.{ints, unsigned_abs-mul}
-use Rattle.std.proofs.lemmas.List.Elements.{All-from_get_or}
 use Rattle.rv_base.specs.Limits.{heaviest}
 use Rattle.rv_types.specs.declared.typed.Kind.TheVariants as kind
-use Rattle.rv_rows.specs.declared.linear.Form.{Form}
 use Rattle.rv_rows.specs.Forms.{number, FormWithin, CanAdd, CanScale}
-use Rattle.rv_rows.specs.Arithmetic.{form_sum, form_times, form_difference}
-use Rattle.rv_diagram.specs.declared.Triple.{Triple}
-use Rattle.rv_diagram.specs.Nodes.{Valuation, Diagrams, IsRef, value_of}
-use Rattle.rv_agreement.specs.Agreement.{Fits}
-use Rattle.rv_agreement.specs.Trees.{FlatTree}
-use Rattle.rv_agreement.specs.Valuations.{Reading, Linear, Comparison, IsSymbolic}
-use Rattle.rv_flat.specs.declared.flat.Flat.{Flat}
-use Rattle.rv_flat.specs.FlatInstants.{system_of}
+use Rattle.rv_rows.specs.{declared.linear.Form.Form, Arithmetic.form_sum, Arithmetic.form_times, Arithmetic.form_difference}
+use Rattle.rv_diagram.specs.{declared.Triple.Triple, Nodes.Valuation, Nodes.Diagrams, Nodes.IsRef, Nodes.value_of}
+use Rattle.rv_agreement.specs.{Agreement.Fits, Trees.FlatTree, Valuations.Reading, Valuations.Linear, Valuations.Comparison, Valuations.IsSymbolic}
+use Rattle.rv_flat.specs.{declared.flat.Flat.Flat, FlatInstants.system_of}
 use Rattle.rv_control.specs.Named.{named}
 use Rattle.rv_control.proofs.Bounded.{IsBounded, times_bounded, difference_bounded}
 use Rattle.rv_symbolic.specs.Growing.{Extends}
-use Rattle.rv_terms.specs.declared.parted.Part.{Part}
-use Rattle.rv_terms.specs.declared.parted.Term.{Term}
 use Rattle.rv_terms.specs.Parts.{part_at, holds, form_at, term_width, AreDisjoint, AreFilled, IsTermOf}
+use Rattle.rv_terms.specs.{declared.parted.Part.Part, declared.parted.Term.Term}
 use Rattle.rv_terms.proofs.Combining.{form_is, form_later, form_width}
 use Rattle.rv_bits.specs.Shown.{is_there_at}
 use Rattle.rv_forms.specs.Terms.{columns_of, weight_in, IsWithin, ReadsAs}
-use Rattle.rv_tested.specs.declared.compared.Compared.{Compared}
-use Rattle.rv_tested.specs.declared.testing.Sides.{Sides}
-use Rattle.rv_tested.specs.Compared.{comparison_in}
 use Rattle.rv_tested.specs.Testing.{IsSideRead, AreSidesRead, AreAllRead, IsDifference}
-use Rattle.rv_forms.proofs.Bounds.{bounded, within_more}
-use Rattle.rv_forms.proofs.Kept.{to_terms, within_kept}
+use Rattle.rv_tested.specs.{declared.compared.Compared.Compared, declared.testing.Sides.Sides, Compared.comparison_in}
+use Rattle.rv_forms.proofs.{Bounds.bounded, Bounds.within_more, Kept.to_terms, Kept.within_kept}
 
 -- LATER
 

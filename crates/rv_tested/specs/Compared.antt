@@ -2,13 +2,8 @@
 use Rattle.std.specs.Prelude.{◌≡◌, ℕ, ◌<◌, true, List, length, Some, slice_get}
 use Rattle.rv_types.specs.declared.typed.Kind.TheVariants as kind
 use Rattle.rv_types.specs.Lists.{sides_of}
-use Rattle.rv_agreement.specs.Agreement.{Fits, IsNamed}
-use Rattle.rv_agreement.specs.Valuations.{Comparison}
-use Rattle.rv_flat.specs.declared.parts.FlatMemory.{FlatMemory}
-use Rattle.rv_flat.specs.declared.flat.Flat.{Flat}
-use Rattle.rv_flat.specs.Facts.{is_light}
-use Rattle.rv_flat.specs.FlatInstants.{system_of}
-use Rattle.rv_flat.specs.Inlined.{tree_among}
+use Rattle.rv_agreement.specs.{Agreement.Fits, Agreement.IsNamed, Valuations.Comparison}
+use Rattle.rv_flat.specs.{declared.parts.FlatMemory.FlatMemory, declared.flat.Flat.Flat, Facts.is_light, FlatInstants.system_of, Inlined.tree_among}
 use Rattle.rv_forms.specs.Terms.{weights_of}
 use Rattle.rv_tested.specs.declared.compared.Compared.{Compared}
 

@@ -1,16 +1,11 @@
 -- References that answer a question exactly, and questions whose answers are those of a system.
-use Rattle.std.specs.Prelude.{◌≡◌, ◌↔◌, ℕ, zero, suc, ◌+◌, ◌<◌, Bool, true, false, List, length, Option, Some, slice_index_or}
-use Rattle.std.specs.Prelude.{None as Nothing}
-use Rattle.rv_diagram.specs.declared.Triple.{Triple}
-use Rattle.rv_diagram.specs.Nodes.{Valuation, Diagrams}
-use Rattle.rv_rows.specs.declared.linear.Row.{Row}
-use Rattle.rv_rows.specs.declared.linear.Form.{Form}
-use Rattle.rv_rows.specs.Rows.{row_at}
+use Rattle.std.specs.Prelude.{◌≡◌, ◌↔◌, ℕ, zero, suc, ◌+◌, ◌<◌, Bool, true, false, List, length, Option, Some, slice_index_or, None as Nothing}
+use Rattle.rv_diagram.specs.{declared.Triple.Triple, Nodes.Valuation, Nodes.Diagrams}
+use Rattle.rv_rows.specs.{declared.linear.Row.Row, declared.linear.Form.Form, Rows.row_at}
 use Rattle.rv_proofs.specs.Systems.{System}
 use Rattle.rv_terms.specs.Parts.{no_form}
-use Rattle.rv_cases.specs.declared.asking.Questions.{Questions}
-use Rattle.rv_cases.specs.Conditions.{is_in, list_at, AreRefs}
 use Rattle.rv_cases.specs.Questions.{rows_at, forms_at, memory_answers, observer_answers}
+use Rattle.rv_cases.specs.{declared.asking.Questions.Questions, Conditions.is_in, Conditions.list_at, Conditions.AreRefs}
 
 -- Answer i is true exactly at the valuations at which f is value i. At each valuation f is one of the first n values, of which no
 -- two are equal.

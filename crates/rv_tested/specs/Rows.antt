@@ -1,11 +1,7 @@
 -- Rows of a test in the making, each under a reference.
-use Rattle.std.specs.Prelude.{◌≡◌, ◌↔◌, ℕ, ◌+◌, ◌<◌, Bool, true, cond, List, length, Option, Some, is_none}
-use Rattle.std.specs.Prelude.{None as Nothing}
-use Rattle.rv_diagram.specs.declared.Triple.{Triple}
-use Rattle.rv_diagram.specs.Nodes.{Valuation}
-use Rattle.rv_diagram.specs.Several.{ref_at}
-use Rattle.rv_rows.specs.declared.linear.Row.{Row}
-use Rattle.rv_rows.specs.Rows.{row_at}
+use Rattle.std.specs.Prelude.{◌≡◌, ◌↔◌, ℕ, ◌+◌, ◌<◌, Bool, true, cond, List, length, Option, Some, is_none, None as Nothing}
+use Rattle.rv_diagram.specs.{declared.Triple.Triple, Nodes.Valuation, Several.ref_at}
+use Rattle.rv_rows.specs.{declared.linear.Row.Row, Rows.row_at}
 use Rattle.rv_cases.specs.Conditions.{is_in, AreRefs}
 use Rattle.rv_tested.specs.declared.rows.Answered.{Answered}
 

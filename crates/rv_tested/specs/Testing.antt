@@ -3,31 +3,18 @@ use Rattle.std.specs.Prelude.{◌≡◌, ℕ, ◌+◌, ◌<◌, ◌^◌, true, n
 use Rattle.rv_base.specs.Limits.{heaviest}
 use Rattle.rv_types.specs.Lists.{Side, Variable}
 use Rattle.rv_tree.specs.Places.{Sites}
-use Rattle.rv_rows.specs.declared.linear.Row.{Row}
-use Rattle.rv_rows.specs.declared.linear.Form.{Form}
-use Rattle.rv_rows.specs.Arithmetic.{form_difference}
-use Rattle.rv_rows.specs.Forms.{FormWithin}
-use Rattle.rv_diagram.specs.declared.Triple.{Triple}
-use Rattle.rv_diagram.specs.Nodes.{Valuation, Diagrams, IsRef, value_of}
+use Rattle.rv_rows.specs.{declared.linear.Row.Row, declared.linear.Form.Form, Arithmetic.form_difference, Forms.FormWithin}
+use Rattle.rv_diagram.specs.{declared.Triple.Triple, Nodes.Valuation, Nodes.Diagrams, Nodes.IsRef, Nodes.value_of}
 use Rattle.rv_agreement.specs.Trees.{FlatTree}
 use Rattle.rv_agreement.specs.Valuations.{Reading, Linear, Comparison, IsSymbolic, read, side_form}
-use Rattle.rv_flat.specs.declared.flat.Flat.{Flat}
-use Rattle.rv_flat.specs.FlatInstants.{system_of}
-use Rattle.rv_control.specs.Control.{control_of, row_among, row_of}
-use Rattle.rv_control.specs.Named.{named}
-use Rattle.rv_control.specs.Symbolic.{symbolic}
+use Rattle.rv_flat.specs.{declared.flat.Flat.Flat, FlatInstants.system_of}
+use Rattle.rv_control.specs.{Control.control_of, Control.row_among, Control.row_of, Named.named, Symbolic.symbolic}
 use Rattle.rv_symbolic.specs.Growing.{Extends}
-use Rattle.rv_terms.specs.declared.parted.Part.{Part}
-use Rattle.rv_terms.specs.declared.parted.Term.{Term}
-use Rattle.rv_terms.specs.Parts.{form_at, part_at, AreRefs, AreDisjoint, Covers}
+use Rattle.rv_terms.specs.{declared.parted.Part.Part, declared.parted.Term.Term, Parts.form_at, Parts.part_at, Parts.AreRefs, Parts.AreDisjoint, Parts.Covers}
 use Rattle.rv_bits.specs.Shown.{is_there_at}
-use Rattle.rv_cases.specs.Questions.{rows_at}
-use Rattle.rv_cases.specs.Conditions.{list_at}
+use Rattle.rv_cases.specs.{Questions.rows_at, Conditions.list_at}
 use Rattle.rv_forms.specs.Terms.{columns_of, IsWithin}
-use Rattle.rv_tested.specs.declared.compared.Compared.{Compared}
-use Rattle.rv_tested.specs.declared.testing.Sides.{Sides}
-use Rattle.rv_tested.specs.Compared.{comparison_in}
-use Rattle.rv_tested.specs.Exact.{IsTestRead}
+use Rattle.rv_tested.specs.{declared.compared.Compared.Compared, declared.testing.Sides.Sides, Compared.comparison_in, Exact.IsTestRead}
 
 -- The parts are those of a term within the heaviest weight, which has the form of an expression wherever a clock is there.
 pub record IsSideRead (f : Flat) (nodes : List Triple) (k : Option ℕ) (t : FlatTree) (parts : List Part) : Type 0 where

@@ -1,7 +1,6 @@
 -- The one file that the words of a command `prove` name.
 use Rattle.std.proofs.Common.{◌≡◌, inl, inr, ℕ, Bool, List, Some, ap, subst, sym}
-use Rattle.rv_words.specs.Asked.{prove}
-use Rattle.rv_words.specs.Words.{command}
+use Rattle.rv_words.specs.{Asked.prove, Words.command}
 use Rattle.rv_run.specs.Words.{IsNamed, wanted, wanted_of}
 use Rattle.rv_run.proofs.Named.{same_pair}
 use Rattle.rv_base.proofs.Options.{some_none}

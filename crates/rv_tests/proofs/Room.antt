@@ -1,16 +1,10 @@
 -- Numbers within limits meet the conditions of `substitute`.
-use Rattle.std.proofs.Common.{◌≡◌, ℕ, suc, zero, ◌*◌, ◌≤◌, ◌<◌, ◌^◌, ℤ, pos, ◌*ℤ◌, List, [], ◌∷◌, All, map, length, take, get_or, zero-le, arith, ◌⊎◌, inl}
-use Rattle.std.proofs.Common.{inr}
-use Rattle.std.proofs.Math.Nat.{mul-le-mul}
-use Rattle.std.proofs.lemmas.Int.{unsigned_abs-mul}
-use Rattle.std.proofs.lemmas.Bool.{cases_lt}
-use Rattle.std.proofs.lemmas.List.{get_or_past}
+use Rattle.std.proofs.Common.{◌≡◌, ℕ, suc, zero, ◌*◌, ◌≤◌, ◌<◌, ◌^◌, ℤ, pos, ◌*ℤ◌, List, [], ◌∷◌, All, map, length, take, get_or, zero-le, arith, ◌⊎◌, inl, inr}
 use Rattle.std.proofs.lemmas.List.Elements.{All-head, All-tail, All-map}
+use Rattle.std.proofs.{Math.Nat.mul-le-mul, lemmas.Int.unsigned_abs-mul, lemmas.Bool.cases_lt, lemmas.List.get_or_past}
 use Rattle.std.specs.Int.RustNames.{unsigned_abs}
-use Rattle.rv_rows.specs.declared.linear.Row.{Row}
-use Rattle.rv_rows.specs.declared.linear.Form.{Form}
-use Rattle.rv_rows.specs.Rows.{dot, RowWithin}
 use Rattle.rv_rows.specs.Forms.{number, CanSubstitute, FormWithin, forms_width}
+use Rattle.rv_rows.specs.{declared.linear.Row.Row, declared.linear.Form.Form, Rows.dot, Rows.RowWithin}
 use Rattle.rv_rows.proofs.IntLemmas.{abs-add}
 
 number_within : (n : ℕ) (cs : List ℤ) → All (λ c. unsigned_abs c ≤ n) cs → (k : ℕ) → unsigned_abs (number k cs) ≤ n

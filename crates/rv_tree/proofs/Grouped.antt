@@ -1,15 +1,10 @@
 -- The groups of flows, as one more flow comes.
-use Rattle.std.proofs.Common.{◌≡◌, ◌<◌, ℕ, zero, suc, List, [], ◌∷◌, ◌++◌, length, map, get_or, arith, append_assoc, length-append}
-use Rattle.std.proofs.Common.{refl, sym, ap, ◌∙◌, inl, inr, ◌⊎◌}
+use Rattle.std.proofs.Common.{◌≡◌, ◌<◌, ℕ, zero, suc, List, [], ◌∷◌, ◌++◌, length, map, get_or, arith, append_assoc, length-append, refl, sym, ap, ◌∙◌, inl}
+use Rattle.std.proofs.Common.{inr, ◌⊎◌}
+use Rattle.std.proofs.{lemmas.List.append-nil, lemmas.List.get_or_append_left, Math.Nat.eq-or-lt_of_le, Math.Seq.get_or-append_seam, Math.Seq.take-append_seam}
 use Rattle.std.specs.Prelude.{false, Result, Ok, Err, OnOk, OnErr, Option, Some, take, slice_get, option_map}
 use Rattle.std.specs.Result.{is_err}
-use Rattle.std.proofs.lemmas.List.{append-nil, get_or_append_left}
-use Rattle.std.proofs.Math.Nat.{eq-or-lt_of_le}
-use Rattle.std.proofs.Math.Seq.{get_or-append_seam, take-append_seam}
-use Rattle.rv_tree.specs.declared.tree.Decl.{Decl}
-use Rattle.rv_tree.specs.declared.tree.Name.{Name}
-use Rattle.rv_tree.specs.declared.tree.TypeName.{TypeName}
-use Rattle.rv_tree.specs.Groups.{AreAlike, AreGroups, flow}
+use Rattle.rv_tree.specs.{declared.tree.Decl.Decl, declared.tree.Name.Name, declared.tree.TypeName.TypeName, Groups.AreAlike, Groups.AreGroups, Groups.flow}
 
 slice_get_front : {A : Type 0} → (xs ys : List A) (i : ℕ) → i < length xs → slice_get (xs ++ ys) i ≡ slice_get xs i
 slice_get_front [] ys i p = absurd (omega arith)

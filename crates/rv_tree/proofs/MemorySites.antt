@@ -1,13 +1,10 @@
 -- The sites of the memories of a node are those of its delays, each once and in rising order.
 use Rattle.std.proofs.Common.{◌≡◌, ◌⊎◌, inl, inr, ℕ, zero, suc, ◌<◌, ◌≤◌, Bool, true, false, cond, List, [], ◌∷◌, length, get_or, refl, sym, ◌∙◌, ap, subst}
 use Rattle.std.proofs.Common.{arith}
-use Rattle.std.proofs.lemmas.Bool.{ltb-true, ltb-false}
-use Rattle.std.proofs.lemmas.List.{length-map, get_or-map}
-use Rattle.std.specs.Prelude.{nat_eq, nat_lt}
-use Rattle.std.specs.List.{Contains}
-use Rattle.rv_tree.specs.Tree.{NodeTree}
-use Rattle.rv_tree.specs.Places.{memory_site}
+use Rattle.std.proofs.{lemmas.Bool.ltb-true, lemmas.Bool.ltb-false, lemmas.List.length-map, lemmas.List.get_or-map}
+use Rattle.std.specs.{Prelude.nat_eq, Prelude.nat_lt, List.Contains}
 use Rattle.rv_tree.specs.Delays.{Delay, node_delays, placed, gathered, delay_sites, memory_sites}
+use Rattle.rv_tree.specs.{Tree.NodeTree, Places.memory_site}
 
 -- each of these numbers is above s
 abbrev AreAbove : ℕ → List ℕ → Type 0

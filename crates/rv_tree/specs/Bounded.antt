@@ -1,12 +1,8 @@
 -- How large the parts of a program's tree are at most.
-use Rattle.std.specs.Prelude.{◌≤◌, ◌≡◌, ℕ, List, length}
-use Rattle.std.specs.List.{Contains}
-use Rattle.rv_tree.specs.declared.tree.Name.{Name}
-use Rattle.rv_tree.specs.declared.tree.TypeDecl.{TypeDecl}
-use Rattle.rv_tree.specs.declared.tree.TypeBody.TheVariants.{Labels}
+use Rattle.std.specs.{Prelude.◌≤◌, Prelude.◌≡◌, Prelude.ℕ, Prelude.List, Prelude.length, List.Contains}
 use Rattle.rv_tree.specs.Tree.{NodeTree, ProgramTree}
+use Rattle.rv_tree.specs.{declared.tree.Name.Name, declared.tree.TypeDecl.TypeDecl, declared.tree.TypeBody.TheVariants.Labels, Places.flows}
 use Rattle.rv_base.specs.Limits.{source_limit}
-use Rattle.rv_tree.specs.Places.{flows}
 
 -- the most that a source has of anything: it has no more than bytes
 abbrev pub most : ℕ

@@ -4,8 +4,7 @@ use Rattle.std.specs.List.{Contains}
 use Rattle.rv_base.specs.Limits.{source_limit}
 use Rattle.rv_tree.specs.Tree.{Tree, Node, Form, True, False, Number, Named, Not, Minus, Pre, Current, When, Binary, If, AtMostOne, Call, Trees, None, More}
 use Rattle.rv_tree.specs.Tree.{EquationTree, AssertionTree, NodeTree}
-use Rattle.rv_tree.specs.Places.{flows, memory_site}
-use Rattle.rv_tree.specs.SitedParts.{SitedPart, node_parts}
+use Rattle.rv_tree.specs.{Places.flows, Places.memory_site, SitedParts.SitedPart, SitedParts.node_parts}
 
 -- a `pre` or `current`, by its site and its operand
 pub record Delay : Type 0 where

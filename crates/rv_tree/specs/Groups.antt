@@ -1,8 +1,6 @@
 -- Groups of flows: names that share one written type and one clock.
 use Rattle.std.specs.Prelude.{◌≡◌, ℕ, ◌<◌, ◌≤◌, List, length, map, get_or, Option, slice_get, option_map}
-use Rattle.rv_tree.specs.declared.tree.Decl.{Decl}
-use Rattle.rv_tree.specs.declared.tree.Name.{Name}
-use Rattle.rv_tree.specs.declared.tree.TypeName.{TypeName}
+use Rattle.rv_tree.specs.{declared.tree.Decl.Decl, declared.tree.Name.Name, declared.tree.TypeName.TypeName}
 
 -- the declaration of a flow of this type, on this clock where it has one
 abbrev pub flow : TypeName → Option Name → Name → Decl

@@ -2,8 +2,7 @@
 -- instance, and then one site in its node.
 use Rattle.std.specs.Prelude.{ℕ, ◌+◌, Bool, false, ◌||◌, cond, nat_eq, List, [], ◌∷◌, ◌++◌, map, unwrap_or, Option}
 use Rattle.std.specs.Cmp.Lexicographic.{pointwise}
-use Rattle.rv_tree.specs.declared.tree.Decl.{Decl}
-use Rattle.rv_tree.specs.Tree.{Tree, Node, Form, Named, NodeTree}
+use Rattle.rv_tree.specs.{declared.tree.Decl.Decl, Tree.Tree, Tree.Node, Tree.Form, Tree.Named, Tree.NodeTree}
 
 -- a name, by its bytes
 abbrev pub Identifier : Type 0

@@ -1,9 +1,8 @@
 -- What has a site in a node beside its flows: every `pre`, `current`, call, comparison and assertion.
 use Rattle.std.specs.Prelude.{ℕ, cond, List, [], ◌∷◌, ◌++◌, Option, Some}
-use Rattle.rv_tree.specs.declared.tree.Op.{Op}
 use Rattle.rv_tree.specs.Tree.{Tree, Node, Form, True, False, Number, Named, Not, Minus, Pre, Current, When, Binary, If, AtMostOne, Call, Trees, None, More}
 use Rattle.rv_tree.specs.Tree.{EquationTree, AssertionTree, NodeTree}
-use Rattle.rv_tree.specs.Sites.{is_comparison}
+use Rattle.rv_tree.specs.{declared.tree.Op.Op, Sites.is_comparison}
 
 -- one of them, by its offset and its site
 pub record SitedPart : Type 0 where

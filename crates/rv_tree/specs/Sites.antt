@@ -1,12 +1,10 @@
 -- The sites of a node: first its flows, then each `pre`, `current`, call, comparison and assertion, numbered in the
 -- order of their offsets. Nothing else has a site.
-use Rattle.std.specs.Prelude.{ℕ, ◌+◌, Bool, true, false, cond, nat_lt, List, [], ◌∷◌, ◌++◌, map, length, Option, Some}
-use Rattle.std.specs.Prelude.{None as Nothing}
-use Rattle.rv_tree.specs.declared.tree.Op.{Op}
-use Rattle.rv_tree.specs.declared.tree.Op.TheVariants as op
+use Rattle.std.specs.Prelude.{ℕ, ◌+◌, Bool, true, false, cond, nat_lt, List, [], ◌∷◌, ◌++◌, map, length, Option, Some, None as Nothing}
 use Rattle.rv_tree.specs.Tree.{Tree, Node, Form, True, False, Number, Named, Not, Minus, Pre, Current, When, Binary, If, AtMostOne, Call, Trees, None, More}
 use Rattle.rv_tree.specs.Tree.{EquationTree, AssertionTree, NodeTree}
-use Rattle.rv_tree.specs.Places.{flows}
+use Rattle.rv_tree.specs.{declared.tree.Op.Op, Places.flows}
+use Rattle.rv_tree.specs.declared.tree.Op.TheVariants as op
 
 -- the comparison operators, those of level 5
 abbrev pub is_comparison : Op → Bool

@@ -1,9 +1,6 @@
 -- What is so of the tree of every source. The rules of names, types, clocks and order take a tree by this alone.
-use Rattle.std.specs.Prelude.{◌≡◌, ◌<◌, List, ◌∷◌, ◌++◌}
-use Rattle.std.specs.List.{All, Contains}
-use Rattle.rv_tree.specs.Bounded.{IsBounded}
-use Rattle.rv_tree.specs.Delays.{IsNumbered}
-use Rattle.rv_tree.specs.Tree.{ConstantTree, NodeTree, ProgramTree}
+use Rattle.std.specs.{Prelude.◌≡◌, Prelude.◌<◌, Prelude.List, Prelude.◌∷◌, Prelude.◌++◌, List.All, List.Contains}
+use Rattle.rv_tree.specs.{Bounded.IsBounded, Delays.IsNumbered, Tree.ConstantTree, Tree.NodeTree, Tree.ProgramTree}
 
 -- No list is longer than a source may be, the sites of each node are numbered, and each constant has a later offset than all
 -- that stand before it.

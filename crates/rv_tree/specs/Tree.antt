@@ -1,19 +1,11 @@
 -- The tree of a program without where its parts lie in memory: all definitions recurse over it.
 use Rattle.std.specs.Prelude.{ℕ, List, [], ◌∷◌, map, Option}
-use Rattle.rv_tree.specs.declared.tree.Op.{Op}
-use Rattle.rv_tree.specs.declared.tree.Name.{Name}
-use Rattle.rv_tree.specs.declared.tree.TypeName.{TypeName}
-use Rattle.rv_tree.specs.declared.tree.TypeDecl.{TypeDecl}
-use Rattle.rv_tree.specs.declared.tree.Decl.{Decl}
-use Rattle.rv_tree.specs.declared.tree.ConstDecl.{ConstDecl}
-use Rattle.rv_tree.specs.declared.tree.Equation.{Equation}
-use Rattle.rv_tree.specs.declared.tree.Assertion.{Assertion}
+use Rattle.rv_tree.specs.{declared.tree.Op.Op, declared.tree.Name.Name, declared.tree.TypeName.TypeName, declared.tree.TypeDecl.TypeDecl}
+use Rattle.rv_tree.specs.{declared.tree.Decl.Decl, declared.tree.ConstDecl.ConstDecl, declared.tree.Equation.Equation, declared.tree.Assertion.Assertion}
+use Rattle.rv_tree.specs.{declared.tree.Program.Program, declared.tree.Expr.Expr, declared.tree.ExprForm.TheOpen.ExprForm-F}
+use Rattle.rv_tree.specs.{declared.tree.ExprForm.TheFolds.fold-Expr}
 use Rattle.rv_tree.specs.declared.tree.Node as declared
-use Rattle.rv_tree.specs.declared.tree.Program.{Program}
-use Rattle.rv_tree.specs.declared.tree.Expr.{Expr}
-use Rattle.rv_tree.specs.declared.tree.ExprForm.TheOpen.{ExprForm-F}
 use Rattle.rv_tree.specs.declared.tree.ExprForm.TheOpen as step
-use Rattle.rv_tree.specs.declared.tree.ExprForm.TheFolds.{fold-Expr}
 
 -- an expression: its offset, its site where it has one, and what it is made of
 mutual

@@ -1,11 +1,8 @@
 -- The names in the text of a program.
 use Rattle.std.specs.Prelude.{◌≡◌, ◌&&◌, ◌||◌, ℕ, Bool, true, nat_le, nat_eq, List}
 use Rattle.std.specs.List.{Contains, list_all}
-use Rattle.rv_tree.specs.declared.tree.Decl.{Decl}
-use Rattle.rv_tree.specs.declared.tree.Name.{Name}
-use Rattle.rv_tree.specs.declared.tree.TypeBody.TheVariants.{Labels}
-use Rattle.rv_tree.specs.declared.tree.TypeDecl.{TypeDecl}
 use Rattle.rv_tree.specs.Tree.{NodeTree, ProgramTree}
+use Rattle.rv_tree.specs.{declared.tree.Decl.Decl, declared.tree.Name.Name, declared.tree.TypeBody.TheVariants.Labels, declared.tree.TypeDecl.TypeDecl}
 
 -- a letter of ASCII, a digit or `_`
 abbrev pub is_name_byte : ℕ → Bool

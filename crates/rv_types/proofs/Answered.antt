@@ -1,16 +1,11 @@
 -- A program is settled in one way, or refused by one fault, and never both.
 use Rattle.std.proofs.Common.{◌≡◌, ◌⊎◌, inl, inr, cond, IsTrue, List, [], ◌∷◌, Result, Ok, Err, IfOk, IfErr, refl, sym, ap, ◌∙◌}
-use Rattle.rv_tree.specs.Tree.{ProgramTree}
-use Rattle.rv_tree.specs.Places.{Identifier}
-use Rattle.rv_types.specs.declared.fault.NameFault.{NameFault}
+use Rattle.rv_tree.specs.{Tree.ProgramTree, Places.Identifier}
 use Rattle.rv_types.specs.declared.fault.NameFault.TheVariants.{NoNode, UnknownName, DefinedTwice, Undefined, TypeClash, Nonlinear, ClockClash, NotObserver}
 use Rattle.rv_types.specs.declared.fault.NameFault.TheVariants.{Memory}
-use Rattle.rv_types.specs.declared.typed.Typed.{Typed}
-use Rattle.rv_types.specs.Names.{is_declared, node_names, name_faults}
-use Rattle.rv_types.specs.Scopes.{type_faults, observer_faults}
-use Rattle.rv_types.specs.Clocks.{clock_faults}
-use Rattle.rv_types.specs.Faults.{IsFirstOfGroups}
 use Rattle.rv_types.specs.Settled.{IsSettled, IsFirstFault, HasCause, Answers, Refuses, groups, node_faults}
+use Rattle.rv_types.specs.{declared.fault.NameFault.NameFault, declared.typed.Typed.Typed, Names.is_declared, Names.node_names, Names.name_faults}
+use Rattle.rv_types.specs.{Scopes.type_faults, Scopes.observer_faults, Clocks.clock_faults, Faults.IsFirstOfGroups}
 use Rattle.rv_types.proofs.OneFault.{one_of_groups, none_first}
 
 pub one_way : (p : ProgramTree) (main : Identifier) (t u : Typed) → IsSettled p main t → IsSettled p main u → t ≡ u

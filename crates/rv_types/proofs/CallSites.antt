@@ -1,14 +1,13 @@
 -- The calls of a node are among what has a site there, and so have sites of their own.
 use Rattle.std.proofs.Common.{◌≡◌, inl, inr, ℕ, zero, suc, ◌<◌, ◌≤◌, List, [], ◌∷◌, ◌++◌, length, get_or, refl, sym, ◌∙◌, ap, subst, arith, Option, Some}
 use Rattle.std.proofs.Common.{unwrap_or}
-use Rattle.std.specs.List.{Contains}
 use Rattle.std.proofs.lemmas.Bool.{cases_order}
 use Rattle.std.proofs.lemmas.List.Elements.{Contains-get_or, Contains-append_left, Contains-append_right}
+use Rattle.std.specs.List.{Contains}
 use Rattle.rv_tree.specs.Tree.{Tree, Node, Form, True, False, Number, Named, Not, Minus, Pre, Current, When, Binary, If, AtMostOne, Call, Trees, None, More}
 use Rattle.rv_tree.specs.Tree.{EquationTree, AssertionTree, NodeTree}
-use Rattle.rv_tree.specs.Places.{flows}
 use Rattle.rv_tree.specs.SitedParts.{SitedPart, part, comparison, parts, form_parts, trees_parts, equation_parts, assertion_parts, node_parts}
-use Rattle.rv_tree.specs.Delays.{IsNumbered}
+use Rattle.rv_tree.specs.{Places.flows, Delays.IsNumbered}
 use Rattle.rv_types.specs.Instances.{CallTree, calls_in, form_calls, calls_in_all, calls_in_equations, calls_in_assertions, calls}
 use Rattle.rv_types.specs.WellFormed.{HasSites}
 use Rattle.rv_types.proofs.Members.{nothing_in, cons_cases, at_head, stands_at}

@@ -1,14 +1,10 @@
 -- Chains of clocks end within a number of steps or not at all.
 use Rattle.std.proofs.Common.{◌≡◌, ℕ, zero, suc, ◌+◌, ◌-◌, ◌<◌, ◌≤◌, ◌⊎◌, inl, inr, Bool, true, false, cond, List, [], ◌∷◌, length, map, slice_index_or}
 use Rattle.std.proofs.Common.{zero-add, add-zero, refl, sym, ap, subst, ◌∙◌, arith}
-use Rattle.std.proofs.lemmas.Bool.{cases_lt}
-use Rattle.std.proofs.Math.Nat.{suc-add, add-suc}
-use Rattle.std.proofs.Math.ListN.{get_or-map}
+use Rattle.std.proofs.{lemmas.Bool.cases_lt, Math.Nat.suc-add, Math.Nat.add-suc, Math.ListN.get_or-map}
 use Rattle.rv_tree.specs.Tree.{NodeTree}
-use Rattle.rv_types.specs.declared.typed.Clock.{Clock}
-use Rattle.rv_types.specs.declared.typed.Clock.TheVariants.{Base, On}
-use Rattle.rv_types.specs.Clocks.{IsGrounded, at_base, through, ends, flow_clocks, clock_at}
-use Rattle.rv_types.specs.Chains.{follow, after, is_base}
+use Rattle.rv_types.specs.{declared.typed.Clock.Clock, declared.typed.Clock.TheVariants.Base, declared.typed.Clock.TheVariants.On, Clocks.IsGrounded}
+use Rattle.rv_types.specs.{Clocks.at_base, Clocks.through, Clocks.ends, Clocks.flow_clocks, Clocks.clock_at, Chains.follow, Chains.after, Chains.is_base}
 use Rattle.rv_base.proofs.Truths.{bit_most, bits_within}
 
 -- How many numbers below a bound pass a test.

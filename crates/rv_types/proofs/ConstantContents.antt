@@ -1,32 +1,23 @@
 -- A constant expression that has a type has a value of that type.
 use Rattle.std.proofs.Common.{◌≡◌, ℕ, suc, ◌+◌, ◌<◌, max, Bool, true, false, cond, ◌&&◌, ◌||◌, List, [], ◌∷◌, reverse, length, nat_abs, Option, Some, refl, sym}
-use Rattle.std.proofs.Common.{◌∙◌, ap, subst, arith}
-use Rattle.std.proofs.Common.{None as Nothing}
-use Rattle.std.specs.Prelude.{ℤ, pos, nat_le}
+use Rattle.std.proofs.Common.{◌∙◌, ap, subst, arith, None as Nothing}
 use Rattle.std.proofs.lemmas.Bool.{eqb-true}
-use Rattle.rv_base.specs.declared.value.Value.{Value}
+use Rattle.std.specs.Prelude.{ℤ, pos, nat_le}
 use Rattle.rv_base.specs.declared.value.Value.TheVariants.{Flag, Label, Whole}
-use Rattle.rv_base.specs.Limits.{heaviest, too_heavy}
-use Rattle.rv_tree.specs.declared.tree.Name.{Name}
-use Rattle.rv_tree.specs.declared.tree.Op.{Op}
+use Rattle.rv_base.specs.{declared.value.Value.Value, Limits.heaviest, Limits.too_heavy}
+use Rattle.rv_tree.specs.{declared.tree.Name.Name, declared.tree.Op.Op, declared.tree.TypeDecl.TypeDecl, declared.tree.TypeName.TypeName, Tree.Tree, Tree.Node}
+use Rattle.rv_tree.specs.{Tree.Form, Tree.True, Tree.False, Tree.Number, Tree.Named, Tree.Not, Tree.Minus, Tree.Pre, Tree.Current, Tree.When, Tree.Binary}
+use Rattle.rv_tree.specs.{Tree.If, Tree.AtMostOne, Tree.Call, Tree.ConstantTree, Tree.ProgramTree, Places.Identifier, Places.is_same}
 use Rattle.rv_tree.specs.declared.tree.Op.TheVariants as op
-use Rattle.rv_tree.specs.declared.tree.TypeDecl.{TypeDecl}
-use Rattle.rv_tree.specs.declared.tree.TypeName.{TypeName}
-use Rattle.rv_tree.specs.Tree.{Tree, Node, Form, True, False, Number, Named, Not, Minus, Pre, Current, When, Binary, If, AtMostOne, Call, ConstantTree}
-use Rattle.rv_tree.specs.Tree.{ProgramTree}
-use Rattle.rv_tree.specs.Places.{Identifier, is_same}
-use Rattle.rv_types.specs.declared.typed.Kind.{Kind}
-use Rattle.rv_types.specs.declared.typed.Kind.TheVariants as kind
-use Rattle.rv_types.specs.declared.fault.Verdict.{Verdict}
 use Rattle.rv_types.specs.declared.fault.Verdict.TheVariants.{Has, Silent, Clashes, Multiplies}
-use Rattle.rv_types.specs.Names.{labels_of}
 use Rattle.rv_types.specs.Kinds.{LabelPlace, number_from, label_from, label_of, kind_in_program}
 use Rattle.rv_types.specs.Types.{same_kind, where_met, one_of, two_of, three_of, binary_rule, memory_rule, if_rule, all_typed, all_suit, at_most_one_of}
 use Rattle.rv_types.specs.Types.{kind_in, kind_of, form_verdict, kinds_of_all, is_constant}
 use Rattle.rv_types.specs.Constants.{counted, counted_part, value_under, weight_under, value_of, form_value, weight_of, flag_in, whole_in}
 use Rattle.rv_types.specs.Scopes.{constant_scope, label_kind, label_value, as_declared, constant_kind_after, constant_value_after, constant_kind}
 use Rattle.rv_types.specs.Scopes.{constant_value}
-use Rattle.rv_types.specs.Values.{HasKind, labels_at}
+use Rattle.rv_types.specs.{declared.typed.Kind.Kind, declared.fault.Verdict.Verdict, Names.labels_of, Values.HasKind, Values.labels_at}
+use Rattle.rv_types.specs.declared.typed.Kind.TheVariants as kind
 
 -- what a rule gives where it is met, and nothing otherwise
 pub met_kind : (b : Bool) (j k : Kind) → kind_in (where_met b j) ≡ Some k → j ≡ k

@@ -1,33 +1,21 @@
 -- Where no rule of names and types is broken, each constant and label has a type.
 use Rattle.std.proofs.Common.{◌≡◌, inl, inr, ℕ, zero, suc, ◌+◌, ◌<◌, ◌≤◌, Bool, true, false, cond, ◌||◌, List, [], ◌∷◌, ◌++◌, map, flat_map, reverse, length}
-use Rattle.std.proofs.Common.{get_or, nat_lt, refl, sym, ◌∙◌, ap, subst, arith, Option, Some, is_some, append-nil, append_assoc}
-use Rattle.std.proofs.Common.{None as Nothing}
-use Rattle.std.specs.List.{Contains}
+use Rattle.std.proofs.Common.{get_or, nat_lt, refl, sym, ◌∙◌, ap, subst, arith, Option, Some, is_some, append-nil, append_assoc, None as Nothing}
 use Rattle.std.proofs.lemmas.Bool.{le-ltb, or_cases, or_left, or_right}
 use Rattle.std.proofs.lemmas.List.{reverse-append, map-append, get_or-append-add, length-append}
 use Rattle.std.proofs.lemmas.List.Elements.{Contains-append_left, Contains-append_right, Contains-push}
-use Rattle.rv_tree.specs.declared.tree.Name.{Name}
-use Rattle.rv_tree.specs.declared.tree.TypeDecl.{TypeDecl}
-use Rattle.rv_tree.specs.declared.tree.TypeName.{TypeName}
-use Rattle.rv_tree.specs.Tree.{ConstantTree, ProgramTree}
-use Rattle.rv_tree.specs.Places.{Identifier, is_same}
-use Rattle.rv_types.specs.declared.typed.Kind.{Kind}
-use Rattle.rv_types.specs.declared.typed.Kind.TheVariants.{Labels}
-use Rattle.rv_types.specs.declared.fault.NameFault.{NameFault}
-use Rattle.rv_types.specs.declared.fault.NameFault.TheVariants.{TypeClash}
-use Rattle.rv_types.specs.Parts.{offset_of}
+use Rattle.std.specs.List.{Contains}
+use Rattle.rv_tree.specs.{declared.tree.Name.Name, declared.tree.TypeDecl.TypeDecl, declared.tree.TypeName.TypeName, Tree.ConstantTree, Tree.ProgramTree}
+use Rattle.rv_tree.specs.{Places.Identifier, Places.is_same}
 use Rattle.rv_types.specs.Names.{texts, is_declared, stands_before, labels_of, constant_names, label_names, node_names, type_names, type_use, uses}
 use Rattle.rv_types.specs.Names.{is_value_before, is_clock_anyhow, constant_uses}
 use Rattle.rv_types.specs.Kinds.{LabelPlace, number_from, label_from, label_of, kind_in_program}
-use Rattle.rv_types.specs.Types.{same_kind, kind_of, expression_types}
 use Rattle.rv_types.specs.Scopes.{constant_scope, label_kind, as_declared, constant_kind_after, constant_kind, constant_types_after, constant_types}
 use Rattle.rv_types.specs.Scopes.{clash_unless}
-use Rattle.rv_types.proofs.FirstNames.{declared_append, before_append}
-use Rattle.rv_types.proofs.Turned.{twice}
-use Rattle.rv_types.proofs.RightNames.{both_empty}
-use Rattle.rv_types.proofs.NodeFlows.{none_of}
+use Rattle.rv_types.specs.{declared.typed.Kind.Kind, declared.typed.Kind.TheVariants.Labels, declared.fault.NameFault.NameFault}
+use Rattle.rv_types.specs.{declared.fault.NameFault.TheVariants.TypeClash, Parts.offset_of, Types.same_kind, Types.kind_of, Types.expression_types}
 use Rattle.rv_types.proofs.Members.{nothing_in, cons_cases, at_head, in_map, among_from, among_contains}
-use Rattle.rv_types.proofs.ExpressionKinds.{typed}
+use Rattle.rv_types.proofs.{FirstNames.declared_append, FirstNames.before_append, Turned.twice, RightNames.both_empty, NodeFlows.none_of, ExpressionKinds.typed}
 use Rattle.rv_base.proofs.Lists.{from_map}
 
 -- What stands in a list stands in it turned round.

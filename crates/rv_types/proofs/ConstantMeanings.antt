@@ -1,39 +1,23 @@
 -- What the name of a constant or label means is what the tables have.
 use Rattle.std.proofs.Common.{◌≡◌, ℕ, ◌≤◌, Bool, true, false, cond, nat_eq, List, [], ◌∷◌, ◌++◌, map, reverse, length, Option, Some, refl, sym, ap, subst, ◌∙◌}
-use Rattle.std.proofs.Common.{arith, slice_get, ◌⊎◌, inl, inr, nat_abs, append-nil}
-use Rattle.std.proofs.Common.{None as Nothing}
+use Rattle.std.proofs.Common.{arith, slice_get, ◌⊎◌, inl, inr, nat_abs, append-nil, None as Nothing}
+use Rattle.std.proofs.{lemmas.List.map-append, lemmas.Bool.Decides.nat_tests}
 use Rattle.std.specs.Option.{option_map}
-use Rattle.std.proofs.lemmas.List.{map-append}
-use Rattle.std.proofs.lemmas.Bool.Decides.{nat_tests}
-use Rattle.rv_base.specs.declared.value.Value.{Value}
-use Rattle.rv_base.specs.declared.value.Value.TheVariants.{Flag}
+use Rattle.rv_base.specs.{declared.value.Value.Value, declared.value.Value.TheVariants.Flag, Limits.too_heavy}
 use Rattle.rv_base.specs.declared.value.Value.TheVariants as value
-use Rattle.rv_tree.specs.declared.tree.Name.{Name}
-use Rattle.rv_tree.specs.declared.tree.TypeName.{TypeName}
-use Rattle.rv_tree.specs.Tree.{ConstantTree, ProgramTree}
 use Rattle.rv_tree.specs.Places.{Identifier, is_same, index_of}
-use Rattle.rv_types.specs.declared.typed.Kind.{Kind}
-use Rattle.rv_types.specs.declared.typed.Kind.TheVariants.{Labels}
-use Rattle.rv_types.specs.declared.view.Label.{Label}
-use Rattle.rv_types.specs.declared.fault.NameFault.{NameFault}
-use Rattle.rv_types.specs.Parts.{offset_of}
+use Rattle.rv_tree.specs.{declared.tree.Name.Name, declared.tree.TypeName.TypeName, Tree.ConstantTree, Tree.ProgramTree}
 use Rattle.rv_types.specs.Names.{texts, is_declared, type_names, constant_names, label_names, repeated}
-use Rattle.rv_types.specs.Kinds.{LabelPlace, kind_after, kind_in_program, label_of}
-use Rattle.rv_types.specs.Types.{kind_of, expression_types}
-use Rattle.rv_types.specs.Constants.{value_of, whole_in}
 use Rattle.rv_types.specs.Scopes.{label_kind, label_value, constant_scope, as_declared, constant_kind_after, constant_value_after, constant_kinds_of}
 use Rattle.rv_types.specs.Scopes.{constant_values_of, constant_types_after, constant_types, clash_unless}
-use Rattle.rv_types.specs.Earliest.{first, sooner}
-use Rattle.rv_types.specs.Tables.{entry_in, type_of_label, constant_or, value_in}
-use Rattle.rv_types.specs.TypeTables.{declared_kinds, places_from}
-use Rattle.rv_base.specs.Limits.{too_heavy}
-use Rattle.rv_types.specs.ValueTables.{value_of_label, value_or, known_in, AreSmall}
-use Rattle.rv_types.specs.ConstantTables.{AreTablesOf, as_declared_by, declared_clash, constant_types_by}
-use Rattle.rv_types.proofs.Joined.{first_append}
+use Rattle.rv_types.specs.{declared.typed.Kind.Kind, declared.typed.Kind.TheVariants.Labels, declared.view.Label.Label, declared.fault.NameFault.NameFault}
+use Rattle.rv_types.specs.{Parts.offset_of, Kinds.LabelPlace, Kinds.kind_after, Kinds.kind_in_program, Kinds.label_of, Types.kind_of, Types.expression_types}
+use Rattle.rv_types.specs.{Constants.value_of, Constants.whole_in, Earliest.first, Earliest.sooner, Tables.entry_in, Tables.type_of_label, Tables.constant_or}
+use Rattle.rv_types.specs.{Tables.value_in, TypeTables.declared_kinds, TypeTables.places_from, ValueTables.value_of_label, ValueTables.value_or}
+use Rattle.rv_types.specs.{ValueTables.known_in, ValueTables.AreSmall, ConstantTables.AreTablesOf, ConstantTables.as_declared_by, ConstantTables.declared_clash}
+use Rattle.rv_types.specs.{ConstantTables.constant_types_by}
 use Rattle.rv_types.proofs.LastFirst.{last_of, all_of, front_of, last_is, all_of-map, get_elsewhere}
-use Rattle.rv_types.proofs.TypeMeanings.{means}
-use Rattle.rv_types.proofs.Turned.{twice}
-use Rattle.rv_types.proofs.Entries.{label_is, place_of}
+use Rattle.rv_types.proofs.{Joined.first_append, TypeMeanings.means, Turned.twice, Entries.label_is, Entries.place_of}
 use Rattle.rv_base.proofs.Lists.{get_push}
 
 abbrev constant_name : ConstantTree → Name

@@ -1,26 +1,19 @@
 -- What is known of constant expressions.
 use Rattle.std.proofs.Common.{◌≡◌, ℕ, ◌≤◌, min, max, Bool, true, false, not, ◌&&◌, ◌||◌, cond, List, [], ◌∷◌, reverse, ℤ, pos, neg_ℤ, nat_abs, Option, Some}
-use Rattle.std.proofs.Common.{refl, sym, ap, ◌∙◌, arith}
-use Rattle.std.proofs.Common.{None as Nothing}
-use Rattle.std.specs.Option.{option_map}
+use Rattle.std.proofs.Common.{refl, sym, ap, ◌∙◌, arith, None as Nothing}
 use Rattle.std.proofs.lemmas.Int.{ints}
-use Rattle.rv_base.specs.declared.value.Value.{Value}
-use Rattle.rv_base.specs.declared.value.Value.TheVariants.{Flag, Whole}
+use Rattle.std.specs.Option.{option_map}
+use Rattle.rv_base.specs.{declared.value.Value.Value, declared.value.Value.TheVariants.Flag, declared.value.Value.TheVariants.Whole, Limits.too_heavy}
 use Rattle.rv_base.specs.declared.value.Value.TheVariants as value
-use Rattle.rv_tree.specs.declared.tree.Op.{Op}
-use Rattle.rv_tree.specs.declared.tree.Op.TheVariants as op
 use Rattle.rv_tree.specs.Tree.{Tree, Form, Trees, Node, True, False, Number, Named, Not, Minus, Pre, Current, When, Binary, If, AtMostOne, Call, None, More}
 use Rattle.rv_tree.specs.Tree.{ConstantTree, ProgramTree}
-use Rattle.rv_tree.specs.Places.{Identifier, is_same}
-use Rattle.rv_types.specs.declared.weighing.Weighed.{Weighed}
-use Rattle.rv_types.specs.declared.reading_values.Trues.{Trues}
-use Rattle.rv_types.specs.Kinds.{LabelPlace, label_of}
+use Rattle.rv_tree.specs.{declared.tree.Op.Op, Places.Identifier, Places.is_same}
+use Rattle.rv_tree.specs.declared.tree.Op.TheVariants as op
 use Rattle.rv_types.specs.Types.{Scope, is_constant, is_constant_form, are_constant}
 use Rattle.rv_types.specs.Constants.{flag_in, whole_in, counted_part, value_of, form_value, weight_of, form_weight, flags_of_all}
-use Rattle.rv_types.specs.Scopes.{constant_value, constant_value_after}
-use Rattle.rv_base.specs.Limits.{too_heavy}
-use Rattle.rv_types.specs.ValueTables.{AreSmall, at_most_after}
 use Rattle.rv_types.specs.ConstantParts.{constant_form, constant_part, trues_after, trues_over}
+use Rattle.rv_types.specs.{declared.weighing.Weighed.Weighed, declared.reading_values.Trues.Trues, Kinds.LabelPlace, Kinds.label_of, Scopes.constant_value}
+use Rattle.rv_types.specs.{Scopes.constant_value_after, ValueTables.AreSmall, ValueTables.at_most_after}
 use Rattle.rv_types.proofs.Weights.{counted_small, under_small}
 
 -- Values are small.

@@ -4,10 +4,9 @@ use Rattle.std.proofs.lemmas.List.{map-append}
 use Rattle.rv_tree.specs.Delays.{Delay, delays, form_delays, delays_of_all, delays_in_equations, delays_in_assertions, node_delays}
 use Rattle.rv_tree.specs.Tree.{Tree, Node, Form, True, False, Number, Named, Not, Minus, Pre, Current, When, Binary, If, AtMostOne, Call, Trees, None, More}
 use Rattle.rv_tree.specs.Tree.{EquationTree, AssertionTree, NodeTree}
-use Rattle.rv_types.specs.declared.typed.Kind.{Kind}
-use Rattle.rv_types.specs.declared.typed.Kind.TheVariants as kind
 use Rattle.rv_types.specs.Delayed.{delayed_kind, delayed_kinds, delayed_in, form_delayed, delayed_in_all, node_delayed}
-use Rattle.rv_types.specs.Types.{Scope, kind_of}
+use Rattle.rv_types.specs.{declared.typed.Kind.Kind, Types.Scope, Types.kind_of}
+use Rattle.rv_types.specs.declared.typed.Kind.TheVariants as kind
 
 module _ (s : Scope) where
   both : (ds es : List Delay) (xs ys : List Kind) → xs ≡ delayed_kinds s ds → ys ≡ delayed_kinds s es → xs ++ ys ≡ delayed_kinds s (ds ++ es)

@@ -1,20 +1,13 @@
 -- Tables and what stands in them.
 use Rattle.std.proofs.Common.{◌≡◌, ℕ, ◌+◌, suc, Bool, true, false, ◌||◌, cond, List, [], ◌∷◌, ◌++◌, map, flat_map, length, Option, Some, refl, sym, ap, ◌∙◌}
-use Rattle.std.proofs.Common.{arith, slice_get, add-one}
-use Rattle.std.proofs.Common.{None as Nothing}
-use Rattle.std.specs.Option.{option_map}
+use Rattle.std.proofs.Common.{arith, slice_get, add-one, None as Nothing}
 use Rattle.std.proofs.lemmas.Option.{slice_get_past}
-use Rattle.rv_tree.specs.declared.tree.Name.{Name}
-use Rattle.rv_tree.specs.declared.tree.TypeDecl.{TypeDecl}
-use Rattle.rv_tree.specs.Tree.{NodeTree, ProgramTree}
+use Rattle.std.specs.Option.{option_map}
 use Rattle.rv_tree.specs.Places.{Identifier, is_same, index_of}
-use Rattle.rv_types.specs.declared.view.Label.{Label}
-use Rattle.rv_types.specs.Names.{texts, is_declared, labels_of, label_names}
+use Rattle.rv_tree.specs.{declared.tree.Name.Name, declared.tree.TypeDecl.TypeDecl, Tree.NodeTree, Tree.ProgramTree}
 use Rattle.rv_types.specs.Kinds.{LabelPlace, number_from, label_from, label_of, node_among}
-use Rattle.rv_types.specs.Tables.{entry_in, scope_of, value_in}
-use Rattle.rv_types.specs.Scopes.{constant_scope}
-use Rattle.rv_types.specs.declared.typed.Kind.{Kind}
-use Rattle.rv_types.specs.TypeTables.{places_among, places_from}
+use Rattle.rv_types.specs.{declared.view.Label.Label, Names.texts, Names.is_declared, Names.labels_of, Names.label_names, Tables.entry_in, Tables.scope_of}
+use Rattle.rv_types.specs.{Tables.value_in, Scopes.constant_scope, declared.typed.Kind.Kind, TypeTables.places_among, TypeTables.places_from}
 
 -- a table read from its head
 abbrev pub found_in : {A : Type 0} → List Name → List A → Identifier → Option A

@@ -1,19 +1,15 @@
 -- An expression without a fault whose names are known has a type.
-use Rattle.std.proofs.Common.{◌≡◌, ℕ, Bool, true, false, cond, ◌&&◌, ◌||◌, List, [], ◌∷◌, ◌++◌, refl, Option, Some, is_some}
-use Rattle.std.proofs.Common.{None as Nothing}
-use Rattle.rv_tree.specs.declared.tree.Op.{Op}
-use Rattle.rv_tree.specs.declared.tree.Op.TheVariants as op
+use Rattle.std.proofs.Common.{◌≡◌, ℕ, Bool, true, false, cond, ◌&&◌, ◌||◌, List, [], ◌∷◌, ◌++◌, refl, Option, Some, is_some, None as Nothing}
 use Rattle.rv_tree.specs.Tree.{Tree, Node, Form, True, False, Number, Named, Not, Minus, Pre, Current, When, Binary, If, AtMostOne, Call, Trees, None, More}
-use Rattle.rv_tree.specs.Places.{Identifier}
-use Rattle.rv_types.specs.declared.typed.Kind.{Kind}
-use Rattle.rv_types.specs.declared.typed.Kind.TheVariants as kind
-use Rattle.rv_types.specs.declared.fault.Verdict.{Verdict}
+use Rattle.rv_tree.specs.{declared.tree.Op.Op, Places.Identifier}
+use Rattle.rv_tree.specs.declared.tree.Op.TheVariants as op
 use Rattle.rv_types.specs.declared.fault.Verdict.TheVariants.{Has, Silent, Clashes, Multiplies}
-use Rattle.rv_types.specs.Names.{own_uses, uses, use_at}
-use Rattle.rv_types.specs.Parts.{faults, faults_below, faults_of_all}
 use Rattle.rv_types.specs.Types.{Scope, Signature, kind_in, fault_in, same_kind, where_met, one_of, two_of, three_of, all_typed, all_suit, fit, binary_rule}
 use Rattle.rv_types.specs.Types.{both_are, not_rule, minus_rule, memory_rule, when_rule, when_of, if_rule, at_most_one_of, sole, call_of, form_verdict, kind_of}
 use Rattle.rv_types.specs.Types.{kinds_of_all, own_type_fault, expression_types, is_constant}
+use Rattle.rv_types.specs.{declared.typed.Kind.Kind, declared.fault.Verdict.Verdict, Names.own_uses, Names.uses, Names.use_at, Parts.faults, Parts.faults_below}
+use Rattle.rv_types.specs.{Parts.faults_of_all}
+use Rattle.rv_types.specs.declared.typed.Kind.TheVariants as kind
 use Rattle.rv_types.proofs.RightNames.{both_empty}
 
 -- a rule that is not broken gives a type

@@ -1,13 +1,11 @@
 -- What the first fault of a list is.
 use Rattle.std.proofs.Common.{◌≡◌, ℕ, ◌+◌, ◌*◌, ◌<◌, ◌≤◌, ◌⊎◌, inl, inr, Bool, true, false, cond, nat_le, List, [], ◌∷◌, Option, Some, None, Contains, refl}
 use Rattle.std.proofs.Common.{sym, ap, subst, arith, length, get_or, zero, suc}
-use Rattle.std.proofs.lemmas.Bool.{cases_lt}
-use Rattle.std.proofs.lemmas.Bool.Decides.{nat_tests}
-use Rattle.rv_types.specs.declared.fault.NameFault.{NameFault}
+use Rattle.std.proofs.{lemmas.Bool.cases_lt, lemmas.Bool.Decides.nat_tests}
 use Rattle.rv_types.specs.declared.fault.NameFault.TheVariants.{NoNode, UnknownName, DefinedTwice, Undefined, TypeClash, Nonlinear, ClockClash, NotObserver}
 use Rattle.rv_types.specs.declared.fault.NameFault.TheVariants.{Memory}
 use Rattle.rv_types.specs.Faults.{offset, number, ComesBefore, IsFirst}
-use Rattle.rv_types.specs.Earliest.{rank, sooner, first}
+use Rattle.rv_types.specs.{declared.fault.NameFault.NameFault, Earliest.rank, Earliest.sooner, Earliest.first}
 use Rattle.rv_types.proofs.Members.{at_head, cons_cases, in_tail}
 
 number_small : (f : NameFault) → number f < 16

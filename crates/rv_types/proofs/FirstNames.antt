@@ -1,16 +1,10 @@
 -- The first declarations of different names: the same names are declared, at the same first places.
 use Rattle.std.proofs.Common.{◌≡◌, ℕ, Bool, true, false, cond, ◌||◌, List, [], ◌∷◌, ◌++◌, refl, sym, ap, ◌∙◌, nat_lt, append_assoc, Option}
-use Rattle.std.proofs.lemmas.Cmp.{nat_list_eq_equiv}
-use Rattle.rv_tree.specs.declared.tree.Name.{Name}
-use Rattle.rv_tree.specs.Places.{Identifier, is_same}
-use Rattle.rv_types.specs.declared.fault.NameFault.{NameFault}
-use Rattle.rv_types.specs.declared.fault.NameFault.TheVariants.{DefinedTwice}
-use Rattle.rv_types.specs.Names.{is_declared, stands_before, repeated, repeated_after}
-use Rattle.rv_types.specs.Firsts.{with_name, firsts_after, firsts}
-use Rattle.rv_types.proofs.Spaced.{same_back}
-use Rattle.rv_types.proofs.Joined.{first_append, sooner_assoc}
-use Rattle.rv_types.specs.Earliest.{first, sooner}
-use Rattle.std.proofs.lemmas.List.{append-nil}
+use Rattle.std.proofs.{lemmas.Cmp.nat_list_eq_equiv, lemmas.List.append-nil}
+use Rattle.rv_tree.specs.{declared.tree.Name.Name, Places.Identifier, Places.is_same}
+use Rattle.rv_types.specs.{declared.fault.NameFault.NameFault, declared.fault.NameFault.TheVariants.DefinedTwice, Names.is_declared, Names.stands_before}
+use Rattle.rv_types.specs.{Names.repeated, Names.repeated_after, Firsts.with_name, Firsts.firsts_after, Firsts.firsts, Earliest.first, Earliest.sooner}
+use Rattle.rv_types.proofs.{Spaced.same_back, Joined.first_append, Joined.sooner_assoc}
 use Rattle.rv_base.proofs.Truths.{or_assoc, or_false}
 
 or_swap : (a b : Bool) → (a || b) ≡ (b || a)

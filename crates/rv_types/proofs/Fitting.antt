@@ -1,12 +1,8 @@
 -- Operands and the types that are wanted of them, one after the other.
-use Rattle.std.proofs.Common.{◌≡◌, ℕ, ◌≤◌, zero, suc, ◌&&◌, nat_le, List, [], ◌∷◌, map, drop, length, Option, Some, is_some, refl, ◌∙◌, arith}
-use Rattle.std.proofs.Common.{None as Nothing}
+use Rattle.std.proofs.Common.{◌≡◌, ℕ, ◌≤◌, zero, suc, ◌&&◌, nat_le, List, [], ◌∷◌, map, drop, length, Option, Some, is_some, refl, ◌∙◌, arith, None as Nothing}
 use Rattle.std.proofs.lemmas.Bool.Decides.{nat_tests}
-use Rattle.rv_tree.specs.declared.tree.Expr.{Expr}
-use Rattle.rv_tree.specs.Tree.{tree_of, trees}
-use Rattle.rv_types.specs.declared.typed.Kind.{Kind}
-use Rattle.rv_types.specs.Types.{all_typed, fit}
-use Rattle.rv_types.specs.Tables.{suits_at}
+use Rattle.rv_tree.specs.{declared.tree.Expr.Expr, Tree.tree_of, Tree.trees}
+use Rattle.rv_types.specs.{declared.typed.Kind.Kind, Types.all_typed, Types.fit, Tables.suits_at}
 
 pub typed_more : (k : Option Kind) (ks : List (Option Kind)) → all_typed (k ∷ ks) ≡ (is_some k && all_typed ks)
 typed_more Nothing ks = refl

@@ -1,15 +1,10 @@
 -- The flows of a node, declared in three parts.
 use Rattle.std.proofs.Common.{◌≡◌, List, [], ◌++◌, flat_map, Option, sym, ap, ◌∙◌}
-use Rattle.std.proofs.lemmas.List.{map-append}
-use Rattle.std.proofs.lemmas.Grind.{flat_map-append}
-use Rattle.rv_tree.specs.declared.tree.Name.{Name}
-use Rattle.rv_tree.specs.declared.tree.Decl.{Decl}
-use Rattle.rv_types.specs.declared.fault.NameFault.{NameFault}
-use Rattle.rv_types.specs.Names.{decl_names, repeated}
-use Rattle.rv_types.specs.Firsts.{firsts_after, firsts}
-use Rattle.rv_types.specs.Earliest.{first, sooner}
-use Rattle.rv_types.proofs.Joined.{first_append}
-use Rattle.rv_types.proofs.FirstNames.{firsts_append, repeated_append}
+use Rattle.std.proofs.{lemmas.List.map-append, lemmas.Grind.flat_map-append}
+use Rattle.rv_tree.specs.{declared.tree.Name.Name, declared.tree.Decl.Decl}
+use Rattle.rv_types.specs.{declared.fault.NameFault.NameFault, Names.decl_names, Names.repeated, Firsts.firsts_after, Firsts.firsts, Earliest.first}
+use Rattle.rv_types.specs.{Earliest.sooner}
+use Rattle.rv_types.proofs.{Joined.first_append, FirstNames.firsts_append, FirstNames.repeated_append}
 
 pub three_names : (a b c : List Decl) → decl_names ((a ++ b) ++ c) ≡ (decl_names a ++ decl_names b) ++ decl_names c
 three_names a b c = map-append (λ d. d.name) (a ++ b) c ∙ ap (λ l. l ++ decl_names c) (map-append (λ d. d.name) a b)

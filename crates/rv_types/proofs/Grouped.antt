@@ -1,11 +1,8 @@
 -- Walks over the flows of a section that use what is found of a flow for the rest of its group.
-use Rattle.std.proofs.Common.{◌≡◌, ℕ, zero, suc, ◌+◌, ◌<◌, List, [], ◌∷◌, ◌++◌, map, flat_map, take, length, get_or}
-use Rattle.std.proofs.Common.{slice_get, option_map, Option, Some, sym, ap, ◌∙◌, subst, arith, append_assoc}
-use Rattle.std.proofs.lemmas.Grind.{flat_map-append}
-use Rattle.std.proofs.lemmas.List.{take_more, map-append, append-nil}
-use Rattle.std.proofs.lemmas.Option.{slice_get-get_or}
-use Rattle.rv_types.specs.declared.fault.NameFault.{NameFault}
-use Rattle.rv_types.specs.Earliest.{sooner, first}
+use Rattle.std.proofs.Common.{◌≡◌, ℕ, zero, suc, ◌+◌, ◌<◌, List, [], ◌∷◌, ◌++◌, map, flat_map, take, length, get_or, slice_get, option_map, Option, Some, sym}
+use Rattle.std.proofs.Common.{ap, ◌∙◌, subst, arith, append_assoc}
+use Rattle.std.proofs.{lemmas.Grind.flat_map-append, lemmas.List.take_more, lemmas.List.map-append, lemmas.List.append-nil, lemmas.Option.slice_get-get_or}
+use Rattle.rv_types.specs.{declared.fault.NameFault.NameFault, Earliest.sooner, Earliest.first}
 use Rattle.rv_types.proofs.Joined.{first_append}
 
 -- what is found of a part of an item is found of the next one, which has the same part

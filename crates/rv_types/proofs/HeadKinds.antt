@@ -1,17 +1,15 @@
 -- What the head of an expression tells is its type, where it has one.
-use Rattle.std.proofs.Common.{◌≡◌, Bool, true, false, ◌&&◌, ◌||◌, cond, List, [], ◌∷◌, refl, ◌∙◌, ap, Option, Some, unwrap_or}
-use Rattle.std.proofs.Common.{None as Nothing}
+use Rattle.std.proofs.Common.{◌≡◌, Bool, true, false, ◌&&◌, ◌||◌, cond, List, [], ◌∷◌, refl, ◌∙◌, ap, Option, Some, unwrap_or, None as Nothing}
 use Rattle.std.proofs.lemmas.Option.{none-some, same_Some}
 use Rattle.rv_tree.specs.declared.tree.Op.{Op}
-use Rattle.rv_tree.specs.declared.tree.Op.TheVariants as op
 use Rattle.rv_tree.specs.Tree.{Tree, Form, Node, True, False, Number, Named, Not, Minus, Pre, Current, When, Binary, If, AtMostOne, Call}
-use Rattle.rv_types.specs.declared.typed.Kind.{Kind}
-use Rattle.rv_types.specs.declared.typed.Kind.TheVariants.{Bool as Boolean, Int}
+use Rattle.rv_tree.specs.declared.tree.Op.TheVariants as op
 use Rattle.rv_types.specs.declared.fault.Verdict.TheVariants.{Has, Silent, Clashes, Multiplies}
 use Rattle.rv_types.specs.Heads.{kind_given, first_kind, first_output, head_kind, form_head}
 use Rattle.rv_types.specs.Types.{Scope, Signature, same_kind, kind_in, where_met, one_of, two_of, three_of, both_are, all_typed, all_suit, fit, binary_rule}
 use Rattle.rv_types.specs.Types.{not_rule, minus_rule, memory_rule, when_of, if_rule, at_most_one_of, sole, call_of, is_constant, kind_of, form_verdict}
 use Rattle.rv_types.specs.Types.{kinds_of_all}
+use Rattle.rv_types.specs.{declared.typed.Kind.Kind, declared.typed.Kind.TheVariants.Bool as Boolean, declared.typed.Kind.TheVariants.Int}
 use Rattle.rv_types.proofs.ConstantContents.{met_kind}
 
 named_is : (o : Option Kind) (k : Kind) → kind_in (one_of Has o) ≡ Some k → unwrap_or o Boolean ≡ k

@@ -1,11 +1,7 @@
 -- The first fault of two lists joined.
-use Rattle.std.proofs.Common.{◌≡◌, ℕ, ◌+◌, ◌<◌, List, [], ◌∷◌, ◌++◌, Option, Some, None, refl, sym, ap, ◌∙◌, arith, length}
-use Rattle.std.proofs.Common.{get_or, take, map, flat_map}
-use Rattle.rv_types.specs.declared.fault.NameFault.{NameFault}
-use Rattle.rv_types.specs.Earliest.{sooner, first}
-use Rattle.std.proofs.lemmas.Bool.Decides.{nat_tests}
-use Rattle.std.proofs.lemmas.List.{take_more, map-append, append-nil}
-use Rattle.std.proofs.lemmas.Grind.{flat_map-append}
+use Rattle.std.proofs.Common.{◌≡◌, ℕ, ◌+◌, ◌<◌, List, [], ◌∷◌, ◌++◌, Option, Some, None, refl, sym, ap, ◌∙◌, arith, length, get_or, take, map, flat_map}
+use Rattle.std.proofs.{lemmas.Bool.Decides.nat_tests, lemmas.List.take_more, lemmas.List.map-append, lemmas.List.append-nil, lemmas.Grind.flat_map-append}
+use Rattle.rv_types.specs.{declared.fault.NameFault.NameFault, Earliest.sooner, Earliest.first}
 
 pub sooner_none : (a : Option NameFault) → sooner a None ≡ a
 sooner_none None = refl

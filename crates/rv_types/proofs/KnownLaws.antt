@@ -1,22 +1,16 @@
 -- What is wrong by the spaces of a program is what breaks a rule of names.
-use Rattle.std.proofs.Common.{◌≡◌, ℕ, cond, ◌||◌, List, [], ◌∷◌, ◌++◌, flat_map, Option, Some, refl, ap, ◌∙◌}
-use Rattle.std.proofs.Common.{None as Nothing}
+use Rattle.std.proofs.Common.{◌≡◌, ℕ, cond, ◌||◌, List, [], ◌∷◌, ◌++◌, flat_map, Option, Some, refl, ap, ◌∙◌, None as Nothing}
 use Rattle.std.proofs.lemmas.List.{map-append}
-use Rattle.rv_tree.specs.declared.tree.Name.{Name}
-use Rattle.rv_tree.specs.declared.tree.Decl.{Decl}
-use Rattle.rv_tree.specs.declared.tree.TypeName.{TypeName}
-use Rattle.rv_tree.specs.declared.tree.TypeBody.TheVariants.{Alias, Labels}
-use Rattle.rv_tree.specs.Tree.{NodeTree, ProgramTree}
 use Rattle.rv_tree.specs.Places.{names, flows, is_among, is_flow}
-use Rattle.rv_types.specs.declared.fault.NameFault.{NameFault}
-use Rattle.rv_types.specs.declared.fault.NameFault.TheVariants.{Undefined}
+use Rattle.rv_tree.specs.{declared.tree.Name.Name, declared.tree.Decl.Decl, declared.tree.TypeName.TypeName, declared.tree.TypeBody.TheVariants.Alias}
+use Rattle.rv_tree.specs.{declared.tree.TypeBody.TheVariants.Labels, Tree.NodeTree, Tree.ProgramTree}
 use Rattle.rv_types.specs.declared.uses.Reach.TheVariants.{Before, Everywhere}
 use Rattle.rv_types.specs.Names.{texts, is_declared, stands_before, type_names, constant_names, label_names, node_names, decls, decl_names, lefts, repeated}
 use Rattle.rv_types.specs.Names.{type_use, use_of, uses, undefined_unless, alias_use, flow_use, is_value_before, is_clock_anyhow, constant_uses, is_value}
 use Rattle.rv_types.specs.Names.{node_uses, equation_uses, assertion_uses, clock_use, names_in_node, name_faults}
-use Rattle.rv_types.specs.Firsts.{firsts}
 use Rattle.rv_types.specs.Known.{first_spaces, second_declarations, knows_value, unknown_in, alias_use_in, type_use_before, constant_use_in, flow_names}
 use Rattle.rv_types.specs.Known.{undefined_in, uses_in, names_in}
+use Rattle.rv_types.specs.{declared.fault.NameFault.NameFault, declared.fault.NameFault.TheVariants.Undefined, Firsts.firsts}
 use Rattle.rv_types.proofs.FirstNames.{declared_firsts, before_firsts}
 
 pub texts_of : (ds : List Decl) → texts (decl_names ds) ≡ names ds

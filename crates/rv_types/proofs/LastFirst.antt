@@ -1,19 +1,12 @@
 -- What a name means after some declarations of different names, the last of them first, is what stands at its number.
 use Rattle.std.proofs.Common.{◌≡◌, ℕ, ◌+◌, zero, suc, Bool, true, false, ◌||◌, cond, List, [], ◌∷◌, ◌++◌, map, reverse, length, Option, Some, refl, sym, ap}
-use Rattle.std.proofs.Common.{◌∙◌, arith, slice_get, append_assoc}
-use Rattle.std.proofs.Common.{None as Nothing}
+use Rattle.std.proofs.Common.{◌∙◌, arith, slice_get, append_assoc, None as Nothing, length-append}
+use Rattle.std.proofs.{lemmas.List.reverse-append, lemmas.List.map-append, lemmas.Option.slice_get_past, lemmas.Bool.or_parts}
 use Rattle.std.specs.Cmp.Lexicographic.{same_text}
-use Rattle.std.proofs.lemmas.List.{reverse-append, map-append}
-use Rattle.std.proofs.Common.{length-append}
-use Rattle.std.proofs.lemmas.Option.{slice_get_past}
-use Rattle.rv_tree.specs.declared.tree.Name.{Name}
-use Rattle.rv_tree.specs.Places.{Identifier, is_same, index_of}
-use Rattle.rv_types.specs.declared.fault.NameFault.{NameFault}
-use Rattle.rv_types.specs.declared.fault.NameFault.TheVariants.{DefinedTwice}
+use Rattle.rv_tree.specs.{declared.tree.Name.Name, Places.Identifier, Places.is_same, Places.index_of}
 use Rattle.rv_types.specs.Names.{texts, is_declared, repeated}
-use Rattle.rv_types.specs.Tables.{entry_in}
+use Rattle.rv_types.specs.{declared.fault.NameFault.NameFault, declared.fault.NameFault.TheVariants.DefinedTwice, Tables.entry_in}
 use Rattle.rv_base.proofs.Lists.{get_push}
-use Rattle.std.proofs.lemmas.Bool.{or_parts}
 
 -- what a name means after declarations, the last of them first
 abbrev pub last_of : {A B : Type 0} → (A → Name) → (List A → A → B) → List A → Identifier → Option B

@@ -1,15 +1,9 @@
 -- The main node, by its number.
 use Rattle.std.proofs.Common.{◌≡◌, ℕ, ◌+◌, Bool, true, false, cond, List, [], ◌∷◌, ◌++◌, map, length, Option, Some, refl, sym, ap, ◌∙◌, slice_get, add-one}
 use Rattle.std.proofs.Common.{None as Nothing}
-use Rattle.rv_tree.specs.declared.tree.Decl.{Decl}
-use Rattle.rv_tree.specs.Tree.{NodeTree, ProgramTree}
-use Rattle.rv_tree.specs.Places.{Identifier, is_same, index_of}
-use Rattle.rv_types.specs.declared.typed.Kind.{Kind}
-use Rattle.rv_types.specs.declared.fault.NameFault.{NameFault}
-use Rattle.rv_types.specs.Names.{texts, node_names}
-use Rattle.rv_types.specs.Kinds.{kind_in_program, flow_kinds, node_among, node_named}
-use Rattle.rv_types.specs.Scopes.{observer_faults}
-use Rattle.rv_types.specs.NodeTypes.{observer_fault_of}
+use Rattle.rv_tree.specs.{declared.tree.Decl.Decl, Tree.NodeTree, Tree.ProgramTree, Places.Identifier, Places.is_same, Places.index_of}
+use Rattle.rv_types.specs.{declared.typed.Kind.Kind, declared.fault.NameFault.NameFault, Names.texts, Names.node_names, Kinds.kind_in_program, Kinds.flow_kinds}
+use Rattle.rv_types.specs.{Kinds.node_among, Kinds.node_named, Scopes.observer_faults, NodeTypes.observer_fault_of}
 
 node_at : (ns : List NodeTree) (x : Identifier) → node_among ns x ≡ slice_get ns (index_of (texts (map (λ n. n.name) ns)) x)
 node_at [] x = refl

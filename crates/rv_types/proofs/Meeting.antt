@@ -1,11 +1,8 @@
 -- The one clock of several operands.
-use Rattle.std.proofs.Common.{◌≡◌, true, false, cond, refl, arith}
-use Rattle.std.proofs.lemmas.Bool.Decides.{nat_tests}
-use Rattle.rv_types.specs.declared.typed.Clock.{Clock}
-use Rattle.rv_types.specs.declared.typed.Clock.TheVariants.{Base, On}
-use Rattle.rv_types.specs.declared.fault.Pace.{Pace}
+use Rattle.std.proofs.{Common.◌≡◌, Common.true, Common.false, Common.cond, Common.refl, Common.arith, lemmas.Bool.Decides.nat_tests}
 use Rattle.rv_types.specs.declared.fault.Pace.TheVariants.{Free, At, Mute, Differ}
-use Rattle.rv_types.specs.Clocks.{same_clock, meet}
+use Rattle.rv_types.specs.{declared.typed.Clock.Clock, declared.typed.Clock.TheVariants.Base, declared.typed.Clock.TheVariants.On, declared.fault.Pace.Pace}
+use Rattle.rv_types.specs.{Clocks.same_clock, Clocks.meet}
 
 pub meet_free : (p : Pace) → meet p Free ≡ p
 meet_free Free = refl

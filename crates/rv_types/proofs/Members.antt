@@ -1,16 +1,11 @@
 -- What stands in lists, and names among names.
 use Rattle.std.proofs.Common.{◌≡◌, ℕ, zero, suc, ◌+◌, ◌<◌, ◌⊎◌, inl, inr, Bool, true, false, cond, ◌||◌, List, [], ◌∷◌, map, flat_map, length, get_or, refl}
 use Rattle.std.proofs.Common.{sym, ◌∙◌, ap, subst, arith}
-use Rattle.std.specs.List.{Contains}
-use Rattle.std.specs.Cmp.Lexicographic.{same_text}
-use Rattle.std.proofs.lemmas.Bool.{or_left, or_right}
-use Rattle.std.proofs.lemmas.Cmp.{nat_list_eq_equiv}
-use Rattle.std.proofs.lemmas.List.{get_or_default}
 use Rattle.std.proofs.lemmas.List.Elements.{Contains-append_left, Contains-append_right, Contains-append_cases}
-use Rattle.rv_tree.specs.declared.tree.Name.{Name}
-use Rattle.rv_tree.specs.Places.{Identifier, is_same, is_among, index_of}
-use Rattle.rv_types.specs.declared.fault.NameFault.TheVariants.{DefinedTwice}
-use Rattle.rv_types.specs.Names.{texts, is_declared, repeated}
+use Rattle.std.proofs.{lemmas.Bool.or_left, lemmas.Bool.or_right, lemmas.Cmp.nat_list_eq_equiv, lemmas.List.get_or_default}
+use Rattle.std.specs.{List.Contains, Cmp.Lexicographic.same_text}
+use Rattle.rv_tree.specs.{declared.tree.Name.Name, Places.Identifier, Places.is_same, Places.is_among, Places.index_of}
+use Rattle.rv_types.specs.{declared.fault.NameFault.TheVariants.DefinedTwice, Names.texts, Names.is_declared, Names.repeated}
 use Rattle.rv_types.proofs.RightNames.{both_empty}
 
 pub nothing_in : {X G : Type 0} (y : X) → Contains [] y → G

@@ -1,14 +1,9 @@
 -- The flows of nodes in which no rule of names is broken.
 use Rattle.std.proofs.Common.{◌≡◌, ℕ, zero, suc, ◌<◌, ◌^◌, List, [], ◌∷◌, map, flat_map, length, get_or, Contains, sym, ap, subst, ◌∙◌, arith}
 use Rattle.std.proofs.lemmas.List.{length-map, get_or-map}
-use Rattle.rv_tree.specs.Tree.{NodeTree, ProgramTree}
-use Rattle.rv_tree.specs.Places.{flows}
-use Rattle.rv_types.specs.Names.{texts, repeated, names_in_node, name_faults}
-use Rattle.rv_types.specs.Firsts.{firsts}
-use Rattle.rv_types.specs.Known.{flow_names}
-use Rattle.rv_types.proofs.FirstNames.{all_first}
-use Rattle.rv_types.proofs.KnownLaws.{flows_are}
-use Rattle.rv_types.proofs.RightNames.{both_empty, all_different}
+use Rattle.rv_tree.specs.{Tree.NodeTree, Tree.ProgramTree, Places.flows}
+use Rattle.rv_types.specs.{Names.texts, Names.repeated, Names.names_in_node, Names.name_faults, Firsts.firsts, Known.flow_names}
+use Rattle.rv_types.proofs.{FirstNames.all_first, KnownLaws.flows_are, RightNames.both_empty, RightNames.all_different}
 
 -- none of several has any
 pub none_of : {X A : Type 0} (f : X → List A) (xs : List X) (x : X) → flat_map f xs ≡ [] → Contains xs x → f x ≡ []

@@ -1,38 +1,26 @@
 -- Where no rule of names and types is broken, the right sides, arguments and assertions of a node have the types that
 -- are wanted of them.
 use Rattle.std.proofs.Common.{◌≡◌, inl, inr, ℕ, zero, suc, ◌<◌, Bool, true, false, not, cond, ◌&&◌, ◌||◌, List, [], ◌∷◌, ◌++◌, map, flat_map, length, get_or}
-use Rattle.std.proofs.Common.{refl, sym, ◌∙◌, ap, subst, arith, Option, Some, is_some, slice_get}
-use Rattle.std.proofs.Common.{None as Nothing, unwrap_or}
-use Rattle.std.specs.Option.{option_map}
-use Rattle.std.specs.List.{Contains}
-use Rattle.std.proofs.lemmas.Bool.{and_parts}
+use Rattle.std.proofs.Common.{refl, sym, ◌∙◌, ap, subst, arith, Option, Some, is_some, slice_get, None as Nothing, unwrap_or}
 use Rattle.std.proofs.lemmas.List.{length-map, length-append}
-use Rattle.std.proofs.lemmas.List.Elements.{Contains-append_cases}
-use Rattle.std.proofs.lemmas.Option.{slice_get-get_or}
-use Rattle.rv_tree.specs.declared.tree.Name.{Name}
-use Rattle.rv_tree.specs.declared.tree.Decl.{Decl}
+use Rattle.std.proofs.{lemmas.Bool.and_parts, lemmas.List.Elements.Contains-append_cases, lemmas.Option.slice_get-get_or}
+use Rattle.std.specs.{Option.option_map, List.Contains}
 use Rattle.rv_tree.specs.Tree.{Tree, Node, Call, Trees, None, More, EquationTree, AssertionTree, NodeTree, ProgramTree}
-use Rattle.rv_tree.specs.Places.{Identifier, flows, site_of, is_flow, is_same, is_among}
-use Rattle.rv_tree.specs.Delays.{Delay, delays, delays_in_equations, delays_in_assertions, node_delays}
-use Rattle.rv_types.specs.declared.typed.Kind.{Kind}
-use Rattle.rv_types.specs.declared.typed.Kind.TheVariants as kind
-use Rattle.rv_types.specs.declared.fault.NameFault.{NameFault}
-use Rattle.rv_types.specs.declared.fault.NameFault.TheVariants.{TypeClash}
-use Rattle.rv_types.specs.Parts.{offset_of, faults_of_all}
+use Rattle.rv_tree.specs.{declared.tree.Name.Name, declared.tree.Decl.Decl, Places.Identifier, Places.flows, Places.site_of, Places.is_flow, Places.is_same}
+use Rattle.rv_tree.specs.{Places.is_among, Delays.Delay, Delays.delays, Delays.delays_in_equations, Delays.delays_in_assertions, Delays.node_delays}
 use Rattle.rv_types.specs.Names.{texts, is_declared, constant_names, label_names, node_names, own_uses, uses, use_of, is_value, node_uses, clock_use}
 use Rattle.rv_types.specs.Names.{assertion_uses}
-use Rattle.rv_types.specs.Kinds.{decl_kinds, flow_kinds, flow_kind, node_among, node_named}
 use Rattle.rv_types.specs.Types.{Scope, Signature, suits, all_typed, fit, kind_of, kinds_of_all, own_type_fault, expression_types}
 use Rattle.rv_types.specs.Scopes.{constant_kind, value_kind, signature_of, signature_named, node_scope, clash_unless, left_kinds, sides_clash, several_clash}
 use Rattle.rv_types.specs.Scopes.{several_types, sides_types, equation_types, assertion_types, clock_types, types_in_node}
 use Rattle.rv_types.specs.Instances.{CallTree, calls_in, calls_in_all, calls_in_equations, calls_in_assertions, calls, IsArgument, head, tail, node_of, no_node}
-use Rattle.rv_types.proofs.RightNames.{both_empty}
-use Rattle.rv_types.proofs.NodeFlows.{none_of}
+use Rattle.rv_types.specs.{declared.typed.Kind.Kind, declared.fault.NameFault.NameFault, declared.fault.NameFault.TheVariants.TypeClash, Parts.offset_of}
+use Rattle.rv_types.specs.{Parts.faults_of_all, Kinds.decl_kinds, Kinds.flow_kinds, Kinds.flow_kind, Kinds.node_among, Kinds.node_named}
+use Rattle.rv_types.specs.declared.typed.Kind.TheVariants as kind
 use Rattle.rv_types.proofs.Members.{nothing_in, cons_cases, at_head, in_tail, index_there}
 use Rattle.rv_types.proofs.PartFaults.{IsRightCall, calls_right, calls_of_all_right, delays_right, delays_of_all_right}
-use Rattle.rv_types.proofs.ConstantContents.{kind_same}
 use Rattle.rv_types.proofs.ExpressionKinds.{IsFitting, call_fits, use_known, typed, arguments_typed}
-use Rattle.rv_types.proofs.RightSides.{IsNamedNode, sides_known}
+use Rattle.rv_types.proofs.{RightNames.both_empty, NodeFlows.none_of, ConstantContents.kind_same, RightSides.IsNamedNode, RightSides.sides_known}
 
 -- what is there
 pub the_some : {A : Type 0} (o : Option A) → is_some o ≡ true → (a : A) × (o ≡ Some a)

@@ -1,37 +1,17 @@
 -- The scope that the tables of a node stand for.
 use Rattle.std.proofs.Common.{◌≡◌, ℕ, ◌+◌, ◌<◌, zero, suc, Bool, true, false, not, ◌||◌, cond, List, [], ◌∷◌, ◌++◌, map, flat_map, reverse, length, get_or}
-use Rattle.std.proofs.Common.{Option, Some, refl, sym, ap, ◌∙◌, arith, slice_get, append-nil}
-use Rattle.std.proofs.lemmas.List.{length-map, map-append, get_or-map}
-use Rattle.std.proofs.lemmas.Grind.{flat_map-append}
-use Rattle.std.proofs.Math.Seq.{take-suc}
-use Rattle.std.proofs.Common.{take, add-one}
-use Rattle.rv_tree.specs.declared.tree.Node.{Node}
-use Rattle.rv_tree.specs.Tree.{node_tree}
-use Rattle.rv_types.specs.Earliest.{first, sooner}
-use Rattle.rv_types.proofs.Joined.{first_append}
-use Rattle.rv_tree.specs.declared.tree.Name.{Name}
-use Rattle.rv_tree.specs.Tree.{Tree, NodeTree, ProgramTree}
+use Rattle.std.proofs.Common.{Option, Some, refl, sym, ap, ◌∙◌, arith, slice_get, append-nil, take, add-one}
+use Rattle.std.proofs.{lemmas.List.length-map, lemmas.List.map-append, lemmas.List.get_or-map, lemmas.Grind.flat_map-append, Math.Seq.take-suc}
 use Rattle.rv_tree.specs.Places.{Identifier, is_same, is_among, is_flow, index_of}
-use Rattle.rv_types.specs.declared.typed.Kind.{Kind}
-use Rattle.rv_types.specs.declared.view.Label.{Label}
-use Rattle.rv_types.specs.declared.fault.NameFault.{NameFault}
-use Rattle.rv_types.specs.Names.{is_declared, decls, repeated, names_in_node}
-use Rattle.rv_types.specs.Firsts.{firsts}
-use Rattle.rv_types.specs.Known.{flow_names}
-use Rattle.rv_types.specs.Kinds.{flow_kinds, flow_kind}
-use Rattle.rv_types.specs.Types.{Signature}
-use Rattle.rv_types.specs.Scopes.{constant_kind, value_kind, is_fixed, signature_of, signature_named, node_scope, types_in_node}
-use Rattle.rv_types.specs.Tables.{entry_in, flow_or, value_in, scope_of}
-use Rattle.rv_types.specs.TypeTables.{flow_kinds_by}
-use Rattle.rv_types.specs.NodeTypes.{types_by, local_by, assertion_by, sides_by}
-use Rattle.rv_types.specs.Scopes.{sides_types}
-use Rattle.rv_types.specs.ConstantTables.{AreTablesOf, AreNodeTablesOf}
-use Rattle.rv_types.proofs.FirstNames.{all_first}
-use Rattle.rv_types.proofs.KnownLaws.{flows_are}
-use Rattle.rv_types.proofs.Entries.{found_in, entry_found, node_found, at_number}
-use Rattle.rv_types.proofs.ConstantMeanings.{types_named, kinds_tabled}
-use Rattle.rv_types.proofs.Turned.{twice}
-use Rattle.rv_types.proofs.RightNames.{both_empty}
+use Rattle.rv_tree.specs.{declared.tree.Node.Node, Tree.node_tree, Tree.Tree, Tree.NodeTree, Tree.ProgramTree, declared.tree.Name.Name}
+use Rattle.rv_types.specs.Scopes.{constant_kind, value_kind, is_fixed, signature_of, signature_named, node_scope, types_in_node, sides_types}
+use Rattle.rv_types.specs.{Earliest.first, Earliest.sooner, declared.typed.Kind.Kind, declared.view.Label.Label, declared.fault.NameFault.NameFault}
+use Rattle.rv_types.specs.{Names.is_declared, Names.decls, Names.repeated, Names.names_in_node, Firsts.firsts, Known.flow_names, Kinds.flow_kinds}
+use Rattle.rv_types.specs.{Kinds.flow_kind, Types.Signature, Tables.entry_in, Tables.flow_or, Tables.value_in, Tables.scope_of, TypeTables.flow_kinds_by}
+use Rattle.rv_types.specs.{NodeTypes.types_by, NodeTypes.local_by, NodeTypes.assertion_by, NodeTypes.sides_by, ConstantTables.AreTablesOf}
+use Rattle.rv_types.specs.{ConstantTables.AreNodeTablesOf}
+use Rattle.rv_types.proofs.{Joined.first_append, FirstNames.all_first, KnownLaws.flows_are, Entries.found_in, Entries.entry_found, Entries.node_found}
+use Rattle.rv_types.proofs.{Entries.at_number, ConstantMeanings.types_named, ConstantMeanings.kinds_tabled, Turned.twice, RightNames.both_empty}
 
 -- where each flow has an entry, the rest is only for other names
 found_or : (names : List Name) (kinds : List Kind) (x : Identifier) (other : Option Kind) → length kinds ≡ length names

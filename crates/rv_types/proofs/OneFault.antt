@@ -1,9 +1,8 @@
 -- One fault at most is the first.
 use Rattle.std.proofs.Common.{◌≡◌, ℕ, inl, inr, cond, nat_eq, List, [], ◌∷◌, refl, sym, ap, ◌∙◌, arith, length}
-use Rattle.rv_types.specs.declared.fault.NameFault.{NameFault}
 use Rattle.rv_types.specs.declared.fault.NameFault.TheVariants.{NoNode, UnknownName, DefinedTwice, Undefined, TypeClash, Nonlinear, ClockClash, NotObserver}
 use Rattle.rv_types.specs.declared.fault.NameFault.TheVariants.{Memory}
-use Rattle.rv_types.specs.Faults.{offset, number, ComesBefore, IsFirst, IsFirstOfGroups}
+use Rattle.rv_types.specs.{declared.fault.NameFault.NameFault, Faults.offset, Faults.number, Faults.ComesBefore, Faults.IsFirst, Faults.IsFirstOfGroups}
 
 -- the fault of a number at an offset
 numbered : ℕ → ℕ → NameFault

@@ -1,13 +1,11 @@
 -- The tree of an operator between two operands, and of an `if`, by those of its operands.
 use Rattle.std.proofs.Common.{◌≡◌, sym, ◌∙◌, ap}
-use Rattle.rv_tree.specs.declared.tree.Op.{Op}
-use Rattle.rv_tree.specs.declared.tree.Expr.{Expr}
-use Rattle.rv_tree.specs.declared.tree.ExprForm.{ExprForm}
-use Rattle.rv_tree.specs.declared.tree.ExprForm.TheOpen as step
 use Rattle.rv_tree.specs.declared.tree.ExprForm.TheFolds.{fold-ExprForm, fold_out-Expr, fold-roll-ExprForm}
 use Rattle.rv_tree.specs.declared.tree.ExprForm.TheViews.{rolls-Binary, rolls-If}
-use Rattle.rv_tree.specs.declared.tree.ExprForm.TheVariants as form
 use Rattle.rv_tree.specs.Tree.{Tree, Node, Form, Binary, If, tree_of, form_of}
+use Rattle.rv_tree.specs.{declared.tree.Op.Op, declared.tree.Expr.Expr, declared.tree.ExprForm.ExprForm}
+use Rattle.rv_tree.specs.declared.tree.ExprForm.TheOpen as step
+use Rattle.rv_tree.specs.declared.tree.ExprForm.TheVariants as form
 
 abbrev form_tree : ExprForm → Form
 form_tree = fold-ExprForm Form Tree form_of (λ e. Node e.at e.site e.form)

@@ -1,25 +1,18 @@
 -- Where no rule of clocks is broken, each expression is free or on a clock, and parts that join have one clock.
 use Rattle.std.proofs.Common.{◌≡◌, ◌⊎◌, inl, inr, ℕ, Bool, true, false, cond, List, [], ◌∷◌, ◌++◌, refl, sym, ◌∙◌, ap, subst}
-use Rattle.std.specs.List.{Contains}
 use Rattle.std.proofs.lemmas.Bool.{eqb-true}
-use Rattle.rv_tree.specs.declared.tree.Name.{Name}
-use Rattle.rv_tree.specs.declared.tree.Op.{Op}
-use Rattle.rv_tree.specs.declared.tree.Op.TheVariants as op
+use Rattle.std.specs.List.{Contains}
 use Rattle.rv_tree.specs.Tree.{Tree, Node, Form, True, False, Number, Named, Not, Minus, Pre, Current, When, Binary, If, AtMostOne, Call, Trees, None, More}
 use Rattle.rv_tree.specs.Tree.{NodeTree}
-use Rattle.rv_tree.specs.Places.{Identifier, is_flow, site_of}
-use Rattle.rv_types.specs.declared.typed.Clock.{Clock}
-use Rattle.rv_types.specs.declared.typed.Clock.TheVariants.{Base, On}
-use Rattle.rv_types.specs.declared.fault.Pace.{Pace}
+use Rattle.rv_tree.specs.{declared.tree.Name.Name, declared.tree.Op.Op, Places.Identifier, Places.is_flow, Places.site_of}
+use Rattle.rv_tree.specs.declared.tree.Op.TheVariants as op
 use Rattle.rv_types.specs.declared.fault.Pace.TheVariants.{Free, At, Mute, Differ}
-use Rattle.rv_types.specs.Parts.{faults, faults_below, faults_of_all}
-use Rattle.rv_types.specs.Names.{texts}
 use Rattle.rv_types.specs.Clocks.{same_clock, seen, meet, grounded, clash_in, clock_at, binary_pace, when_pace, current_pace, name_pace, pace, form_pace}
 use Rattle.rv_types.specs.Clocks.{pace_of_all, own_clash, expression_clocks, left_pace}
-use Rattle.rv_types.specs.ToldPaces.{IsTimed}
 use Rattle.rv_types.specs.Instances.{IsArgument, head, tail, clock_of, taken, clock_of_args}
-use Rattle.rv_types.proofs.RightNames.{both_empty}
-use Rattle.rv_types.proofs.Members.{nothing_in, cons_cases}
+use Rattle.rv_types.specs.{declared.typed.Clock.Clock, declared.typed.Clock.TheVariants.Base, declared.typed.Clock.TheVariants.On, declared.fault.Pace.Pace}
+use Rattle.rv_types.specs.{Parts.faults, Parts.faults_below, Parts.faults_of_all, Names.texts, ToldPaces.IsTimed}
+use Rattle.rv_types.proofs.{RightNames.both_empty, Members.nothing_in, Members.cons_cases}
 
 -- its parts have clocks
 abbrev IsHeard : Pace → Type 0

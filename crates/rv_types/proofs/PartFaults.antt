@@ -1,15 +1,12 @@
 -- Where an expression has no fault, neither have its calls and what it remembers.
-use Rattle.std.proofs.Common.{◌≡◌, inl, inr, ℕ, List, [], ◌++◌, subst, Option}
-use Rattle.std.proofs.Common.{unwrap_or}
-use Rattle.std.specs.List.{Contains}
+use Rattle.std.proofs.Common.{◌≡◌, inl, inr, ℕ, List, [], ◌++◌, subst, Option, unwrap_or}
 use Rattle.std.proofs.lemmas.List.Elements.{Contains-append_cases}
+use Rattle.std.specs.List.{Contains}
 use Rattle.rv_tree.specs.Tree.{Tree, Node, Form, True, False, Number, Named, Not, Minus, Pre, Current, When, Binary, If, AtMostOne, Call, Trees, None, More}
 use Rattle.rv_tree.specs.Delays.{Delay, delays, form_delays, delays_of_all}
-use Rattle.rv_types.specs.declared.fault.NameFault.{NameFault}
-use Rattle.rv_types.specs.Parts.{faults, faults_below, faults_of_all}
 use Rattle.rv_types.specs.Instances.{CallTree, calls_in, form_calls, calls_in_all, IsArgument, head, tail}
-use Rattle.rv_types.proofs.Members.{nothing_in, cons_cases}
-use Rattle.rv_types.proofs.RightNames.{both_empty}
+use Rattle.rv_types.specs.{declared.fault.NameFault.NameFault, Parts.faults, Parts.faults_below, Parts.faults_of_all}
+use Rattle.rv_types.proofs.{Members.nothing_in, Members.cons_cases, RightNames.both_empty}
 
 module _ (own : Tree → List NameFault) where
   -- a call without a fault, and none in its arguments

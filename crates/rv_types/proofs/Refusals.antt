@@ -1,16 +1,10 @@
 -- The first fault of a group, where the groups before have none.
 use Rattle.std.proofs.Common.{◌≡◌, inl, inr, true, false, cond, [], ◌∷◌, Some, sym, ap, subst}
-use Rattle.rv_tree.specs.Tree.{ProgramTree}
-use Rattle.rv_tree.specs.Places.{Identifier}
-use Rattle.rv_types.specs.declared.fault.NameFault.{NameFault}
-use Rattle.rv_types.specs.declared.fault.NameFault.TheVariants.{NoNode, Memory}
-use Rattle.rv_types.specs.Names.{is_declared, node_names, name_faults}
-use Rattle.rv_types.specs.Scopes.{type_faults, observer_faults}
-use Rattle.rv_types.specs.Clocks.{clock_faults}
-use Rattle.rv_types.specs.Earliest.{first}
-use Rattle.rv_types.specs.Settled.{HasCause, IsFaultOf, node_faults}
-use Rattle.rv_types.proofs.FirstLaws.{first_is}
-use Rattle.rv_types.proofs.Answered.{caused, has_node}
+use Rattle.rv_tree.specs.{Tree.ProgramTree, Places.Identifier}
+use Rattle.rv_types.specs.{declared.fault.NameFault.NameFault, declared.fault.NameFault.TheVariants.NoNode, declared.fault.NameFault.TheVariants.Memory}
+use Rattle.rv_types.specs.{Names.is_declared, Names.node_names, Names.name_faults, Scopes.type_faults, Scopes.observer_faults, Clocks.clock_faults}
+use Rattle.rv_types.specs.{Earliest.first, Settled.HasCause, Settled.IsFaultOf, Settled.node_faults}
+use Rattle.rv_types.proofs.{FirstLaws.first_is, Answered.caused, Answered.has_node}
 
 pub no_node : (p : ProgramTree) (main : Identifier) → is_declared (node_names p) main ≡ false → HasCause p main NoNode
 no_node p main absent = inl (first_is (node_faults p main) NoNode (ap (λ b. first (cond b [] (NoNode ∷ []))) absent))

@@ -1,18 +1,11 @@
 -- What is known where no rule of names is broken.
 use Rattle.std.proofs.Common.{ap, ◌∙◌, ◌≡◌, ◌≤◌, List, [], ◌∷◌, ◌++◌, flat_map, reverse, length, refl, arith}
-use Rattle.rv_tree.specs.declared.tree.Name.{Name}
-use Rattle.rv_tree.specs.declared.tree.TypeBody.{TypeBody}
-use Rattle.rv_tree.specs.declared.tree.TypeBody.TheVariants.{Alias, Labels}
-use Rattle.rv_tree.specs.declared.tree.TypeDecl.{TypeDecl}
-use Rattle.rv_tree.specs.Tree.{NodeTree, ProgramTree}
+use Rattle.rv_tree.specs.{declared.tree.Name.Name, declared.tree.TypeBody.TypeBody, declared.tree.TypeBody.TheVariants.Alias}
+use Rattle.rv_tree.specs.{declared.tree.TypeBody.TheVariants.Labels, declared.tree.TypeDecl.TypeDecl, Tree.NodeTree, Tree.ProgramTree}
 use Rattle.rv_base.specs.Limits.{source_limit}
 use Rattle.rv_types.specs.Names.{labels_of, type_names, constant_names, label_names, node_names, repeated, names_in_node, name_faults}
-use Rattle.rv_types.specs.Known.{first_spaces, flow_names}
-use Rattle.rv_types.specs.TypeTables.{declared_kinds, places_from}
-use Rattle.rv_types.specs.ConstantTables.{AreTablesOf}
-use Rattle.rv_types.specs.declared.spaces.Spaces.{Spaces}
-use Rattle.rv_types.specs.declared.typed.Kind.{Kind}
-use Rattle.rv_types.specs.declared.view.Label.{Label}
+use Rattle.rv_types.specs.{Known.first_spaces, Known.flow_names, TypeTables.declared_kinds, TypeTables.places_from, ConstantTables.AreTablesOf}
+use Rattle.rv_types.specs.{declared.spaces.Spaces.Spaces, declared.typed.Kind.Kind, declared.view.Label.Label}
 use Rattle.rv_types.proofs.FirstNames.{all_first}
 
 pub both_empty : {A : Type 0} (xs ys : List A) → xs ++ ys ≡ [] → (xs ≡ []) × (ys ≡ [])

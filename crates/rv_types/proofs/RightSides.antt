@@ -2,27 +2,19 @@
 -- right side that is no input.
 use Rattle.std.proofs.Common.{◌≡◌, ◌⊎◌, inl, inr, ℕ, ◌<◌, Bool, true, false, cond, List, [], ◌∷◌, ◌++◌, flat_map, length, get_or, refl, sym, ◌∙◌, ap, subst}
 use Rattle.std.proofs.Common.{arith, Some}
-use Rattle.std.specs.List.{Contains}
-use Rattle.std.proofs.lemmas.Bool.{or_right}
-use Rattle.std.proofs.lemmas.List.{length-map, get_or_default}
 use Rattle.std.proofs.lemmas.List.Elements.{Contains-append_left, Contains-append_right, Contains-append_cases}
-use Rattle.rv_tree.specs.declared.tree.Name.{Name}
-use Rattle.rv_tree.specs.declared.tree.Decl.{Decl}
+use Rattle.std.proofs.{lemmas.Bool.or_right, lemmas.List.length-map, lemmas.List.get_or_default}
+use Rattle.std.specs.List.{Contains}
 use Rattle.rv_tree.specs.Tree.{Tree, Node, Call, Trees, EquationTree, NodeTree, ProgramTree}
-use Rattle.rv_tree.specs.Places.{Identifier, names, flows, is_flow}
+use Rattle.rv_tree.specs.{declared.tree.Name.Name, declared.tree.Decl.Decl, Places.Identifier, Places.names, Places.flows, Places.is_flow}
 use Rattle.rv_types.specs.Names.{texts, is_declared, decls, decl_names, lefts, repeated, undefined_unless, flow_use, clock_use, use_of, node_uses}
 use Rattle.rv_types.specs.Names.{equation_uses, assertion_uses, names_in_node}
-use Rattle.rv_types.specs.declared.fault.NameFault.TheVariants.{Undefined}
-use Rattle.rv_types.specs.Firsts.{firsts_after}
-use Rattle.rv_types.specs.Known.{flow_names}
 use Rattle.rv_types.specs.Instances.{Right, Body, Output, IsRight, alone, in_order}
+use Rattle.rv_types.specs.{declared.fault.NameFault.TheVariants.Undefined, Firsts.firsts_after, Known.flow_names}
 use Rattle.rv_types.proofs.FirstNames.{declared_after, declared_append, repeated_append}
-use Rattle.rv_types.proofs.KnownLaws.{flows_are}
-use Rattle.rv_types.proofs.RightNames.{both_empty}
-use Rattle.rv_types.proofs.NodeFlows.{none_of}
-use Rattle.rv_types.proofs.ExpressionKinds.{use_known}
-use Rattle.rv_types.proofs.Members.{nothing_in, cons_cases, at_head, in_map, in_flat_map, of_flat_map, among_from, among_contains, not_before}
-use Rattle.rv_types.proofs.Members.{names_apart, one_number}
+use Rattle.rv_types.proofs.Members.{nothing_in, cons_cases, at_head, in_map, in_flat_map, of_flat_map, among_from, among_contains, not_before, names_apart}
+use Rattle.rv_types.proofs.Members.{one_number}
+use Rattle.rv_types.proofs.{KnownLaws.flows_are, RightNames.both_empty, NodeFlows.none_of, ExpressionKinds.use_known}
 use Rattle.rv_base.proofs.Lists.{from_map}
 
 -- the groups of faults of a node, of which each is empty

@@ -1,9 +1,8 @@
 -- Constants that stand in the order of their offsets, by their numbers.
 use Rattle.std.proofs.Common.{◌≡◌, suc, ◌<◌, List, ◌∷◌, ◌++◌, sym, ◌∙◌, ap, arith, get_or, take, drop}
-use Rattle.std.specs.List.{All}
-use Rattle.std.proofs.Math.Seq.{drop-cons}
 use Rattle.std.proofs.lemmas.List.{take-append-drop, length-take-le, get_or-take, get_or_default}
-use Rattle.std.proofs.lemmas.List.Elements.{All-contains}
+use Rattle.std.proofs.{Math.Seq.drop-cons, lemmas.List.Elements.All-contains}
+use Rattle.std.specs.List.{All}
 use Rattle.rv_tree.specs.Tree.{ConstantTree, ProgramTree}
 use Rattle.rv_types.proofs.ConstantKinds.{IsRising}
 

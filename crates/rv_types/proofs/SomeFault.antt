@@ -1,17 +1,9 @@
 -- A list of faults is empty or has a first one, and so do groups of them.
 use Rattle.std.proofs.Common.{◌≡◌, ◌⊎◌, inl, inr, Bool, true, false, cond, IsTrue, List, [], ◌∷◌, Option, Some, None, map, refl}
-use Rattle.rv_tree.specs.Tree.{ProgramTree}
-use Rattle.rv_tree.specs.Places.{Identifier}
-use Rattle.rv_types.specs.declared.fault.NameFault.{NameFault}
-use Rattle.rv_types.specs.declared.fault.NameFault.TheVariants.{NoNode}
-use Rattle.rv_types.specs.declared.typed.Typed.{Typed}
-use Rattle.rv_types.specs.Names.{is_declared, node_names}
-use Rattle.rv_types.specs.Kinds.{flow_kinds}
-use Rattle.rv_types.specs.Scopes.{constant_values}
-use Rattle.rv_types.specs.Clocks.{flow_clocks}
-use Rattle.rv_types.specs.Earliest.{first}
-use Rattle.rv_types.specs.Faults.{IsFirst, IsFirstOfGroups}
-use Rattle.rv_types.specs.Settled.{node_number, node_faults, groups, IsSettled, IsFirstFault}
+use Rattle.rv_tree.specs.{Tree.ProgramTree, Places.Identifier}
+use Rattle.rv_types.specs.{declared.fault.NameFault.NameFault, declared.fault.NameFault.TheVariants.NoNode, declared.typed.Typed.Typed, Names.is_declared}
+use Rattle.rv_types.specs.{Names.node_names, Kinds.flow_kinds, Scopes.constant_values, Clocks.flow_clocks, Earliest.first, Faults.IsFirst}
+use Rattle.rv_types.specs.{Faults.IsFirstOfGroups, Settled.node_number, Settled.node_faults, Settled.groups, Settled.IsSettled, Settled.IsFirstFault}
 use Rattle.rv_types.proofs.FirstLaws.{first_none, first_is}
 
 some_first : (fs : List NameFault) → (fs ≡ []) ⊎ ((f : NameFault) × IsFirst f fs)

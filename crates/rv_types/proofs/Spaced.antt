@@ -1,17 +1,10 @@
 -- What a map of names to offsets answers, in the words of lists of names.
 use Rattle.std.proofs.Common.{◌≡◌, ℕ, ◌+◌, Bool, true, false, not, cond, ◌||◌, List, [], ◌∷◌, ◌++◌, map, length, refl, sym, ap, ◌∙◌, nat_lt, position, Option}
-use Rattle.std.proofs.Common.{Some, IfSome, is_some, arith}
-use Rattle.std.proofs.Common.{None as Nothing}
-use Rattle.std.specs.List.{position_or_len}
-use Rattle.std.specs.Cmp.{nat_eq_equiv, partial_equiv_from_equiv}
-use Rattle.std.specs.Cmp.Lexicographic.{lists_per}
-use Rattle.std.specs.Map.{lookup, keys_of}
-use Rattle.rv_tree.specs.declared.tree.Name.{Name}
-use Rattle.rv_tree.specs.Places.{Identifier, is_same, index_of}
-use Rattle.rv_types.specs.Entries.{named}
-use Rattle.rv_types.specs.Names.{texts, is_declared, stands_before}
-use Rattle.rv_types.specs.Firsts.{with_name}
+use Rattle.std.proofs.Common.{Some, IfSome, is_some, arith, None as Nothing}
 use Rattle.std.proofs.lemmas.List.{map-append}
+use Rattle.std.specs.{List.position_or_len, Cmp.nat_eq_equiv, Cmp.partial_equiv_from_equiv, Cmp.Lexicographic.lists_per, Map.lookup, Map.keys_of}
+use Rattle.rv_tree.specs.{declared.tree.Name.Name, Places.Identifier, Places.is_same, Places.index_of}
+use Rattle.rv_types.specs.{Entries.named, Names.texts, Names.is_declared, Names.stands_before, Firsts.with_name}
 
 abbrev pub Entry : Type 0
 Entry = List ℕ × ℕ

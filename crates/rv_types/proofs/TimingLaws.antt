@@ -2,18 +2,10 @@
 use Rattle.std.proofs.Common.{◌≡◌, suc, ◌<◌, ◌^◌, Bool, cond, List, [], ◌∷◌, ◌++◌, length, map, Option, Some, refl, sym, ap, ◌∙◌, arith, length-append}
 use Rattle.std.proofs.Common.{None as Nothing}
 use Rattle.std.proofs.lemmas.List.{length-map}
-use Rattle.rv_tree.specs.declared.tree.Name.{Name}
-use Rattle.rv_tree.specs.declared.tree.Decl.{Decl}
-use Rattle.rv_tree.specs.Tree.{NodeTree}
-use Rattle.rv_tree.specs.Places.{flows, names, index_of, site_of}
-use Rattle.rv_types.specs.declared.typed.Clock.{Clock}
-use Rattle.rv_types.specs.declared.typed.Clock.TheVariants.{On}
-use Rattle.rv_types.specs.declared.fault.NameFault.{NameFault}
-use Rattle.rv_types.specs.declared.fault.NameFault.TheVariants.{ClockClash}
-use Rattle.rv_types.specs.Names.{texts}
-use Rattle.rv_types.specs.Clocks.{flow_clocks, base_clock, declared_clock, ends, chain_clash}
-use Rattle.rv_types.specs.Chains.{follow, after, is_base}
-use Rattle.rv_types.specs.Timings.{IsTiming, clock_by, EndsAt}
+use Rattle.rv_tree.specs.{declared.tree.Name.Name, declared.tree.Decl.Decl, Tree.NodeTree, Places.flows, Places.names, Places.index_of, Places.site_of}
+use Rattle.rv_types.specs.{declared.typed.Clock.Clock, declared.typed.Clock.TheVariants.On, declared.fault.NameFault.NameFault}
+use Rattle.rv_types.specs.{declared.fault.NameFault.TheVariants.ClockClash, Names.texts, Clocks.flow_clocks, Clocks.base_clock, Clocks.declared_clock}
+use Rattle.rv_types.specs.{Clocks.ends, Clocks.chain_clash, Chains.follow, Chains.after, Chains.is_base, Timings.IsTiming, Timings.clock_by, Timings.EndsAt}
 use Rattle.rv_types.proofs.ChainLaws.{ends_after}
 
 -- the chain of a declared clock

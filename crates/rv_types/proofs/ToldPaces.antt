@@ -1,16 +1,13 @@
 -- The first operand with a clock tells the pace of an expression that is free or on a clock.
 use Rattle.std.proofs.Common.{◌≡◌, ℕ, Bool, true, false, cond, refl, sym, ◌∙◌, ap}
-use Rattle.rv_tree.specs.declared.tree.Op.{Op}
-use Rattle.rv_tree.specs.declared.tree.Op.TheVariants as op
 use Rattle.rv_tree.specs.Tree.{Tree, Form, Trees, Node, True, False, Number, Named, Not, Minus, Pre, Current, When, Binary, If, AtMostOne, Call, None, More}
 use Rattle.rv_tree.specs.Tree.{NodeTree}
-use Rattle.rv_tree.specs.Places.{site_of}
-use Rattle.rv_types.specs.declared.typed.Clock.{Clock}
-use Rattle.rv_types.specs.declared.typed.Clock.TheVariants.{Base, On}
-use Rattle.rv_types.specs.declared.fault.Pace.{Pace}
+use Rattle.rv_tree.specs.{declared.tree.Op.Op, Places.site_of}
+use Rattle.rv_tree.specs.declared.tree.Op.TheVariants as op
 use Rattle.rv_types.specs.declared.fault.Pace.TheVariants.{Free, At, Mute, Differ}
 use Rattle.rv_types.specs.Clocks.{same_clock, clock_at, seen, meet, grounded, binary_pace, when_pace, current_pace, pace, form_pace, pace_of_all}
 use Rattle.rv_types.specs.ToldPaces.{IsTimed, first_pace, operator_told, told_pace, form_told, told_pace_of_all}
+use Rattle.rv_types.specs.{declared.typed.Clock.Clock, declared.typed.Clock.TheVariants.Base, declared.typed.Clock.TheVariants.On, declared.fault.Pace.Pace}
 
 -- a part that is seen with a clock, or free, is so
 pub seen_is : (p : Pace) → IsTimed (seen p) → IsTimed p × (seen p ≡ p)

@@ -1,8 +1,7 @@
 -- The declarations so far, the last of them first.
 use Rattle.std.proofs.Common.{◌≡◌, ℕ, ◌+◌, ◌<◌, ◌≤◌, List, [], ◌∷◌, ◌++◌, map, reverse, take, drop, length, get_or, refl, sym, ap, ◌∙◌, arith, add-one}
 use Rattle.std.proofs.Math.Seq.{take-suc}
-use Rattle.std.proofs.lemmas.List.{reverse-append, take-append-drop, length-reverse}
-use Rattle.std.proofs.lemmas.List.{length-take-le, length-map, get_or-map}
+use Rattle.std.proofs.lemmas.List.{reverse-append, take-append-drop, length-reverse, length-take-le, length-map, get_or-map}
 
 pub twice : {A : Type 0} (xs : List A) → reverse (reverse xs) ≡ xs
 twice [] = refl

@@ -1,14 +1,8 @@
 -- What the name of a type means is what stands at its number.
 use Rattle.std.proofs.Common.{◌≡◌, ℕ, cond, Some, List, [], ◌∷◌, ◌++◌, map, reverse, length, refl, sym, ap, ◌∙◌}
 use Rattle.std.proofs.lemmas.List.{map-append}
-use Rattle.rv_tree.specs.declared.tree.Name.{Name}
-use Rattle.rv_tree.specs.declared.tree.TypeDecl.{TypeDecl}
-use Rattle.rv_tree.specs.Places.{Identifier, is_same}
-use Rattle.rv_types.specs.declared.typed.Kind.{Kind}
-use Rattle.rv_types.specs.Names.{repeated}
-use Rattle.rv_types.specs.Kinds.{declared_kind, kind_after}
-use Rattle.rv_types.specs.Tables.{entry_in}
-use Rattle.rv_types.specs.TypeTables.{declared_kinds}
+use Rattle.rv_tree.specs.{declared.tree.Name.Name, declared.tree.TypeDecl.TypeDecl, Places.Identifier, Places.is_same}
+use Rattle.rv_types.specs.{declared.typed.Kind.Kind, Names.repeated, Kinds.declared_kind, Kinds.kind_after, Tables.entry_in, TypeTables.declared_kinds}
 use Rattle.rv_types.proofs.LastFirst.{last_of, all_of, front_of, last_is, all_of-map, all_of-length}
 
 abbrev meaning : List TypeDecl → TypeDecl → Kind

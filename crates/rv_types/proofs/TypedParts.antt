@@ -1,31 +1,23 @@
 -- The parts of an expression that has a type have types, and so have the operands of each operator of a node that keeps
 -- the rules.
-use Rattle.std.proofs.Common.{◌≡◌, ℕ, suc, inl, inr, Bool, true, false, ◌||◌, cond, List, [], ◌∷◌, ◌++◌, flat_map, length, refl, sym, ◌∙◌, ap, subst}
-use Rattle.std.proofs.Common.{arith, Option, Some, None as Nothing, unwrap_or}
-use Rattle.std.specs.List.{Contains}
-use Rattle.std.specs.Option.{option_map}
+use Rattle.std.proofs.Common.{◌≡◌, ℕ, suc, inl, inr, Bool, true, false, ◌||◌, cond, List, [], ◌∷◌, ◌++◌, flat_map, length, refl, sym, ◌∙◌, ap, subst, arith}
+use Rattle.std.proofs.Common.{Option, Some, None as Nothing, unwrap_or}
 use Rattle.std.proofs.lemmas.List.{length-map}
 use Rattle.std.proofs.lemmas.List.Elements.{Contains-append_left, Contains-append_right, Contains-append_cases}
-use Rattle.rv_tree.specs.declared.tree.Decl.{Decl}
-use Rattle.rv_tree.specs.declared.tree.Name.{Name}
-use Rattle.rv_tree.specs.declared.tree.Op.{Op}
-use Rattle.rv_tree.specs.declared.tree.Op.TheVariants as op
+use Rattle.std.specs.{List.Contains, Option.option_map}
 use Rattle.rv_tree.specs.Tree.{Tree, Node, Form, True, False, Number, Named, Not, Minus, Pre, Current, When, Binary, If, AtMostOne, Call, Trees, None, More}
 use Rattle.rv_tree.specs.Tree.{EquationTree, AssertionTree, NodeTree, ProgramTree}
-use Rattle.rv_tree.specs.Places.{Identifier}
-use Rattle.rv_types.specs.declared.typed.Kind.{Kind}
-use Rattle.rv_types.specs.declared.typed.Kind.TheVariants.{Bool as Boolean, Int}
-use Rattle.rv_types.specs.declared.fault.Verdict.{Verdict}
-use Rattle.rv_types.specs.declared.fault.Verdict.TheVariants.{Silent, Clashes, Multiplies}
+use Rattle.rv_tree.specs.{declared.tree.Decl.Decl, declared.tree.Name.Name, declared.tree.Op.Op, Places.Identifier}
+use Rattle.rv_tree.specs.declared.tree.Op.TheVariants as op
 use Rattle.rv_types.specs.Instances.{CallTree, calls_in, calls_in_all, calls_in_equations, calls_in_assertions, calls, alone, IsArgument, head, tail, no_node}
 use Rattle.rv_types.specs.Instances.{node_of}
-use Rattle.rv_types.specs.Kinds.{kind_in_program, node_named}
-use Rattle.rv_types.specs.Names.{texts}
 use Rattle.rv_types.specs.Types.{Signature, Scope, kind_in, where_met, one_of, two_of, three_of, binary_rule, not_rule, minus_rule, memory_rule, when_rule}
 use Rattle.rv_types.specs.Types.{when_of, if_rule, all_typed, all_suit, at_most_one_of, fit, sole, call_of, both_are, is_constant, kinds_of_all, kind_of}
-use Rattle.rv_types.specs.Scopes.{node_scope, signature_of, signature_named}
 use Rattle.rv_types.specs.Variables.{parts, form_parts, parts_of_all, node_parts}
-use Rattle.rv_types.specs.WellFormed.{IsWellFormed, IsWellTyped}
+use Rattle.rv_types.specs.{declared.typed.Kind.Kind, declared.typed.Kind.TheVariants.Bool as Boolean, declared.typed.Kind.TheVariants.Int}
+use Rattle.rv_types.specs.{declared.fault.Verdict.Verdict, declared.fault.Verdict.TheVariants.Silent, declared.fault.Verdict.TheVariants.Clashes}
+use Rattle.rv_types.specs.{declared.fault.Verdict.TheVariants.Multiplies, Kinds.kind_in_program, Kinds.node_named, Names.texts, Scopes.node_scope}
+use Rattle.rv_types.specs.{Scopes.signature_of, Scopes.signature_named, WellFormed.IsWellFormed, WellFormed.IsWellTyped}
 use Rattle.rv_types.proofs.Members.{nothing_in, cons_cases, at_head, of_flat_map}
 
 -- a type is known

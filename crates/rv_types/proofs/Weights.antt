@@ -1,14 +1,10 @@
 -- Values are no larger than their weights.
 use Rattle.std.proofs.Common.{◌≡◌, ℕ, ◌+◌, ◌*◌, ◌≤◌, ◌<◌, min, Bool, true, false, cond, nat_le, ℤ, pos, ◌+ℤ◌, ◌-ℤ◌, ◌*ℤ◌, nat_abs, refl, arith}
-use Rattle.std.proofs.Math.Nat.{mul-le-mul_left}
-use Rattle.std.proofs.lemmas.Int.{unsigned_abs-mul, ints}
-use Rattle.std.proofs.lemmas.Bool.Decides.{nat_tests}
-use Rattle.rv_base.specs.declared.value.Value.{Value}
-use Rattle.rv_base.specs.declared.value.Value.TheVariants.{Whole}
+use Rattle.std.proofs.{Math.Nat.mul-le-mul_left, lemmas.Int.unsigned_abs-mul, lemmas.Int.ints, lemmas.Bool.Decides.nat_tests}
+use Rattle.rv_base.specs.{declared.value.Value.Value, declared.value.Value.TheVariants.Whole, Limits.heaviest, Limits.too_heavy}
 use Rattle.rv_tree.specs.declared.tree.Op.{Op}
 use Rattle.rv_tree.specs.declared.tree.Op.TheVariants as op
 use Rattle.rv_types.specs.Constants.{whole_in, counted, value_under, weight_under}
-use Rattle.rv_base.specs.Limits.{heaviest, too_heavy}
 
 pub counted_small : (m : ℕ) (z : ℤ) → nat_abs z ≤ m → nat_abs (whole_in (counted m z)) ≤ min m too_heavy
 counted_small m z h = tested (nat_le m heaviest) refl

@@ -1,43 +1,31 @@
 -- The nodes of a program that keeps every rule are well formed and well typed.
 use Rattle.std.proofs.Common.{◌≡◌, ◌⊎◌, inl, inr, ℕ, zero, suc, ◌+◌, ◌<◌, Bool, true, false, cond, ◌||◌, List, [], ◌∷◌, ◌++◌, map, flat_map, reverse, length}
-use Rattle.std.proofs.Common.{get_or, refl, sym, ◌∙◌, ap, subst, arith, Option, Some, is_some, slice_get, append_assoc}
-use Rattle.std.proofs.Common.{None as Nothing}
-use Rattle.std.specs.List.{Contains}
+use Rattle.std.proofs.Common.{get_or, refl, sym, ◌∙◌, ap, subst, arith, Option, Some, is_some, slice_get, append_assoc, None as Nothing}
 use Rattle.std.proofs.lemmas.List.{length-map, get_or-map, get_or_append_left, get_or_default}
 use Rattle.std.proofs.lemmas.List.Elements.{Contains-append_cases}
-use Rattle.rv_tree.specs.declared.tree.Name.{Name}
-use Rattle.rv_tree.specs.declared.tree.Decl.{Decl}
+use Rattle.std.specs.List.{Contains}
 use Rattle.rv_tree.specs.Tree.{Tree, Node, Call, Trees, EquationTree, AssertionTree, NodeTree, ProgramTree}
 use Rattle.rv_tree.specs.Places.{Identifier, names, flows, site_of, is_flow, is_same, index_of}
 use Rattle.rv_tree.specs.Delays.{Delay, IsNumbered, delays, node_delays, delays_in_equations, delays_in_assertions}
-use Rattle.rv_types.specs.declared.typed.Kind.{Kind}
-use Rattle.rv_types.specs.declared.typed.Clock.{Clock}
-use Rattle.rv_types.specs.declared.typed.Clock.TheVariants.{Base}
-use Rattle.rv_types.specs.Parts.{offset_of, faults_of_all}
+use Rattle.rv_tree.specs.{declared.tree.Name.Name, declared.tree.Decl.Decl}
 use Rattle.rv_types.specs.Names.{texts, is_declared, node_names, type_names, constant_names, label_names, repeated, repeated_values, alias_use, constant_uses}
 use Rattle.rv_types.specs.Names.{names_in_node, name_faults}
-use Rattle.rv_types.specs.Kinds.{decl_kinds, flow_kind}
-use Rattle.rv_types.specs.Types.{kind_of, kinds_of_all}
 use Rattle.rv_types.specs.Scopes.{constant_kind, node_scope, left_kinds, constant_types, types_in_node, type_faults}
 use Rattle.rv_types.specs.Clocks.{base_clock, declared_clock, seen, meet, clash_in, pace, own_clash, expression_clocks, left_pace, chain_clash, equation_clocks}
 use Rattle.rv_types.specs.Clocks.{assertion_clocks, clocks_in_node, clock_faults}
 use Rattle.rv_types.specs.Instances.{CallTree, calls, calls_in, calls_in_equations, calls_in_assertions, Right, Body, Output, IsRight, alone, in_order}
 use Rattle.rv_types.specs.Instances.{IsArgument, head, tail, clock_of, clock_of_args, taken, node_of}
-use Rattle.rv_types.specs.declared.fault.Pace.{Pace}
 use Rattle.rv_types.specs.declared.fault.Pace.TheVariants.{Free, At, Mute, Differ}
 use Rattle.rv_types.specs.WellFormed.{Suits, IsWellFormed, IsWellTyped, AreWell}
-use Rattle.rv_types.proofs.RightNames.{both_empty}
-use Rattle.rv_types.proofs.NodeFlows.{none_of, node_right}
+use Rattle.rv_types.specs.{declared.typed.Kind.Kind, declared.typed.Clock.Clock, declared.typed.Clock.TheVariants.Base, Parts.offset_of, Parts.faults_of_all}
+use Rattle.rv_types.specs.{Kinds.decl_kinds, Kinds.flow_kind, Types.kind_of, Types.kinds_of_all, declared.fault.Pace.Pace, ToldPaces.IsTimed}
 use Rattle.rv_types.proofs.Members.{nothing_in, cons_cases, at_head, stands_at, text_itself}
-use Rattle.rv_types.proofs.CallSites.{has_sites, one_call, right_site}
-use Rattle.rv_types.proofs.PartFaults.{IsRightCall, calls_right, delays_right}
-use Rattle.rv_types.proofs.ConstantContents.{contents}
-use Rattle.rv_types.proofs.ConstantKinds.{IsRising, constants_known}
-use Rattle.rv_types.specs.ToldPaces.{IsTimed}
-use Rattle.rv_types.proofs.Paces.{paced, argument_takes, sides_take, call_takes}
 use Rattle.rv_types.proofs.RightSides.{IsNamedNode, named_node, flows_apart, left_flow, left_is, given_or_left, one_right, sides_known, texts_long}
 use Rattle.rv_types.proofs.NodeKinds.{the_some, fit_long, fit_at, typed_at, argument_there, argument_kind, IsTypedNode, typed_node, flow_typed, IsSided, single}
 use Rattle.rv_types.proofs.NodeKinds.{several, equation_sided, several_call, assertion_typed, calls_fit, delays_typed, clock_typed, sides_typed}
+use Rattle.rv_types.proofs.{RightNames.both_empty, NodeFlows.none_of, NodeFlows.node_right, CallSites.has_sites, CallSites.one_call, CallSites.right_site}
+use Rattle.rv_types.proofs.{PartFaults.IsRightCall, PartFaults.calls_right, PartFaults.delays_right, ConstantContents.contents, ConstantKinds.IsRising}
+use Rattle.rv_types.proofs.{ConstantKinds.constants_known, Paces.paced, Paces.argument_takes, Paces.sides_take, Paces.call_takes}
 
 -- Inputs come first, and stand on the base clock.
 

@@ -1,16 +1,11 @@
 -- A walk over some expressions of a constant, and the values of the first constants.
 use Rattle.std.proofs.Common.{◌≡◌, ℕ, suc, ◌+◌, ◌<◌, ◌≤◌, min, Bool, true, false, not, ◌&&◌, ◌||◌, List, [], ◌∷◌, ◌++◌, length, map, reverse, take, drop}
-use Rattle.std.proofs.Common.{get_or, append-nil, append_assoc, length-append, Option, Some, refl, sym, ap, ◌∙◌, add-one, arith}
-use Rattle.std.proofs.Common.{None as Nothing}
-use Rattle.std.proofs.Math.Seq.{drop-cons, take-append_seam}
-use Rattle.std.proofs.lemmas.List.{length-reverse, reverse-append, take-append-drop}
+use Rattle.std.proofs.Common.{get_or, append-nil, append_assoc, length-append, Option, Some, refl, sym, ap, ◌∙◌, add-one, arith, None as Nothing}
+use Rattle.std.proofs.{Math.Seq.drop-cons, Math.Seq.take-append_seam, lemmas.List.length-reverse, lemmas.List.reverse-append, lemmas.List.take-append-drop}
 use Rattle.rv_base.specs.declared.value.Value.{Value}
-use Rattle.rv_tree.specs.declared.tree.Expr.{Expr}
-use Rattle.rv_tree.specs.Tree.{More, ConstantTree, ProgramTree, tree_of, trees}
-use Rattle.rv_types.specs.Constants.{value_of}
+use Rattle.rv_tree.specs.{declared.tree.Expr.Expr, Tree.More, Tree.ConstantTree, Tree.ProgramTree, Tree.tree_of, Tree.trees}
 use Rattle.rv_types.specs.Scopes.{constant_value_after, constant_values, constant_values_of}
-use Rattle.rv_types.specs.ValueTables.{at_most_after}
-use Rattle.rv_types.specs.WideConstants.{lesser}
+use Rattle.rv_types.specs.{Constants.value_of, ValueTables.at_most_after, WideConstants.lesser}
 use Rattle.rv_types.proofs.Turned.{turned-length}
 
 -- the rest of some expressions from one on

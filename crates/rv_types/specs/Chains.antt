@@ -1,7 +1,6 @@
 -- Where chains of clocks lead, by the clocks of the flows of a node in the order of their sites.
 use Rattle.std.specs.Prelude.{ℕ, zero, suc, Bool, true, false, List, slice_index_or}
-use Rattle.rv_types.specs.declared.typed.Clock.{Clock}
-use Rattle.rv_types.specs.declared.typed.Clock.TheVariants.{Base, On}
+use Rattle.rv_types.specs.{declared.typed.Clock.Clock, declared.typed.Clock.TheVariants.Base, declared.typed.Clock.TheVariants.On}
 
 -- the clock of a clock's flow; the base clock has itself
 abbrev pub follow : List Clock → Clock → Clock

@@ -2,20 +2,14 @@
 -- (Halbwachs, Caspi, Raymond and Pilaud 1991: each flow has a clock, and operators join flows of one clock.)
 use Rattle.std.specs.Prelude.{ℕ, zero, suc, Bool, true, false, cond, nat_eq, List, [], ◌∷◌, ◌++◌, map, flat_map, length, Option, Some, slice_index_or}
 use Rattle.std.specs.Prelude.{None as Nothing}
-use Rattle.rv_tree.specs.declared.tree.Op.{Op}
-use Rattle.rv_tree.specs.declared.tree.Op.TheVariants as op
-use Rattle.rv_tree.specs.declared.tree.Name.{Name}
-use Rattle.rv_tree.specs.declared.tree.Decl.{Decl}
 use Rattle.rv_tree.specs.Tree.{Tree, Form, Trees, Node, True, False, Number, Named, Not, Minus, Pre, Current, When, Binary, If, AtMostOne, Call, None, More}
 use Rattle.rv_tree.specs.Tree.{EquationTree, AssertionTree, NodeTree, ProgramTree}
-use Rattle.rv_tree.specs.Places.{Identifier, is_flow, site_of}
-use Rattle.rv_types.specs.declared.typed.Clock.{Clock}
-use Rattle.rv_types.specs.declared.typed.Clock.TheVariants.{Base, On}
-use Rattle.rv_types.specs.declared.fault.NameFault.{NameFault}
-use Rattle.rv_types.specs.declared.fault.NameFault.TheVariants.{ClockClash}
-use Rattle.rv_types.specs.declared.fault.Pace.{Pace}
+use Rattle.rv_tree.specs.{declared.tree.Op.Op, declared.tree.Name.Name, declared.tree.Decl.Decl, Places.Identifier, Places.is_flow, Places.site_of}
+use Rattle.rv_tree.specs.declared.tree.Op.TheVariants as op
 use Rattle.rv_types.specs.declared.fault.Pace.TheVariants.{Free, At, Mute, Differ}
-use Rattle.rv_types.specs.Parts.{offset_of, faults}
+use Rattle.rv_types.specs.{declared.typed.Clock.Clock, declared.typed.Clock.TheVariants.Base, declared.typed.Clock.TheVariants.On}
+use Rattle.rv_types.specs.{declared.fault.NameFault.NameFault, declared.fault.NameFault.TheVariants.ClockClash, declared.fault.Pace.Pace, Parts.offset_of}
+use Rattle.rv_types.specs.{Parts.faults}
 
 -- A `Pace` of an expression: it is free; it is on a clock; it has none, since a part has none; the parts have clocks
 -- and its own rule fails.

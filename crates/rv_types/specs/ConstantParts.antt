@@ -1,15 +1,9 @@
 -- What is known of an expression where it is constant: its value and its weight.
-use Rattle.std.specs.Prelude.{◌≤◌, min, true, false, not, ◌&&◌, ◌||◌, cond, nat_abs, Option, Some, IfSome}
-use Rattle.std.specs.Prelude.{None as Nothing}
-use Rattle.rv_base.specs.declared.value.Value.{Value}
-use Rattle.rv_base.specs.declared.value.Value.TheVariants.{Flag}
-use Rattle.rv_tree.specs.Tree.{Tree, Node, Form, Trees, None, More}
-use Rattle.rv_tree.specs.Places.{Identifier}
-use Rattle.rv_types.specs.declared.weighing.Weighed.{Weighed}
-use Rattle.rv_types.specs.declared.reading_values.Trues.{Trues}
-use Rattle.rv_types.specs.Types.{Scope, is_constant_form}
+use Rattle.std.specs.Prelude.{◌≤◌, min, true, false, not, ◌&&◌, ◌||◌, cond, nat_abs, Option, Some, IfSome, None as Nothing}
+use Rattle.rv_base.specs.{declared.value.Value.Value, declared.value.Value.TheVariants.Flag, Limits.too_heavy}
+use Rattle.rv_tree.specs.{Tree.Tree, Tree.Node, Tree.Form, Tree.Trees, Tree.None, Tree.More, Places.Identifier}
 use Rattle.rv_types.specs.Constants.{flag_in, whole_in, form_value, form_weight}
-use Rattle.rv_base.specs.Limits.{too_heavy}
+use Rattle.rv_types.specs.{declared.weighing.Weighed.Weighed, declared.reading_values.Trues.Trues, Types.Scope, Types.is_constant_form}
 
 -- A value is no larger than its weight, and that counts to 2^40 + 1.
 pub record IsBound (w : Weighed) : Type 0 where

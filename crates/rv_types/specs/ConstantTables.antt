@@ -1,19 +1,10 @@
 -- A constant, by the tables of what stands before it.
-use Rattle.std.specs.Prelude.{◌≡◌, ℕ, cond, List, [], ◌++◌, map, reverse, Option, Some}
-use Rattle.std.specs.Prelude.{None as Nothing}
-use Rattle.rv_tree.specs.declared.tree.Name.{Name}
-use Rattle.rv_tree.specs.declared.tree.TypeName.{TypeName}
-use Rattle.rv_tree.specs.Tree.{ConstantTree, ProgramTree}
-use Rattle.rv_tree.specs.Places.{Identifier}
-use Rattle.rv_types.specs.declared.typed.Kind.{Kind}
-use Rattle.rv_types.specs.declared.view.Label.{Label}
-use Rattle.rv_types.specs.declared.fault.NameFault.{NameFault}
-use Rattle.rv_types.specs.Parts.{offset_of}
+use Rattle.std.specs.Prelude.{◌≡◌, ℕ, cond, List, [], ◌++◌, map, reverse, Option, Some, None as Nothing}
+use Rattle.rv_tree.specs.{declared.tree.Name.Name, declared.tree.TypeName.TypeName, Tree.ConstantTree, Tree.ProgramTree, Places.Identifier}
 use Rattle.rv_types.specs.Names.{type_names, constant_names, label_names, node_names, repeated}
-use Rattle.rv_types.specs.Kinds.{written_kind}
 use Rattle.rv_types.specs.Types.{Scope, Signature, same_kind, kind_of, expression_types}
-use Rattle.rv_types.specs.Scopes.{clash_unless, constant_kinds_of, signature_of}
-use Rattle.rv_types.specs.TypeTables.{declared_kinds, places_from}
+use Rattle.rv_types.specs.{declared.typed.Kind.Kind, declared.view.Label.Label, declared.fault.NameFault.NameFault, Parts.offset_of, Kinds.written_kind}
+use Rattle.rv_types.specs.{Scopes.clash_unless, Scopes.constant_kinds_of, Scopes.signature_of, TypeTables.declared_kinds, TypeTables.places_from}
 
 -- a type where it is the declared one, or none is declared; names of types mean these
 abbrev pub as_declared_by : (Identifier → Option Kind) → Option TypeName → Option Kind → Option Kind

@@ -2,13 +2,11 @@
 -- as the value 2^40 + 1.
 use Rattle.std.specs.Prelude.{ℕ, ◌+◌, ◌*◌, max, Bool, true, false, not, ◌&&◌, ◌||◌, cond, nat_eq, nat_le, List, [], ◌∷◌, ℤ, pos, ◌+ℤ◌, ◌-ℤ◌, ◌*ℤ◌, neg_ℤ}
 use Rattle.std.specs.Prelude.{nat_abs, int_lt, int_le}
-use Rattle.rv_base.specs.declared.value.Value.{Value}
 use Rattle.rv_base.specs.declared.value.Value.TheVariants.{Flag, Label, Whole}
-use Rattle.rv_tree.specs.declared.tree.Op.{Op}
-use Rattle.rv_tree.specs.declared.tree.Op.TheVariants as op
+use Rattle.rv_base.specs.{declared.value.Value.Value, Limits.heaviest, Limits.too_heavy}
 use Rattle.rv_tree.specs.Tree.{Tree, Form, Trees, Node, True, False, Number, Named, Not, Minus, Binary, If, AtMostOne, None, More}
-use Rattle.rv_tree.specs.Places.{Identifier}
-use Rattle.rv_base.specs.Limits.{heaviest, too_heavy}
+use Rattle.rv_tree.specs.{declared.tree.Op.Op, Places.Identifier}
+use Rattle.rv_tree.specs.declared.tree.Op.TheVariants as op
 
 -- the truth of a Boolean value
 abbrev pub flag_in : Value → Bool

@@ -1,12 +1,10 @@
 -- The types of the operands of `pre` and `current`: of a list of these, and in the order in which a walk over the
 -- expressions of a node comes to them.
 use Rattle.std.specs.Prelude.{List, [], ◌∷◌, ◌++◌, map, flat_map, unwrap_or}
-use Rattle.rv_tree.specs.Delays.{Delay}
-use Rattle.rv_tree.specs.Tree.{Tree, Node, Form, True, False, Number, Named, Not, Minus, Pre, Current, When, Binary, If, AtMostOne, Call, Trees, None, More}
-use Rattle.rv_tree.specs.Tree.{NodeTree}
-use Rattle.rv_types.specs.declared.typed.Kind.{Kind}
+use Rattle.rv_tree.specs.{Delays.Delay, Tree.Tree, Tree.Node, Tree.Form, Tree.True, Tree.False, Tree.Number, Tree.Named, Tree.Not, Tree.Minus, Tree.Pre}
+use Rattle.rv_tree.specs.{Tree.Current, Tree.When, Tree.Binary, Tree.If, Tree.AtMostOne, Tree.Call, Tree.Trees, Tree.None, Tree.More, Tree.NodeTree}
+use Rattle.rv_types.specs.{declared.typed.Kind.Kind, Types.Scope, Types.kind_of}
 use Rattle.rv_types.specs.declared.typed.Kind.TheVariants as kind
-use Rattle.rv_types.specs.Types.{Scope, kind_of}
 
 -- the type of the operand of one; `Bool` where it has none
 abbrev pub delayed_kind : Scope → Delay → Kind

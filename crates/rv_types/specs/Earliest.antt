@@ -1,7 +1,6 @@
 -- The fault that comes first of a list, as one is picked after the other.
 use Rattle.std.specs.Prelude.{ℕ, ◌+◌, ◌*◌, cond, nat_le, List, [], ◌∷◌, Option, Some, None}
-use Rattle.rv_types.specs.declared.fault.NameFault.{NameFault}
-use Rattle.rv_types.specs.Faults.{offset, number}
+use Rattle.rv_types.specs.{declared.fault.NameFault.NameFault, Faults.offset, Faults.number}
 
 -- offset and number as one key; numbers are below 16
 abbrev pub rank : NameFault → ℕ

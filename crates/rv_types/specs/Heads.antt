@@ -1,12 +1,10 @@
 -- The type that the head of an expression tells, without a look at more than one of its operands.
-use Rattle.std.specs.Prelude.{unwrap_or, List, [], ◌∷◌, Option, Some}
-use Rattle.std.specs.Prelude.{None as Nothing}
+use Rattle.std.specs.Prelude.{unwrap_or, List, [], ◌∷◌, Option, Some, None as Nothing}
 use Rattle.rv_tree.specs.declared.tree.Op.{Op}
-use Rattle.rv_tree.specs.declared.tree.Op.TheVariants as op
 use Rattle.rv_tree.specs.Tree.{Tree, Form, Node, True, False, Number, Named, Not, Minus, Pre, Current, When, Binary, If, AtMostOne, Call}
-use Rattle.rv_types.specs.declared.typed.Kind.{Kind}
-use Rattle.rv_types.specs.declared.typed.Kind.TheVariants.{Bool as Boolean, Int}
-use Rattle.rv_types.specs.Types.{Scope, Signature}
+use Rattle.rv_tree.specs.declared.tree.Op.TheVariants as op
+use Rattle.rv_types.specs.{declared.typed.Kind.Kind, declared.typed.Kind.TheVariants.Bool as Boolean, declared.typed.Kind.TheVariants.Int, Types.Scope}
+use Rattle.rv_types.specs.{Types.Signature}
 
 -- the type that an operator gives whatever its operands are; `->` gives that of its operands
 abbrev pub kind_given : Op → Option Kind

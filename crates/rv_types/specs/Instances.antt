@@ -7,13 +7,9 @@ use Rattle.std.specs.List.{Contains}
 use Rattle.rv_tree.specs.Tree.{Tree, Node, Form, True, False, Number, Named, Not, Minus, Pre, Current, When, Binary, If, AtMostOne, Call, Trees, None, More}
 use Rattle.rv_tree.specs.Tree.{EquationTree, AssertionTree, NodeTree, ProgramTree}
 use Rattle.rv_tree.specs.Places.{Identifier, Sites, flows, flow_place, site_of, is_among}
-use Rattle.rv_types.specs.declared.typed.Clock.{Clock}
-use Rattle.rv_types.specs.declared.typed.Clock.TheVariants.{Base, On}
-use Rattle.rv_types.specs.declared.fault.Pace.{Pace}
 use Rattle.rv_types.specs.declared.fault.Pace.TheVariants.{Free, At, Mute, Differ}
-use Rattle.rv_types.specs.Clocks.{pace, pace_of_all, clock_at}
-use Rattle.rv_types.specs.Names.{texts}
-use Rattle.rv_types.specs.Kinds.{node_named}
+use Rattle.rv_types.specs.{declared.typed.Clock.Clock, declared.typed.Clock.TheVariants.Base, declared.typed.Clock.TheVariants.On, declared.fault.Pace.Pace}
+use Rattle.rv_types.specs.{Clocks.pace, Clocks.pace_of_all, Clocks.clock_at, Names.texts, Kinds.node_named}
 
 -- a call, by its offset, its site, the name of its node and its arguments
 pub record CallTree : Type 0 where

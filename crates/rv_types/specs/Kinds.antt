@@ -1,18 +1,11 @@
 -- What declarations name: types, labels and nodes.
-use Rattle.std.specs.Prelude.{ℕ, cond, List, [], ◌∷◌, ◌+◌, map, length, reverse, unwrap_or, Option, Some, slice_get}
-use Rattle.std.specs.Prelude.{None as Nothing}
-use Rattle.rv_tree.specs.declared.tree.Name.{Name}
-use Rattle.rv_tree.specs.declared.tree.TypeName.{TypeName}
+use Rattle.std.specs.Prelude.{ℕ, cond, List, [], ◌∷◌, ◌+◌, map, length, reverse, unwrap_or, Option, Some, slice_get, None as Nothing}
+use Rattle.rv_tree.specs.{declared.tree.Name.Name, declared.tree.TypeName.TypeName, declared.tree.TypeBody.TypeBody, declared.tree.TypeDecl.TypeDecl}
+use Rattle.rv_tree.specs.{declared.tree.Decl.Decl, Tree.NodeTree, Tree.ProgramTree, Places.Identifier, Places.is_same, Places.site_of}
 use Rattle.rv_tree.specs.declared.tree.TypeName.TheVariants as written
-use Rattle.rv_tree.specs.declared.tree.TypeBody.{TypeBody}
 use Rattle.rv_tree.specs.declared.tree.TypeBody.TheVariants as body
-use Rattle.rv_tree.specs.declared.tree.TypeDecl.{TypeDecl}
-use Rattle.rv_tree.specs.declared.tree.Decl.{Decl}
-use Rattle.rv_tree.specs.Tree.{NodeTree, ProgramTree}
-use Rattle.rv_tree.specs.Places.{Identifier, is_same, site_of}
-use Rattle.rv_types.specs.declared.typed.Kind.{Kind}
 use Rattle.rv_types.specs.declared.typed.Kind.TheVariants.{Bool, Int, Labels}
-use Rattle.rv_types.specs.Names.{decls, labels_of}
+use Rattle.rv_types.specs.{declared.typed.Kind.Kind, Names.decls, Names.labels_of}
 
 -- What a written type is, where names of types mean these. No rule of names leaves one without a meaning; `Bool`
 -- stands for such a one here.

@@ -1,21 +1,12 @@
 -- The spaces of names of a program, and what is wrong of the declarations in them and of the uses, by these spaces.
-use Rattle.std.specs.Prelude.{ℕ, Bool, true, ◌||◌, List, [], ◌++◌, flat_map, Option, Some}
-use Rattle.std.specs.Prelude.{None as Nothing}
-use Rattle.rv_tree.specs.declared.tree.Name.{Name}
-use Rattle.rv_tree.specs.declared.tree.TypeName.{TypeName}
+use Rattle.std.specs.Prelude.{ℕ, Bool, true, ◌||◌, List, [], ◌++◌, flat_map, Option, Some, None as Nothing}
 use Rattle.rv_tree.specs.declared.tree.TypeBody.TheVariants.{Alias, Labels}
-use Rattle.rv_tree.specs.declared.tree.TypeDecl.{TypeDecl}
-use Rattle.rv_tree.specs.declared.tree.Decl.{Decl}
-use Rattle.rv_types.specs.Parts.{faults_of_all}
 use Rattle.rv_tree.specs.Tree.{Tree, Trees, EquationTree, AssertionTree, ConstantTree, NodeTree, ProgramTree}
-use Rattle.rv_tree.specs.Places.{Identifier}
-use Rattle.rv_types.specs.declared.fault.NameFault.{NameFault}
-use Rattle.rv_types.specs.declared.spaces.Spaces.{Spaces}
-use Rattle.rv_types.specs.declared.uses.Reach.{Reach}
+use Rattle.rv_tree.specs.{declared.tree.Name.Name, declared.tree.TypeName.TypeName, declared.tree.TypeDecl.TypeDecl, declared.tree.Decl.Decl, Places.Identifier}
 use Rattle.rv_types.specs.declared.uses.Reach.TheVariants.{Before, Everywhere}
 use Rattle.rv_types.specs.Names.{is_declared, stands_before, type_names, constant_names, label_names, node_names, decls, decl_names, lefts, repeated}
 use Rattle.rv_types.specs.Names.{repeated_values, undefined_unless, type_use, use_of, own_uses, uses}
-use Rattle.rv_types.specs.Firsts.{firsts}
+use Rattle.rv_types.specs.{Parts.faults_of_all, declared.fault.NameFault.NameFault, declared.spaces.Spaces.Spaces, declared.uses.Reach.Reach, Firsts.firsts}
 
 abbrev pub first_spaces : ProgramTree → Spaces
 first_spaces p = record {

@@ -2,18 +2,12 @@
 use Rattle.std.specs.Prelude.{◌≡◌, ℕ, zero, suc, ◌+◌, ◌<◌, true, cond, List, [], ◌∷◌, ◌++◌, map, flat_map, length, Some, slice_index_or}
 use Rattle.std.specs.List.{Contains}
 use Rattle.rv_base.specs.declared.value.Place.{Place}
-use Rattle.rv_tree.specs.declared.tree.Op.{Op}
-use Rattle.rv_tree.specs.declared.tree.Op.TheVariants as op
 use Rattle.rv_tree.specs.Tree.{Tree, Node, Binary, ProgramTree}
-use Rattle.rv_tree.specs.Places.{Identifier, Sites, memory_place}
-use Rattle.rv_tree.specs.Delays.{node_delays, Delay}
-use Rattle.rv_types.specs.declared.typed.Kind.{Kind}
-use Rattle.rv_types.specs.declared.typed.Clock.TheVariants.{Base}
-use Rattle.rv_types.specs.Kinds.{decl_kinds}
-use Rattle.rv_types.specs.Values.{operand_kind}
+use Rattle.rv_tree.specs.{declared.tree.Op.Op, Places.Identifier, Places.Sites, Places.memory_place, Delays.node_delays, Delays.Delay}
+use Rattle.rv_tree.specs.declared.tree.Op.TheVariants as op
 use Rattle.rv_types.specs.Variables.{node_parts, is_arrow, is_integer, kind_bits}
 use Rattle.rv_types.specs.Instances.{Instance, IsInstance, clock_in, node_of}
-use Rattle.rv_types.specs.Needs.{IsBefore}
+use Rattle.rv_types.specs.{declared.typed.Kind.Kind, declared.typed.Clock.TheVariants.Base, Kinds.decl_kinds, Values.operand_kind, Needs.IsBefore}
 
 -- the sites of places
 abbrev pub sites_of : List Place → List Sites

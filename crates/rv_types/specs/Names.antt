@@ -1,19 +1,14 @@
 -- The rules of names. Nodes, types, and constants together with labels have three spaces of names for the whole
 -- program; flows have a space for each node. The uses and declarations that break a rule are listed.
 -- (Halbwachs, Caspi, Raymond and Pilaud 1991 for the declarations of the language.)
-use Rattle.std.specs.Prelude.{ℕ, Bool, true, false, ◌||◌, cond, nat_lt, List, [], ◌∷◌, ◌++◌, map, flat_map, Some}
-use Rattle.std.specs.Prelude.{None as Nothing}
-use Rattle.rv_tree.specs.declared.tree.Name.{Name}
-use Rattle.rv_tree.specs.declared.tree.TypeName.{TypeName}
-use Rattle.rv_tree.specs.declared.tree.TypeName.TheVariants as written
+use Rattle.std.specs.Prelude.{ℕ, Bool, true, false, ◌||◌, cond, nat_lt, List, [], ◌∷◌, ◌++◌, map, flat_map, Some, None as Nothing}
 use Rattle.rv_tree.specs.declared.tree.TypeBody.TheVariants.{Alias, Labels}
-use Rattle.rv_tree.specs.declared.tree.TypeDecl.{TypeDecl}
-use Rattle.rv_tree.specs.declared.tree.Decl.{Decl}
 use Rattle.rv_tree.specs.Tree.{Tree, Node, Named, When, Call, EquationTree, AssertionTree, ConstantTree, NodeTree, ProgramTree}
 use Rattle.rv_tree.specs.Places.{Identifier, is_same, is_among, is_flow}
-use Rattle.rv_types.specs.declared.fault.NameFault.{NameFault}
+use Rattle.rv_tree.specs.{declared.tree.Name.Name, declared.tree.TypeName.TypeName, declared.tree.TypeDecl.TypeDecl, declared.tree.Decl.Decl}
+use Rattle.rv_tree.specs.declared.tree.TypeName.TheVariants as written
 use Rattle.rv_types.specs.declared.fault.NameFault.TheVariants.{UnknownName, DefinedTwice, Undefined}
-use Rattle.rv_types.specs.Parts.{faults}
+use Rattle.rv_types.specs.{declared.fault.NameFault.NameFault, Parts.faults}
 
 abbrev pub texts : List Name → List Identifier
 texts xs = map (λ x. x.text) xs

@@ -1,18 +1,11 @@
 -- What breaks a rule of types in the equations, assertions and clocks of a node, by the scope of its expressions.
-use Rattle.std.specs.Prelude.{ℕ, Bool, cond, List, [], ◌∷◌, ◌++◌, map, flat_map, Option, Some, is_some}
-use Rattle.std.specs.Prelude.{None as Nothing}
-use Rattle.rv_tree.specs.declared.tree.Name.{Name}
-use Rattle.rv_tree.specs.declared.tree.Decl.{Decl}
+use Rattle.std.specs.Prelude.{ℕ, Bool, cond, List, [], ◌∷◌, ◌++◌, map, flat_map, Option, Some, is_some, None as Nothing}
 use Rattle.rv_tree.specs.Tree.{Tree, Trees, EquationTree, AssertionTree, NodeTree, ProgramTree}
-use Rattle.rv_types.specs.declared.typed.Kind.{Kind}
-use Rattle.rv_types.specs.declared.typed.Kind.TheVariants.{Bool as Boolean}
-use Rattle.rv_types.specs.declared.fault.NameFault.{NameFault}
-use Rattle.rv_types.specs.declared.fault.NameFault.TheVariants.{TypeClash, NotObserver}
-use Rattle.rv_tree.specs.Places.{Identifier}
-use Rattle.rv_types.specs.Parts.{offset_of, faults_of_all}
-use Rattle.rv_types.specs.Types.{Scope, kind_of, kinds_of_all, expression_types, own_type_fault}
-use Rattle.rv_types.specs.Scopes.{clash_unless, sides_clash, several_clash, several_types, is_observer}
-use Rattle.rv_types.specs.Kinds.{decl_kinds}
+use Rattle.rv_tree.specs.{declared.tree.Name.Name, declared.tree.Decl.Decl, Places.Identifier}
+use Rattle.rv_types.specs.{declared.typed.Kind.Kind, declared.typed.Kind.TheVariants.Bool as Boolean, declared.fault.NameFault.NameFault}
+use Rattle.rv_types.specs.{declared.fault.NameFault.TheVariants.TypeClash, declared.fault.NameFault.TheVariants.NotObserver, Parts.offset_of}
+use Rattle.rv_types.specs.{Parts.faults_of_all, Types.Scope, Types.kind_of, Types.kinds_of_all, Types.expression_types, Types.own_type_fault}
+use Rattle.rv_types.specs.{Scopes.clash_unless, Scopes.sides_clash, Scopes.several_clash, Scopes.several_types, Scopes.is_observer, Kinds.decl_kinds}
 
 -- where a rule is not met
 abbrev pub clash_where : ℕ → Bool → List NameFault

@@ -1,10 +1,8 @@
 -- The tables by which the expressions of a program are read, once its names are known to be right.
 use Rattle.std.specs.Prelude.{true}
 use Rattle.rv_tree.specs.Tree.{ProgramTree}
-use Rattle.rv_types.specs.declared.reading.ProgramTables.{ProgramTables}
-use Rattle.rv_types.specs.declared.reading.NodeTables.{NodeTables}
 use Rattle.rv_types.specs.ConstantTables.{AreTablesOf, AreNodeTablesOf}
-use Rattle.rv_types.specs.Tables.{Tables}
+use Rattle.rv_types.specs.{declared.reading.ProgramTables.ProgramTables, declared.reading.NodeTables.NodeTables, Tables.Tables}
 
 -- These are the tables of a program.
 pub record AreTables (p : ProgramTree) (t : ProgramTables) : Type 0 where

@@ -1,22 +1,14 @@
 -- What names stand for in constants and in nodes, and what breaks a rule of types there.
-use Rattle.std.specs.Prelude.{ℕ, Bool, true, false, not, ◌&&◌, cond, List, [], ◌∷◌, ◌++◌, map, flat_map, reverse, Option, Some, is_some}
+use Rattle.std.specs.Prelude.{ℕ, Bool, true, false, not, ◌&&◌, cond, List, [], ◌∷◌, ◌++◌, map, flat_map, reverse, Option, Some, is_some, None as Nothing}
 use Rattle.std.specs.Option.{option_map}
-use Rattle.std.specs.Prelude.{None as Nothing}
-use Rattle.rv_base.specs.declared.value.Value.{Value}
-use Rattle.rv_base.specs.declared.value.Value.TheVariants.{Flag, Label}
-use Rattle.rv_tree.specs.declared.tree.Name.{Name}
-use Rattle.rv_tree.specs.declared.tree.TypeName.{TypeName}
-use Rattle.rv_tree.specs.declared.tree.Decl.{Decl}
+use Rattle.rv_base.specs.{declared.value.Value.Value, declared.value.Value.TheVariants.Flag, declared.value.Value.TheVariants.Label}
 use Rattle.rv_tree.specs.Tree.{Tree, Node, Call, EquationTree, AssertionTree, ConstantTree, NodeTree, ProgramTree}
-use Rattle.rv_tree.specs.Places.{Identifier, is_same, is_flow}
-use Rattle.rv_types.specs.declared.typed.Kind.{Kind}
-use Rattle.rv_types.specs.declared.typed.Kind.TheVariants.{Bool as Boolean, Labels}
-use Rattle.rv_types.specs.declared.fault.NameFault.{NameFault}
-use Rattle.rv_types.specs.declared.fault.NameFault.TheVariants.{TypeClash, NotObserver}
-use Rattle.rv_types.specs.Parts.{offset_of, faults_of_all}
+use Rattle.rv_tree.specs.{declared.tree.Name.Name, declared.tree.TypeName.TypeName, declared.tree.Decl.Decl, Places.Identifier, Places.is_same, Places.is_flow}
 use Rattle.rv_types.specs.Kinds.{kind_in_program, decl_kinds, flow_kind, label_of, node_named}
 use Rattle.rv_types.specs.Types.{Signature, Scope, same_kind, suits, all_typed, fit, kind_of, kinds_of_all, expression_types, own_type_fault}
-use Rattle.rv_types.specs.Constants.{value_of}
+use Rattle.rv_types.specs.{declared.typed.Kind.Kind, declared.typed.Kind.TheVariants.Bool as Boolean, declared.typed.Kind.TheVariants.Labels}
+use Rattle.rv_types.specs.{declared.fault.NameFault.NameFault, declared.fault.NameFault.TheVariants.TypeClash, declared.fault.NameFault.TheVariants.NotObserver}
+use Rattle.rv_types.specs.{Parts.offset_of, Parts.faults_of_all, Constants.value_of}
 
 -- the type and the value of a label
 abbrev pub label_kind : ProgramTree → Identifier → Option Kind

@@ -1,18 +1,12 @@
 -- Which programs meet every rule of names, types and clocks, with which types, clocks and constants, and which fault
 -- is the first of one that does not.
 use Rattle.std.specs.Prelude.{◌≡◌, ◌⊎◌, ◌<◌, ℕ, cond, IsTrue, List, [], ◌∷◌, map, length, Result, Ok, Err, Some}
-use Rattle.rv_tree.specs.Tree.{ProgramTree}
-use Rattle.rv_tree.specs.Places.{Identifier, index_of}
-use Rattle.rv_types.specs.declared.fault.NameFault.{NameFault}
+use Rattle.rv_tree.specs.{Tree.ProgramTree, Places.Identifier, Places.index_of}
 use Rattle.rv_types.specs.declared.fault.NameFault.TheVariants.{NoNode, UnknownName, DefinedTwice, Undefined, TypeClash, Nonlinear, ClockClash, NotObserver}
 use Rattle.rv_types.specs.declared.fault.NameFault.TheVariants.{Memory}
-use Rattle.rv_types.specs.declared.typed.Typed.{Typed}
 use Rattle.rv_types.specs.Names.{texts, is_declared, node_names, name_faults}
-use Rattle.rv_types.specs.Kinds.{flow_kinds}
-use Rattle.rv_types.specs.Scopes.{constant_values, type_faults, observer_faults}
-use Rattle.rv_types.specs.Clocks.{flow_clocks, clock_faults}
-use Rattle.rv_types.specs.Faults.{IsFirstOfGroups}
-use Rattle.rv_types.specs.Earliest.{first}
+use Rattle.rv_types.specs.{declared.fault.NameFault.NameFault, declared.typed.Typed.Typed, Kinds.flow_kinds, Scopes.constant_values, Scopes.type_faults}
+use Rattle.rv_types.specs.{Scopes.observer_faults, Clocks.flow_clocks, Clocks.clock_faults, Faults.IsFirstOfGroups, Earliest.first}
 
 -- the number of the first node of a name
 abbrev pub node_number : ProgramTree → Identifier → ℕ

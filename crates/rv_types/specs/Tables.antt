@@ -1,14 +1,8 @@
 -- What names stand for, by tables: what is known of each name stands at the number of its declaration.
-use Rattle.std.specs.Prelude.{ℕ, Bool, false, not, ◌&&◌, cond, List, [], Option, Some, slice_get}
-use Rattle.std.specs.Prelude.{None as Nothing}
-use Rattle.rv_tree.specs.declared.tree.Name.{Name}
-use Rattle.rv_tree.specs.Places.{Identifier, index_of}
-use Rattle.rv_types.specs.declared.typed.Kind.{Kind}
-use Rattle.rv_types.specs.declared.typed.Kind.TheVariants.{Labels}
-use Rattle.rv_types.specs.declared.view.Label.{Label}
-use Rattle.rv_types.specs.Names.{texts, is_declared}
+use Rattle.std.specs.Prelude.{ℕ, Bool, false, not, ◌&&◌, cond, List, [], Option, Some, slice_get, None as Nothing}
+use Rattle.rv_tree.specs.{declared.tree.Name.Name, Places.Identifier, Places.index_of, declared.tree.Op.Op}
 use Rattle.rv_types.specs.Types.{Signature, Scope, suits}
-use Rattle.rv_tree.specs.declared.tree.Op.{Op}
+use Rattle.rv_types.specs.{declared.typed.Kind.Kind, declared.typed.Kind.TheVariants.Labels, declared.view.Label.Label, Names.texts, Names.is_declared}
 use Rattle.rv_tree.specs.declared.tree.Op.TheVariants as op
 
 -- what a table has for a name

@@ -1,16 +1,9 @@
 -- The tables by which the clocks of a node are read.
-use Rattle.std.specs.Prelude.{◌≡◌, ◌<◌, ◌^◌, suc, List, [], length, Option, Some}
-use Rattle.std.specs.Prelude.{None as Nothing}
-use Rattle.rv_tree.specs.declared.tree.Name.{Name}
-use Rattle.rv_tree.specs.Tree.{NodeTree}
-use Rattle.rv_tree.specs.Places.{flows, index_of}
-use Rattle.rv_types.specs.declared.typed.Clock.{Clock}
-use Rattle.rv_types.specs.declared.typed.Clock.TheVariants.{Base, On}
+use Rattle.std.specs.Prelude.{◌≡◌, ◌<◌, ◌^◌, suc, List, [], length, Option, Some, None as Nothing}
 use Rattle.std.specs.List.{Contains}
-use Rattle.rv_types.specs.Names.{texts, repeated}
-use Rattle.rv_types.specs.Known.{flow_names}
-use Rattle.rv_types.specs.Clocks.{flow_clocks, ends}
-use Rattle.rv_types.specs.Chains.{follow, is_base}
+use Rattle.rv_tree.specs.{declared.tree.Name.Name, Tree.NodeTree, Places.flows, Places.index_of}
+use Rattle.rv_types.specs.{declared.typed.Clock.Clock, declared.typed.Clock.TheVariants.Base, declared.typed.Clock.TheVariants.On, Names.texts, Names.repeated}
+use Rattle.rv_types.specs.{Known.flow_names, Clocks.flow_clocks, Clocks.ends, Chains.follow, Chains.is_base}
 
 -- the names and the clocks of the flows of a node
 pub record IsTiming (n : NodeTree) (names : List Name) (clocks : List Clock) : Type 0 where

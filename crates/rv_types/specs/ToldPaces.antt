@@ -1,16 +1,12 @@
 -- The pace that the first operand with a clock tells, without a look at those after it.
 use Rattle.std.specs.Prelude.{Bool, true, false, cond}
-use Rattle.rv_tree.specs.declared.tree.Op.{Op}
-use Rattle.rv_tree.specs.declared.tree.Op.TheVariants as op
 use Rattle.rv_tree.specs.Tree.{Tree, Form, Trees, Node, True, False, Number, Named, Not, Minus, Pre, Current, When, Binary, If, AtMostOne, Call, None, More}
 use Rattle.rv_tree.specs.Tree.{NodeTree}
-use Rattle.rv_tree.specs.Places.{site_of}
-use Rattle.rv_types.specs.declared.typed.Clock.{Clock}
-use Rattle.rv_types.specs.declared.typed.Clock.TheVariants.{Base, On}
-use Rattle.rv_types.specs.declared.fault.Pace.{Pace}
-use Rattle.rv_types.specs.declared.fault.Pace.TheVariants.{Free, At, Mute, Differ}
-use Rattle.rv_types.specs.Clocks.{seen, grounded, current_pace, name_pace}
-use Rattle.rv_types.specs.Instances.{taken}
+use Rattle.rv_tree.specs.{declared.tree.Op.Op, Places.site_of}
+use Rattle.rv_tree.specs.declared.tree.Op.TheVariants as op
+use Rattle.rv_types.specs.{declared.typed.Clock.Clock, declared.typed.Clock.TheVariants.Base, declared.typed.Clock.TheVariants.On, declared.fault.Pace.Pace}
+use Rattle.rv_types.specs.{declared.fault.Pace.TheVariants.Free, declared.fault.Pace.TheVariants.At, declared.fault.Pace.TheVariants.Mute}
+use Rattle.rv_types.specs.{declared.fault.Pace.TheVariants.Differ, Clocks.seen, Clocks.grounded, Clocks.current_pace, Clocks.name_pace, Instances.taken}
 
 -- free or on a clock, as each expression of a program whose clocks are right
 abbrev pub IsTimed : Pace → Type 0

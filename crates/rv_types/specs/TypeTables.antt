@@ -1,15 +1,8 @@
 -- The tables of types, labels and nodes.
 use Rattle.std.specs.Prelude.{ℕ, ◌+◌, List, [], ◌∷◌, ◌++◌, map, length, Option}
-use Rattle.rv_tree.specs.declared.tree.Name.{Name}
-use Rattle.rv_tree.specs.declared.tree.TypeDecl.{TypeDecl}
-use Rattle.rv_tree.specs.declared.tree.Decl.{Decl}
-use Rattle.rv_tree.specs.Tree.{NodeTree}
-use Rattle.rv_tree.specs.Places.{Identifier}
-use Rattle.rv_types.specs.declared.typed.Kind.{Kind}
-use Rattle.rv_types.specs.declared.view.Label.{Label}
-use Rattle.rv_types.specs.Names.{labels_of, decls}
+use Rattle.rv_tree.specs.{declared.tree.Name.Name, declared.tree.TypeDecl.TypeDecl, declared.tree.Decl.Decl, Tree.NodeTree, Places.Identifier}
 use Rattle.rv_types.specs.Kinds.{written_kind, declared_kind, kind_after}
-use Rattle.rv_types.specs.Types.{Signature}
+use Rattle.rv_types.specs.{declared.typed.Kind.Kind, declared.view.Label.Label, Names.labels_of, Names.decls, Types.Signature}
 
 -- what each of some declarations of types means, the last of them first, in the order of the text
 abbrev pub declared_kinds : List TypeDecl → List Kind

@@ -1,17 +1,12 @@
 -- The types of expressions, and where they clash: one table of rules gives both.
-use Rattle.std.specs.Prelude.{ℕ, Bool, true, false, ◌&&◌, ◌||◌, cond, nat_eq, List, [], ◌∷◌, Option, Some}
-use Rattle.std.specs.Prelude.{None as Nothing}
-use Rattle.rv_tree.specs.declared.tree.Op.{Op}
-use Rattle.rv_tree.specs.declared.tree.Op.TheVariants as op
+use Rattle.std.specs.Prelude.{ℕ, Bool, true, false, ◌&&◌, ◌||◌, cond, nat_eq, List, [], ◌∷◌, Option, Some, None as Nothing}
 use Rattle.rv_tree.specs.Tree.{Tree, Form, Trees, Node, True, False, Number, Named, Not, Minus, Pre, Current, When, Binary, If, AtMostOne, Call, None, More}
-use Rattle.rv_tree.specs.Places.{Identifier}
-use Rattle.rv_types.specs.declared.typed.Kind.{Kind}
+use Rattle.rv_tree.specs.{declared.tree.Op.Op, Places.Identifier}
+use Rattle.rv_tree.specs.declared.tree.Op.TheVariants as op
 use Rattle.rv_types.specs.declared.typed.Kind.TheVariants.{Bool as Boolean, Int, Labels}
-use Rattle.rv_types.specs.declared.fault.NameFault.{NameFault}
 use Rattle.rv_types.specs.declared.fault.NameFault.TheVariants.{TypeClash, Nonlinear}
-use Rattle.rv_types.specs.declared.fault.Verdict.{Verdict}
 use Rattle.rv_types.specs.declared.fault.Verdict.TheVariants.{Has, Silent, Clashes, Multiplies}
-use Rattle.rv_types.specs.Parts.{faults}
+use Rattle.rv_types.specs.{declared.typed.Kind.Kind, declared.fault.NameFault.NameFault, declared.fault.Verdict.Verdict, Parts.faults}
 
 -- A `Verdict` on an expression: it has a type; it has none, since a part has none; the parts have types and its own
 -- rule fails, by a clash or by a product that is not linear.

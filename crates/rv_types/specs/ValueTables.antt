@@ -1,14 +1,9 @@
 -- What constants and labels stand for, by tables.
-use Rattle.std.specs.Prelude.{ℕ, ◌≤◌, Bool, true, false, List, nat_abs, Option, Some}
-use Rattle.std.specs.Prelude.{None as Nothing}
-use Rattle.rv_base.specs.declared.value.Value.{Value}
+use Rattle.std.specs.Prelude.{ℕ, ◌≤◌, Bool, true, false, List, nat_abs, Option, Some, None as Nothing}
+use Rattle.rv_base.specs.{declared.value.Value.Value, Limits.too_heavy}
 use Rattle.rv_base.specs.declared.value.Value.TheVariants as value
-use Rattle.rv_tree.specs.declared.tree.Name.{Name}
-use Rattle.rv_tree.specs.Places.{Identifier}
-use Rattle.rv_base.specs.Limits.{too_heavy}
-use Rattle.rv_types.specs.declared.view.Label.{Label}
-use Rattle.rv_types.specs.Constants.{whole_in, none_true, at_most_one}
-use Rattle.rv_types.specs.Tables.{entry_in}
+use Rattle.rv_tree.specs.{declared.tree.Name.Name, Places.Identifier}
+use Rattle.rv_types.specs.{declared.view.Label.Label, Constants.whole_in, Constants.none_true, Constants.at_most_one, Tables.entry_in}
 
 -- as what any larger weight counts
 abbrev pub cap : ℕ

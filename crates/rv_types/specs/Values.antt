@@ -2,13 +2,9 @@
 use Rattle.std.specs.Prelude.{ℕ, zero, suc, ◌<◌, List, [], ◌∷◌, length, unwrap_or}
 use Rattle.rv_base.specs.declared.value.Value.{Value}
 use Rattle.rv_base.specs.declared.value.Value.TheVariants.{Flag, Label, Whole}
-use Rattle.rv_tree.specs.declared.tree.TypeDecl.{TypeDecl}
-use Rattle.rv_tree.specs.Tree.{Tree, NodeTree, ProgramTree}
-use Rattle.rv_types.specs.declared.typed.Kind.{Kind}
+use Rattle.rv_tree.specs.{declared.tree.TypeDecl.TypeDecl, Tree.Tree, Tree.NodeTree, Tree.ProgramTree}
+use Rattle.rv_types.specs.{declared.typed.Kind.Kind, Names.labels_of, Types.kind_of, Scopes.node_scope}
 use Rattle.rv_types.specs.declared.typed.Kind.TheVariants as kind
-use Rattle.rv_types.specs.Names.{labels_of}
-use Rattle.rv_types.specs.Types.{kind_of}
-use Rattle.rv_types.specs.Scopes.{node_scope}
 
 -- the number of labels of a type, 0 where it is an alias
 abbrev pub label_count : TypeDecl → ℕ

@@ -2,18 +2,13 @@
 -- its clocks, the order tests of its comparisons. (Jeannet 2003 for the control state, Bryant 1986 for the diagrams.)
 use Rattle.std.specs.Prelude.{ℕ, zero, suc, ◌+◌, ◌*◌, ◌^◌, Bool, true, false, ◌&&◌, ◌||◌, cond, nat_eq, nat_le, List, [], ◌∷◌, ◌++◌, flat_map, length, Some}
 use Rattle.std.specs.Prelude.{None as Nothing}
-use Rattle.rv_tree.specs.declared.tree.Op.{Op}
-use Rattle.rv_tree.specs.declared.tree.Op.TheVariants as op
 use Rattle.rv_tree.specs.Tree.{Tree, Node, Form, True, False, Number, Named, Not, Minus, Pre, Current, When, Binary, If, AtMostOne, Call, Trees, None, More}
 use Rattle.rv_tree.specs.Tree.{NodeTree, ProgramTree}
-use Rattle.rv_tree.specs.Places.{Identifier, Sites, memory_site}
-use Rattle.rv_tree.specs.Delays.{Delay, node_delays}
-use Rattle.rv_types.specs.declared.typed.Kind.{Kind}
-use Rattle.rv_types.specs.declared.typed.Kind.TheVariants as kind
-use Rattle.rv_types.specs.declared.typed.Clock.TheVariants.{Base}
-use Rattle.rv_types.specs.Kinds.{decl_kinds}
-use Rattle.rv_types.specs.Values.{operand_kind, labels_at}
+use Rattle.rv_tree.specs.{declared.tree.Op.Op, Places.Identifier, Places.Sites, Places.memory_site, Delays.Delay, Delays.node_delays}
+use Rattle.rv_tree.specs.declared.tree.Op.TheVariants as op
 use Rattle.rv_types.specs.Instances.{Instance, clock_in, node_of, all_instances}
+use Rattle.rv_types.specs.{declared.typed.Kind.Kind, declared.typed.Clock.TheVariants.Base, Kinds.decl_kinds, Values.operand_kind, Values.labels_at}
+use Rattle.rv_types.specs.declared.typed.Kind.TheVariants as kind
 
 -- the sum over a list
 abbrev pub total : {X : Type 0} → (X → ℕ) → List X → ℕ

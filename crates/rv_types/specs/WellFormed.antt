@@ -1,23 +1,14 @@
 -- What the rules of names, types and clocks give for the nodes of a program that keeps them all.
 use Rattle.std.specs.Prelude.{◌≡◌, ℕ, ◌<◌, ◌≤◌, ◌⊎◌, [], length, slice_index_or, slice_get, Option, Some, IsSome}
 use Rattle.std.specs.List.{Contains}
-use Rattle.rv_tree.specs.declared.tree.Decl.{Decl}
-use Rattle.rv_tree.specs.declared.tree.Name.{Name}
-use Rattle.rv_tree.specs.Tree.{Tree, Node, Call, Trees, EquationTree, AssertionTree, NodeTree, ProgramTree}
-use Rattle.rv_tree.specs.Places.{Identifier, flows, names}
-use Rattle.rv_tree.specs.Delays.{Delay, node_delays, IsNumbered}
-use Rattle.rv_types.specs.declared.typed.Kind.{Kind}
-use Rattle.rv_types.specs.declared.typed.Kind.TheVariants as kind
-use Rattle.rv_types.specs.declared.typed.Clock.{Clock}
-use Rattle.rv_types.specs.declared.typed.Clock.TheVariants.{Base}
-use Rattle.rv_types.specs.declared.fault.Pace.{Pace}
+use Rattle.rv_tree.specs.{declared.tree.Decl.Decl, declared.tree.Name.Name, Tree.Tree, Tree.Node, Tree.Call, Tree.Trees, Tree.EquationTree, Tree.AssertionTree}
+use Rattle.rv_tree.specs.{Tree.NodeTree, Tree.ProgramTree, Places.Identifier, Places.flows, Places.names, Delays.Delay, Delays.node_delays, Delays.IsNumbered}
 use Rattle.rv_types.specs.declared.fault.Pace.TheVariants.{Free, At, Mute, Differ}
-use Rattle.rv_types.specs.Clocks.{pace}
-use Rattle.rv_types.specs.Kinds.{decl_kinds, flow_kind, node_named}
-use Rattle.rv_types.specs.Types.{kind_of}
-use Rattle.rv_types.specs.Scopes.{node_scope, constant_kind, constant_value}
-use Rattle.rv_types.specs.Values.{HasKind}
 use Rattle.rv_types.specs.Instances.{CallTree, calls, Right, Body, Output, IsRight, IsArgument, clock_of, clock_of_args, taken, node_of}
+use Rattle.rv_types.specs.{declared.typed.Kind.Kind, declared.typed.Clock.Clock, declared.typed.Clock.TheVariants.Base, declared.fault.Pace.Pace, Clocks.pace}
+use Rattle.rv_types.specs.{Kinds.decl_kinds, Kinds.flow_kind, Kinds.node_named, Types.kind_of, Scopes.node_scope, Scopes.constant_kind, Scopes.constant_value}
+use Rattle.rv_types.specs.{Values.HasKind}
+use Rattle.rv_types.specs.declared.typed.Kind.TheVariants as kind
 
 -- what stands on a clock, or is free and may stand there
 abbrev pub Suits : Clock → Pace → Type 0

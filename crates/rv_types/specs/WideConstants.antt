@@ -1,13 +1,10 @@
 -- The least offset of what is too wide in constants.
-use Rattle.std.specs.Prelude.{ℕ, min, cond, nat_lt, List, [], ◌∷◌, Option, Some}
-use Rattle.std.specs.Prelude.{None as Nothing}
-use Rattle.rv_base.specs.declared.value.Value.{Value}
+use Rattle.std.specs.Prelude.{ℕ, min, cond, nat_lt, List, [], ◌∷◌, Option, Some, None as Nothing}
+use Rattle.rv_base.specs.{declared.value.Value.Value, Limits.heaviest}
 use Rattle.rv_tree.specs.Tree.{Tree, Node, Form, True, False, Number, Named, Not, Minus, Pre, Current, When, Binary, If, AtMostOne, Call, Trees, None, More}
 use Rattle.rv_tree.specs.Tree.{ConstantTree, ProgramTree}
 use Rattle.rv_tree.specs.Places.{Identifier}
-use Rattle.rv_base.specs.Limits.{heaviest}
-use Rattle.rv_types.specs.Constants.{form_weight}
-use Rattle.rv_types.specs.Scopes.{constant_value_after}
+use Rattle.rv_types.specs.{Constants.form_weight, Scopes.constant_value_after}
 
 -- the lesser of two offsets
 abbrev pub lesser : Option ℕ → Option ℕ → Option ℕ

@@ -1,25 +1,16 @@
 -- The certificate of one location that holds a closed good set of control states is accepted.
 use Rattle.std.proofs.Common.{ℕ, zero, suc, ◌<◌, ◌≤◌, ◌≡◌, List, [], ◌∷◌, length, map, refl, sym, ap, ◌∙◌, subst, ⊎_elim, arith, slice_get, Some, Option, All}
-use Rattle.std.proofs.lemmas.List.{length-map}
-use Rattle.std.proofs.lemmas.List.Elements.{All-nil}
 use Rattle.std.proofs.lemmas.Option.{slice_get_within, slice_get_cases, slice_get-map}
+use Rattle.std.proofs.{lemmas.List.length-map, lemmas.List.Elements.All-nil}
 use Rattle.std.specs.Option.{option_map}
 use Rattle.rv_diagram.specs.declared.frozen.Frozen.{Frozen}
-use Rattle.rv_proofs.specs.Systems.{System}
-use Rattle.rv_proofs.specs.Counts.{IsLoop, HasLoop, HasLocationCounts, HasEntryCounts}
 use Rattle.rv_proofs.specs.Scopes.{IsIn, Implication, implications, each, after, rows_into, IsSettled}
-use Rattle.rv_proofs.specs.Ranges.{IsControlSet, AreKept, IsEntryInRange, IsLocationInRange}
 use Rattle.rv_proofs.specs.Accepted.{IsIncluded, IsCovered, Leads, IsDeadKind, IsObserved, AreImplied, IsAccepted}
-use Rattle.rv_proofs.specs.Cases.{AreCases}
-use Rattle.rv_proofs.specs.Reached.{IsControlClosed, IsControlGood}
-use Rattle.rv_proofs.specs.declared.certificate.Location.{Location}
-use Rattle.rv_proofs.specs.declared.certificate.Entry.{Entry}
-use Rattle.rv_proofs.specs.declared.report.Case.{Case}
-use Rattle.rv_walk.specs.Ends.{has}
-use Rattle.rv_walk.specs.Plain.{IsPlain, ArePlain}
-use Rattle.rv_walk.specs.Walks.{entry_of, location_of, certificate_of}
-use Rattle.rv_base.proofs.Lists.{get_push, none_at, push_got}
-use Rattle.rv_base.proofs.Options.{some_same}
+use Rattle.rv_proofs.specs.{Systems.System, Counts.IsLoop, Counts.HasLoop, Counts.HasLocationCounts, Counts.HasEntryCounts, Ranges.IsControlSet, Ranges.AreKept}
+use Rattle.rv_proofs.specs.{Ranges.IsEntryInRange, Ranges.IsLocationInRange, Cases.AreCases, Reached.IsControlClosed, Reached.IsControlGood}
+use Rattle.rv_proofs.specs.{declared.certificate.Location.Location, declared.certificate.Entry.Entry, declared.report.Case.Case}
+use Rattle.rv_walk.specs.{Ends.has, Plain.IsPlain, Plain.ArePlain, Walks.entry_of, Walks.location_of, Walks.certificate_of}
+use Rattle.rv_base.proofs.{Lists.get_push, Lists.none_at, Lists.push_got, Options.some_same}
 
 -- what a mapped list holds
 got-map : {A B : Type 0} (f : A → B) (xs : List A) (k : ℕ) (y : B) → slice_get (map f xs) k ≡ Some y → (x : A) × (slice_get xs k ≡ Some x) × (f x ≡ y)

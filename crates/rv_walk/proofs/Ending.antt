@@ -1,27 +1,17 @@
 -- What a walk shows when it ends: the least claim, its layers, and runs through them.
-use Rattle.std.proofs.Common.{ℕ, ◌+◌, ◌-◌, ◌<◌, ◌≤◌, ◌≡◌, ◌↔◌, Bool, true, false, nat_lt, cond, List, [], length, zero, suc, refl, sym, ap, ◌∙◌}
-use Rattle.std.proofs.Common.{subst, ⊎_elim, arith, slice_get, Some, ℤ, IsTrue}
+use Rattle.std.proofs.Common.{ℕ, ◌+◌, ◌-◌, ◌<◌, ◌≤◌, ◌≡◌, ◌↔◌, Bool, true, false, nat_lt, cond, List, [], length, zero, suc, refl, sym, ap, ◌∙◌, subst, ⊎_elim}
+use Rattle.std.proofs.Common.{arith, slice_get, Some, ℤ, IsTrue}
 use Rattle.std.proofs.lemmas.Bool.{cases_lt, lt-ltb, le-ltb, both_ways}
 use Rattle.std.proofs.lemmas.Option.{get_or_from_slice_get, slice_get-get_or, slice_get_within}
-use Rattle.rv_diagram.specs.Nodes.{Valuation}
-use Rattle.rv_diagram.specs.declared.frozen.Frozen.{Frozen}
-use Rattle.rv_proofs.specs.Systems.{System, HasSameState}
-use Rattle.rv_proofs.specs.Ranges.{IsControlSet}
-use Rattle.rv_proofs.specs.Scopes.{IsIn}
-use Rattle.rv_proofs.specs.Accepted.{IsAccepted}
+use Rattle.rv_diagram.specs.{Nodes.Valuation, declared.frozen.Frozen.Frozen}
 use Rattle.rv_proofs.specs.Boxes.{BoxClaim, IsOpen, IsTaken, HasGoodBox}
-use Rattle.rv_proofs.specs.Runs.{IsSafeSystem}
 use Rattle.rv_proofs.specs.Reached.{HasNoIntegers, Reaches, IsFirstReached, IsLayer, AreLayers, IsControlClosed, HasGoodControl, unbounded}
-use Rattle.rv_walk.specs.declared.end.BoxEnd.{BoxEnd}
-use Rattle.rv_walk.specs.declared.end.BoxEnd.TheVariants.{Good, Bad}
-use Rattle.rv_walk.specs.Ends.{has, IsLeastControl, IsGoodCertificate, AreBadLayers, IsEnd, IsGoodEnd}
-use Rattle.rv_walk.specs.Falsified.{IsFalsifyingRun, GoesThrough}
-use Rattle.rv_proofs.specs.Cases.{AreCases}
-use Rattle.rv_proofs.specs.declared.certificate.Certificate.{Certificate}
-use Rattle.rv_proofs.specs.declared.report.Case.{Case}
+use Rattle.rv_proofs.specs.{Systems.System, Systems.HasSameState, Ranges.IsControlSet, Scopes.IsIn, Accepted.IsAccepted, Runs.IsSafeSystem, Cases.AreCases}
+use Rattle.rv_proofs.specs.{declared.certificate.Certificate.Certificate, declared.report.Case.Case}
 use Rattle.rv_walk.specs.Walks.{IsReached, IsFirst, IsStage, IsDone, set_at, no_set, location_of, certificate_of}
-use Rattle.rv_walk.proofs.Certifying.{accepted}
-use Rattle.rv_walk.proofs.Stages.{done_closed, done_least, reached_in}
+use Rattle.rv_walk.specs.{declared.end.BoxEnd.BoxEnd, declared.end.BoxEnd.TheVariants.Good, declared.end.BoxEnd.TheVariants.Bad, Ends.has, Ends.IsLeastControl}
+use Rattle.rv_walk.specs.{Ends.IsGoodCertificate, Ends.AreBadLayers, Ends.IsEnd, Ends.IsGoodEnd, Falsified.IsFalsifyingRun, Falsified.GoesThrough}
+use Rattle.rv_walk.proofs.{Certifying.accepted, Stages.done_closed, Stages.done_least, Stages.reached_in}
 
 -- LAYERS
 

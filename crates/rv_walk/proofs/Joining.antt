@@ -2,17 +2,12 @@
 use Rattle.std.proofs.Common.{ℕ, ◌≡◌, false, not, ◌&&◌, ◌||◌, sym, ap, ◌∙◌, subst, arith, Option, Some, None}
 use Rattle.std.specs.Prelude.{MatchOption}
 use Rattle.rv_diagram.specs.Nodes.{Valuation, Diagrams, Answers, IsRef, IsOrderedOver, value_of}
-use Rattle.rv_diagram.specs.Several.{UsesNeeded}
-use Rattle.rv_diagram.specs.declared.frozen.Frozen.{Frozen}
-use Rattle.rv_proofs.specs.Systems.{System, HasSameState}
-use Rattle.rv_proofs.specs.Ranges.{IsControlSet}
+use Rattle.rv_diagram.specs.{Several.UsesNeeded, declared.frozen.Frozen.Frozen}
+use Rattle.rv_proofs.specs.{Systems.System, Systems.HasSameState, Ranges.IsControlSet}
 use Rattle.rv_symbolic.specs.Growing.{Extends, Makes}
-use Rattle.rv_symbolic.proofs.Extending.{extends_trans, grows_extends, needed_same}
-use Rattle.rv_symbolic.proofs.Reading.{control-value, control_set}
-use Rattle.rv_walk.specs.declared.sets.Extended.{Extended}
-use Rattle.rv_walk.specs.declared.sets.Grown.{Grown}
-use Rattle.rv_walk.specs.Ends.{has}
+use Rattle.rv_symbolic.proofs.{Extending.extends_trans, Extending.grows_extends, Extending.needed_same, Reading.control-value, Reading.control_set}
 use Rattle.rv_walk.specs.Extended.{fresh_of, either_of, fresh_in, either_in, IsTaken, IsExtended, IsWithout, IsGrown, IsLifted}
+use Rattle.rv_walk.specs.{declared.sets.Extended.Extended, declared.sets.Grown.Grown, Ends.has}
 
 -- a set of the store and another
 module _ (s0 s1 s2 s3 : Diagrams) (next : Frozen) (before step fresh all : ℕ) (here : IsRef s0.nodes before)

@@ -1,21 +1,13 @@
 -- A round of the walk in a store, whose nodes stay as more come.
 use Rattle.std.proofs.Common.{ℕ, ◌+◌, ◌<◌, ◌≡◌, Bool, true, false, cond, ◌&&◌, List, [], ◌∷◌, ◌++◌, length, take, refl, sym, ap, ◌∙◌, subst, arith}
-use Rattle.std.proofs.Math.Path.{fun_ext}
-use Rattle.std.proofs.Math.Seq.{take-append_seam}
+use Rattle.std.proofs.{Math.Path.fun_ext, Math.Seq.take-append_seam}
 use Rattle.rv_diagram.specs.Nodes.{Valuation, Diagrams, IsRef, IsOrderedOver, value_of}
-use Rattle.rv_diagram.specs.Several.{UsesNeeded}
-use Rattle.rv_diagram.specs.declared.Triple.{Triple}
-use Rattle.rv_diagram.specs.declared.frozen.Frozen.{Frozen}
+use Rattle.rv_diagram.specs.{Several.UsesNeeded, declared.Triple.Triple, declared.frozen.Frozen.Frozen}
 use Rattle.rv_proofs.specs.Systems.{System}
-use Rattle.rv_symbolic.specs.declared.relation.NextStates.{NextStates}
-use Rattle.rv_symbolic.specs.Growing.{Extends}
-use Rattle.rv_symbolic.specs.Stepped.{AreNextStates}
-use Rattle.rv_symbolic.proofs.Extending.{extends_trans, equal_extends}
-use Rattle.rv_symbolic.proofs.Reading.{control_set}
-use Rattle.rv_walk.specs.declared.sets.Grown.{Grown}
-use Rattle.rv_walk.specs.Ends.{has}
-use Rattle.rv_walk.specs.Extended.{fresh_in, either_in, IsFresh, IsGrown}
+use Rattle.rv_symbolic.specs.{declared.relation.NextStates.NextStates, Growing.Extends, Stepped.AreNextStates}
+use Rattle.rv_symbolic.proofs.{Extending.extends_trans, Extending.equal_extends, Reading.control_set}
 use Rattle.rv_walk.specs.Walks.{IsWalk, IsDone, IsExplored, missing, last_of}
+use Rattle.rv_walk.specs.{declared.sets.Grown.Grown, Ends.has, Extended.fresh_in, Extended.either_in, Extended.IsFresh, Extended.IsGrown}
 use Rattle.rv_walk.proofs.Stages.{walk_more, walk_less, walk_done}
 
 -- a reference keeps its meaning

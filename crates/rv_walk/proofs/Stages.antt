@@ -1,25 +1,15 @@
 -- The walk through the layers ends at the least closed set of control states.
-use Rattle.std.proofs.Common.{ℕ, ◌+◌, ◌-◌, ◌<◌, ◌≡◌, ◌⊎◌, Bool, true, false, not, ◌&&◌, ◌||◌, List, [], ◌∷◌, ◌++◌, length, zero, suc, refl, sym, ap}
-use Rattle.std.proofs.Common.{◌∙◌, subst, ⊎_elim, inl, inr, arith, length-append, slice_get, Some}
-use Rattle.std.proofs.lemmas.Bool.{cases_lt, cases_Bool, or_cases, and_from, and_parts, and_cases, not-true, both_ways}
-use Rattle.std.proofs.lemmas.List.{get_or_append_left}
-use Rattle.std.proofs.Math.Seq.{get_or-append_seam}
-use Rattle.std.proofs.lemmas.Option.{get_or_from_slice_get}
-use Rattle.rv_diagram.specs.Nodes.{Valuation}
-use Rattle.rv_diagram.specs.declared.frozen.Frozen.{Frozen}
-use Rattle.rv_proofs.specs.Systems.{System, HasSameState}
-use Rattle.rv_proofs.specs.Ranges.{IsControlSet}
-use Rattle.rv_proofs.specs.Cases.{IsInitialSet}
-use Rattle.rv_proofs.specs.Reached.{IsControlClosed}
-use Rattle.rv_symbolic.specs.declared.relation.NextStates.{NextStates}
-use Rattle.rv_symbolic.specs.Stepped.{AreNextStates}
+use Rattle.std.proofs.Common.{ℕ, ◌+◌, ◌-◌, ◌<◌, ◌≡◌, ◌⊎◌, Bool, true, false, not, ◌&&◌, ◌||◌, List, [], ◌∷◌, ◌++◌, length, zero, suc, refl, sym, ap, ◌∙◌, subst}
+use Rattle.std.proofs.Common.{⊎_elim, inl, inr, arith, length-append, slice_get, Some}
+use Rattle.std.proofs.lemmas.Bool.{cases_lt, cases_Bool, or_cases, and_from, and_parts, and_cases, not-true, both_ways, or_left, or_right}
+use Rattle.std.proofs.{lemmas.List.get_or_append_left, Math.Seq.get_or-append_seam, lemmas.Option.get_or_from_slice_get}
+use Rattle.rv_diagram.specs.{Nodes.Valuation, declared.frozen.Frozen.Frozen}
+use Rattle.rv_proofs.specs.{Systems.System, Systems.HasSameState, Ranges.IsControlSet, Cases.IsInitialSet, Reached.IsControlClosed}
+use Rattle.rv_symbolic.specs.{declared.relation.NextStates.NextStates, Stepped.AreNextStates}
 use Rattle.rv_symbolic.proofs.Reading.{control-value, control_set}
-use Rattle.rv_walk.specs.Ends.{has, IsLeastControl}
-use Rattle.rv_walk.specs.Extended.{fresh_in, either_in, IsFresh}
 use Rattle.rv_walk.specs.Walks.{IsReached, IsFirst, IsStage, IsWalk, IsDone, missing, set_at, last_of, no_set}
+use Rattle.rv_walk.specs.{Ends.has, Ends.IsLeastControl, Extended.fresh_in, Extended.either_in, Extended.IsFresh}
 use Rattle.rv_walk.proofs.Counting.{missing_less}
-use Rattle.std.proofs.lemmas.Bool.{or_left}
-use Rattle.std.proofs.lemmas.Bool.{or_right}
 
 pub set-before : (sets : List Frozen) (f : Frozen) (t : ℕ) → t < length sets → set_at (sets ++ f ∷ []) t ≡ set_at sets t
 set-before sets f t low = get_or_append_left sets (f ∷ []) no_set t low

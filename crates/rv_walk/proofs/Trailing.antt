@@ -1,27 +1,17 @@
 -- From bad layers back to a run that falsifies.
-use Rattle.std.proofs.Common.{ℕ, ◌+◌, ◌-◌, ◌<◌, ◌≤◌, ◌≡◌, Bool, false, cond, List, [], ◌∷◌, ◌++◌, length, zero, suc, refl, sym, ap, ◌∙◌}
-use Rattle.std.proofs.Common.{subst, ⊎_elim, arith, slice_get, Some, None, Option, ℤ, IsTrue, get_or, length-append}
+use Rattle.std.proofs.Common.{ℕ, ◌+◌, ◌-◌, ◌<◌, ◌≤◌, ◌≡◌, Bool, false, cond, List, [], ◌∷◌, ◌++◌, length, zero, suc, refl, sym, ap, ◌∙◌, subst, ⊎_elim, arith}
+use Rattle.std.proofs.Common.{slice_get, Some, None, Option, ℤ, IsTrue, get_or, length-append}
 use Rattle.std.proofs.lemmas.Bool.{cases_lt, cases_eq, cases_Bool, eq-eqb, ne_eqb}
-use Rattle.std.proofs.lemmas.List.{get_or_append_left, get_or-reverse, length-reverse}
-use Rattle.std.proofs.lemmas.Option.{get_or_from_slice_get, slice_get-get_or, slice_get_within}
-use Rattle.std.proofs.Math.Seq.{get_or-append_seam}
-use Rattle.rv_diagram.specs.Nodes.{Valuation, valuation_of}
-use Rattle.rv_diagram.specs.declared.frozen.Frozen.{Frozen}
-use Rattle.rv_proofs.specs.Systems.{System, HasSameState}
-use Rattle.rv_proofs.specs.Scopes.{IsIn}
-use Rattle.rv_proofs.specs.Ranges.{IsControlSet}
-use Rattle.rv_proofs.specs.Cases.{IsInitialSet}
-use Rattle.rv_proofs.specs.Boxes.{BoxClaim, IsOpen}
-use Rattle.rv_proofs.specs.Reached.{HasNoIntegers, Reaches, IsFirstReached, AreLayers, unbounded}
-use Rattle.rv_proofs.specs.declared.report.Layers.{Layers}
+use Rattle.std.proofs.{lemmas.List.get_or_append_left, lemmas.List.get_or-reverse, lemmas.List.length-reverse, lemmas.Option.get_or_from_slice_get}
+use Rattle.std.proofs.{lemmas.Option.slice_get-get_or, lemmas.Option.slice_get_within, Math.Seq.get_or-append_seam}
+use Rattle.rv_diagram.specs.{Nodes.Valuation, Nodes.valuation_of, declared.frozen.Frozen.Frozen}
+use Rattle.rv_proofs.specs.{Systems.System, Systems.HasSameState, Scopes.IsIn, Ranges.IsControlSet, Cases.IsInitialSet, Boxes.BoxClaim, Boxes.IsOpen}
+use Rattle.rv_proofs.specs.{Reached.HasNoIntegers, Reached.Reaches, Reached.IsFirstReached, Reached.AreLayers, Reached.unbounded, declared.report.Layers.Layers}
 use Rattle.rv_symbolic.specs.Words.{IsLeastWord, LeadsTo}
-use Rattle.rv_walk.specs.Ends.{AreBadLayers}
-use Rattle.rv_walk.specs.Walks.{IsReached, set_at, no_set}
-use Rattle.rv_walk.specs.Falsified.{IsFalsifyingRun}
-use Rattle.rv_walk.specs.Paths.{at_instant, IsFalsifyingPath, IsShortestPath}
 use Rattle.rv_walk.specs.Trails.{layer_at, AreControlSets, IsFailing, IsFirstFailing, IsTrail, IsBroken, IsTurned, IsPathThrough}
-use Rattle.rv_walk.proofs.Stages.{reached_in}
-use Rattle.rv_walk.proofs.Ending.{reaches_from}
+use Rattle.rv_walk.specs.{Ends.AreBadLayers, Walks.IsReached, Walks.set_at, Walks.no_set, Falsified.IsFalsifyingRun, Paths.at_instant, Paths.IsFalsifyingPath}
+use Rattle.rv_walk.specs.{Paths.IsShortestPath}
+use Rattle.rv_walk.proofs.{Stages.reached_in, Ending.reaches_from}
 
 -- LAYERS
 

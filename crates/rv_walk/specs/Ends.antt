@@ -1,15 +1,9 @@
 -- How a walk through the control states of a system without integers ends.
 use Rattle.std.specs.Prelude.{◌≡◌, Bool, false, [], ◌∷◌, IsTrue}
-use Rattle.rv_diagram.specs.Nodes.{Valuation, value_of}
-use Rattle.rv_diagram.specs.declared.frozen.Frozen.{Frozen}
-use Rattle.rv_proofs.specs.Systems.{System}
-use Rattle.rv_proofs.specs.Accepted.{IsAccepted}
-use Rattle.rv_proofs.specs.Reached.{AreLayers, IsControlClosed, IsControlGood, unbounded}
-use Rattle.rv_proofs.specs.declared.certificate.Certificate.{Certificate}
-use Rattle.rv_proofs.specs.declared.certificate.Location.{Location}
-use Rattle.rv_proofs.specs.declared.report.Layers.{Layers}
-use Rattle.rv_walk.specs.declared.end.BoxEnd.{BoxEnd}
-use Rattle.rv_walk.specs.declared.end.BoxEnd.TheVariants.{Good, Bad}
+use Rattle.rv_diagram.specs.{Nodes.Valuation, Nodes.value_of, declared.frozen.Frozen.Frozen}
+use Rattle.rv_proofs.specs.{Systems.System, Accepted.IsAccepted, Reached.AreLayers, Reached.IsControlClosed, Reached.IsControlGood, Reached.unbounded}
+use Rattle.rv_proofs.specs.{declared.certificate.Certificate.Certificate, declared.certificate.Location.Location, declared.report.Layers.Layers}
+use Rattle.rv_walk.specs.{declared.end.BoxEnd.BoxEnd, declared.end.BoxEnd.TheVariants.Good, declared.end.BoxEnd.TheVariants.Bad}
 
 -- whether a control state is in a set
 abbrev pub has : Frozen → Valuation → Bool

@@ -1,11 +1,8 @@
 -- A set that takes in another.
 use Rattle.std.specs.Prelude.{◌≡◌, ℕ, Bool, false, not, ◌&&◌, ◌||◌}
 use Rattle.rv_diagram.specs.Nodes.{Valuation, Diagrams, IsRef, value_of, IsOrderedOver}
-use Rattle.rv_diagram.specs.Several.{UsesNeeded}
-use Rattle.rv_diagram.specs.declared.frozen.Frozen.{Frozen}
-use Rattle.rv_walk.specs.declared.sets.Extended.{Extended}
-use Rattle.rv_walk.specs.declared.sets.Grown.{Grown}
-use Rattle.rv_walk.specs.Ends.{has}
+use Rattle.rv_diagram.specs.{Several.UsesNeeded, declared.frozen.Frozen.Frozen}
+use Rattle.rv_walk.specs.{declared.sets.Extended.Extended, declared.sets.Grown.Grown, Ends.has}
 
 -- what is in the second set and not in the first, and what is in either
 abbrev pub fresh_of : Frozen → Frozen → Valuation → Bool

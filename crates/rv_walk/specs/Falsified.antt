@@ -1,10 +1,7 @@
 -- Runs at whose last instant the observer is false.
 use Rattle.std.specs.Prelude.{◌≡◌, ℕ, ◌+◌, ◌≤◌, false, List, ℤ, Some, slice_get}
-use Rattle.rv_diagram.specs.Nodes.{Valuation}
-use Rattle.rv_diagram.specs.declared.frozen.Frozen.{Frozen}
-use Rattle.rv_proofs.specs.Systems.{System}
-use Rattle.rv_proofs.specs.Scopes.{IsIn}
-use Rattle.rv_proofs.specs.Runs.{IsAbstractRun, AreAllowedBefore}
+use Rattle.rv_diagram.specs.{Nodes.Valuation, declared.frozen.Frozen.Frozen}
+use Rattle.rv_proofs.specs.{Systems.System, Scopes.IsIn, Runs.IsAbstractRun, Runs.AreAllowedBefore}
 
 -- A run of t + 1 instants at each of which the assertions hold, and at the last of which the observer is false.
 pub record IsFalsifyingRun (s : System) (t : ℕ) (vs : ℕ → Valuation) (points : ℕ → List ℤ) : Type 0 where

@@ -1,10 +1,7 @@
 -- Certificates without loops.
 use Rattle.std.specs.Prelude.{◌≡◌, ℕ, [], Some, slice_get}
-use Rattle.rv_proofs.specs.Counts.{HasLoop}
-use Rattle.rv_proofs.specs.declared.certificate.Certificate.{Certificate}
-use Rattle.rv_proofs.specs.declared.certificate.Location.{Location}
-use Rattle.rv_walk.specs.declared.end.BoxEnd.{BoxEnd}
-use Rattle.rv_walk.specs.declared.end.BoxEnd.TheVariants.{Good, Bad}
+use Rattle.rv_proofs.specs.{Counts.HasLoop, declared.certificate.Certificate.Certificate, declared.certificate.Location.Location}
+use Rattle.rv_walk.specs.{declared.end.BoxEnd.BoxEnd, declared.end.BoxEnd.TheVariants.Good, declared.end.BoxEnd.TheVariants.Bad}
 
 -- No entry of the location is a turn of a loop, and it has no rows of one.
 pub record IsPlain (l : Location) : Type 0 where

@@ -1,16 +1,10 @@
 -- A falsifying run on the way back through the layers.
-use Rattle.std.specs.Prelude.{◌≡◌, ◌⊎◌, ◌==◌, if◌then◌else◌, ℕ, ◌+◌, ◌-◌, ◌<◌, Bool, false, List, [], length, reverse, Option, Some, None, IsTrue}
-use Rattle.std.specs.Prelude.{slice_get, slice_index_or}
-use Rattle.rv_diagram.specs.Nodes.{Valuation, valuation_of}
-use Rattle.rv_diagram.specs.declared.frozen.Frozen.{Frozen}
-use Rattle.rv_proofs.specs.Systems.{System, HasSameState}
-use Rattle.rv_proofs.specs.Scopes.{IsIn}
-use Rattle.rv_proofs.specs.Ranges.{IsControlSet}
-use Rattle.rv_proofs.specs.Cases.{IsInitialSet}
+use Rattle.std.specs.Prelude.{◌≡◌, ◌⊎◌, ◌==◌, if◌then◌else◌, ℕ, ◌+◌, ◌-◌, ◌<◌, Bool, false, List, [], length, reverse, Option, Some, None, IsTrue, slice_get}
+use Rattle.std.specs.Prelude.{slice_index_or}
+use Rattle.rv_diagram.specs.{Nodes.Valuation, Nodes.valuation_of, declared.frozen.Frozen.Frozen}
+use Rattle.rv_proofs.specs.{Systems.System, Systems.HasSameState, Scopes.IsIn, Ranges.IsControlSet, Cases.IsInitialSet}
 use Rattle.rv_symbolic.specs.Words.{IsLeastWord, IsFalseIn, LeadsTo}
-use Rattle.rv_walk.specs.declared.path.Failing.{Failing}
-use Rattle.rv_walk.specs.Walks.{set_at}
-use Rattle.rv_walk.specs.Paths.{at_instant}
+use Rattle.rv_walk.specs.{declared.path.Failing.Failing, Walks.set_at, Paths.at_instant}
 
 -- layer t, of which the first is given beside the others
 abbrev pub layer_at : Frozen → List Frozen → ℕ → Frozen

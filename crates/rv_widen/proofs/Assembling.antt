@@ -1,22 +1,15 @@
 -- Entries, locations and the certificate have the counts and ranges of a document.
-use Rattle.std.proofs.Common.{◌≡◌, ℕ, zero, suc, ◌+◌, ◌<◌, ◌^◌, List, [], ◌∷◌, ◌++◌, length, get_or, All, Some, slice_get, ◌⊎◌, inl, inr}
-use Rattle.std.proofs.Common.{arith, lit≤, refl, sym, ap, ◌∙◌, subst}
-use Rattle.std.proofs.lemmas.Option.{slice_get_within, get_or_from_slice_get, same_Some}
-use Rattle.std.proofs.lemmas.List.{length_push}
-use Rattle.std.proofs.lemmas.List.Elements.{All-nil, All-cons, All-push}
+use Rattle.std.proofs.Common.{◌≡◌, ℕ, zero, suc, ◌+◌, ◌<◌, ◌^◌, List, [], ◌∷◌, ◌++◌, length, get_or, All, Some, slice_get, ◌⊎◌, inl, inr, arith, lit≤, refl}
+use Rattle.std.proofs.Common.{sym, ap, ◌∙◌, subst}
+use Rattle.std.proofs.{lemmas.Option.slice_get_within, lemmas.Option.get_or_from_slice_get, lemmas.Option.same_Some, lemmas.List.length_push}
+use Rattle.std.proofs.{lemmas.List.Elements.All-nil, lemmas.List.Elements.All-cons, lemmas.List.Elements.All-push}
 use Rattle.rv_diagram.specs.declared.frozen.Frozen.{Frozen}
-use Rattle.rv_rows.specs.declared.linear.Row.{Row}
-use Rattle.rv_rows.specs.declared.farkas.Multipliers.{Multipliers}
-use Rattle.rv_proofs.specs.Systems.{System}
-use Rattle.rv_proofs.specs.Scopes.{refutation, after, Implication, each, rows_into, implications}
-use Rattle.rv_proofs.specs.Counts.{HasLoop, IsLoopKind, HasKindCounts}
-use Rattle.rv_proofs.specs.Ranges.{IsRecord, HasDivisor, IsControlSet, AreKept, IsInRange}
-use Rattle.rv_proofs.specs.Samples.{by_one}
-use Rattle.rv_proofs.specs.declared.certificate.Certificate.{Certificate}
-use Rattle.rv_proofs.specs.declared.certificate.Location.{Location}
-use Rattle.rv_proofs.specs.declared.certificate.Entry.{Entry}
-use Rattle.rv_proofs.specs.declared.certificate.EntryKind.{EntryKind}
-use Rattle.rv_proofs.specs.declared.certificate.EntryKind.TheVariants.{Dead, Go, Loop}
+use Rattle.rv_rows.specs.{declared.linear.Row.Row, declared.farkas.Multipliers.Multipliers}
+use Rattle.rv_proofs.specs.{Systems.System, Scopes.refutation, Scopes.after, Scopes.Implication, Scopes.each, Scopes.rows_into, Scopes.implications}
+use Rattle.rv_proofs.specs.{Counts.HasLoop, Counts.IsLoopKind, Counts.HasKindCounts, Ranges.IsRecord, Ranges.HasDivisor, Ranges.IsControlSet, Ranges.AreKept}
+use Rattle.rv_proofs.specs.{Ranges.IsInRange, Samples.by_one, declared.certificate.Certificate.Certificate, declared.certificate.Location.Location}
+use Rattle.rv_proofs.specs.{declared.certificate.Entry.Entry, declared.certificate.EntryKind.EntryKind, declared.certificate.EntryKind.TheVariants.Dead}
+use Rattle.rv_proofs.specs.{declared.certificate.EntryKind.TheVariants.Go, declared.certificate.EntryKind.TheVariants.Loop}
 use Rattle.rv_walk.specs.Plain.{ArePlain}
 use Rattle.rv_widen.specs.Ranged.{AreReach, IsRangedKind, IsRangedEntry, AreRangedEntries, IsLocationOf, IsRangedLocation, IsRanged}
 use Rattle.rv_widen.proofs.Fitting.{none_kept}

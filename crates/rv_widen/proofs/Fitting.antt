@@ -1,25 +1,17 @@
 -- What a case of a system gives within the limits: its premises, and rows that can be taken before its updates.
-use Rattle.std.proofs.Common.{◌≡◌, ℕ, zero, suc, ◌<◌, ◌≤◌, ◌^◌, pos, List, [], ◌∷◌, ◌++◌, length, get_or, All, Option, Some, slice_get, arith, sym, ap}
-use Rattle.std.proofs.Common.{◌∙◌, subst, lit≤, take}
-use Rattle.std.proofs.Common.{None as Nothing}
+use Rattle.std.proofs.Common.{◌≡◌, ℕ, zero, suc, ◌<◌, ◌≤◌, ◌^◌, pos, List, [], ◌∷◌, ◌++◌, length, get_or, All, Option, Some, slice_get, arith, sym, ap, ◌∙◌}
+use Rattle.std.proofs.Common.{subst, lit≤, take, None as Nothing}
 use Rattle.std.proofs.lemmas.Option.{slice_get_within, slice_get-get_or, get_or_from_slice_get}
 use Rattle.std.proofs.lemmas.List.{length-append, length-take}
 use Rattle.std.proofs.lemmas.List.Elements.{All-nil, All-head, All-append, All-from_get_or, All-weaker, All-take}
 use Rattle.rv_diagram.specs.Nodes.{Valuation}
-use Rattle.rv_rows.specs.declared.linear.Row.{Row}
-use Rattle.rv_rows.specs.declared.linear.Form.{Form}
-use Rattle.rv_rows.specs.Rows.{row_at, RowWithin}
 use Rattle.rv_rows.specs.Forms.{IsSubstituted, CanSubstitute, forms_width}
+use Rattle.rv_rows.specs.{declared.linear.Row.Row, declared.linear.Form.Form, Rows.row_at, Rows.RowWithin}
 use Rattle.rv_proofs.specs.Systems.{System, IsUpdate, rows_among, held_row}
-use Rattle.rv_proofs.specs.Scopes.{IsIn}
-use Rattle.rv_proofs.specs.Ranges.{AreKept}
-use Rattle.rv_proofs.specs.Cases.{IsCaseOf}
-use Rattle.rv_proofs.specs.declared.report.Case.{Case}
-use Rattle.rv_proofs.proofs.CaseRows.{case_rows}
+use Rattle.rv_proofs.specs.{Scopes.IsIn, Ranges.AreKept, Cases.IsCaseOf, declared.report.Case.Case}
 use Rattle.rv_proofs.proofs.Rooms.{has_room, stays_small, premise_of_test}
+use Rattle.rv_proofs.proofs.{CaseRows.case_rows, Claims.update_at, Claims.updates_long, Records.kept_within}
 use Rattle.rv_widen.specs.Given.{IsKeptRow, IsSized}
-use Rattle.rv_proofs.proofs.Claims.{update_at, updates_long}
-use Rattle.rv_proofs.proofs.Records.{kept_within}
 
 abbrev pub no_row : Row
 no_row = record { coefficients = []; bound = pos 0 }

@@ -1,16 +1,11 @@
 -- What is given in a store that is the same, and what the checker asks for.
 use Rattle.std.proofs.Common.{◌≡◌, ◌^◌, ◌≤◌, ℕ, length, ◌∙◌, arith, subst, sym}
 use Rattle.rv_diagram.specs.Nodes.{Diagrams, IsMeant}
-use Rattle.rv_proofs.specs.Systems.{System}
-use Rattle.rv_proofs.specs.declared.certificate.Certificate.{Certificate}
-use Rattle.rv_symbolic.specs.declared.relation.Relation.{Relation}
-use Rattle.rv_symbolic.specs.declared.relation.Parts.{Parts}
-use Rattle.rv_symbolic.specs.Represented.{parts_of}
+use Rattle.rv_proofs.specs.{Systems.System, declared.certificate.Certificate.Certificate}
+use Rattle.rv_symbolic.specs.{declared.relation.Relation.Relation, declared.relation.Parts.Parts, Represented.parts_of}
 use Rattle.rv_cases.specs.declared.asking.Questions.{Questions}
-use Rattle.rv_accept.specs.Passing.{IsGiven as IsChecked}
-use Rattle.rv_accept.specs.Held.{IsHeld}
-use Rattle.rv_widen.specs.Given.{IsGiven, IsSized}
-use Rattle.rv_widen.specs.Ranged.{IsRanged}
+use Rattle.rv_accept.specs.{Passing.IsGiven as IsChecked, Held.IsHeld}
+use Rattle.rv_widen.specs.{Given.IsGiven, Given.IsSized, Ranged.IsRanged}
 
 pub given_allowed : (s : System) (old new : Diagrams) (r : Relation) (q : Questions) → IsGiven s old r q → new ≡ old → (p : Parts)
     → p ≡ parts_of r

@@ -2,8 +2,7 @@
 use Rattle.std.proofs.Common.{◌≡◌, ℕ, ◌≤◌, List, [], ◌∷◌, ◌++◌, length, All, arith, refl, sym, ◌∙◌}
 use Rattle.std.proofs.lemmas.List.Elements.{All-append, All-weaker}
 use Rattle.rv_rows.specs.declared.linear.Row.{Row}
-use Rattle.rv_proofs.specs.Systems.{System}
-use Rattle.rv_proofs.specs.Ranges.{AreKept}
+use Rattle.rv_proofs.specs.{Systems.System, Ranges.AreKept}
 use Rattle.rv_poly.specs.Polys.{IsPoly, HaveOneWidth, rows_width}
 use Rattle.rv_widen.specs.Given.{IsKeptRow}
 use Rattle.rv_widen.proofs.Fitting.{no_row}

@@ -1,9 +1,7 @@
 -- The ranges of multipliers that a document writes, said otherwise.
 use Rattle.std.proofs.Common.{◌≡◌, ℕ, ◌<◌, ◌^◌, pos, ◌≤ℤ◌, get_or, arith, ap}
-use Rattle.std.proofs.lemmas.Option.{slice_get_within, get_or_from_slice_get}
-use Rattle.std.proofs.lemmas.List.Elements.{All-weaker}
-use Rattle.rv_rows.specs.declared.farkas.Weight.{Weight}
-use Rattle.rv_rows.specs.declared.farkas.Multipliers.{Multipliers}
+use Rattle.std.proofs.{lemmas.Option.slice_get_within, lemmas.Option.get_or_from_slice_get, lemmas.List.Elements.All-weaker}
+use Rattle.rv_rows.specs.{declared.farkas.Weight.Weight, declared.farkas.Multipliers.Multipliers}
 use Rattle.rv_seek.specs.Pairs.{HasRanges, WeightInRange}
 use Rattle.rv_proofs.specs.Ranges.{IsRecord}
 

@@ -1,16 +1,10 @@
 -- What is given, and the limits within which a certificate is sought.
 use Rattle.std.specs.Prelude.{◌≡◌, ℕ, ◌≤◌, ◌^◌, List, length, Some, slice_get}
 use Rattle.rv_diagram.specs.Nodes.{Diagrams}
-use Rattle.rv_rows.specs.declared.linear.Row.{Row}
-use Rattle.rv_rows.specs.Tight.{Fits}
-use Rattle.rv_proofs.specs.Systems.{System, IsSystem}
-use Rattle.rv_proofs.specs.Ranges.{IsControlSet, AreKept}
-use Rattle.rv_proofs.specs.Cases.{IsCaseOf}
-use Rattle.rv_proofs.specs.declared.report.Case.{Case}
-use Rattle.rv_symbolic.specs.declared.relation.Relation.{Relation}
-use Rattle.rv_symbolic.specs.Represented.{IsRelationOf}
-use Rattle.rv_cases.specs.declared.asking.Questions.{Questions}
-use Rattle.rv_cases.specs.Questions.{AreQuestions}
+use Rattle.rv_rows.specs.{declared.linear.Row.Row, Tight.Fits}
+use Rattle.rv_proofs.specs.{Systems.System, Systems.IsSystem, Ranges.IsControlSet, Ranges.AreKept, Cases.IsCaseOf, declared.report.Case.Case}
+use Rattle.rv_symbolic.specs.{declared.relation.Relation.Relation, Represented.IsRelationOf}
+use Rattle.rv_cases.specs.{declared.asking.Questions.Questions, Questions.AreQuestions}
 use Rattle.rv_widen.specs.declared.locations.Part.{Part}
 
 -- What is given: a system, its relation and its questions in a store.

@@ -1,17 +1,11 @@
 -- Locations and certificates of two locations with the counts and ranges of a document, and without loops.
 use Rattle.std.specs.Prelude.{◌≡◌, ℕ, ◌+◌, ◌<◌, ◌^◌, pos, List, [], length, All, Some, slice_get}
 use Rattle.rv_diagram.specs.declared.frozen.Frozen.{Frozen}
-use Rattle.rv_rows.specs.declared.linear.Row.{Row}
-use Rattle.rv_rows.specs.declared.farkas.Multipliers.{Multipliers}
-use Rattle.rv_proofs.specs.Systems.{System}
-use Rattle.rv_proofs.specs.Counts.{HasFree}
+use Rattle.rv_rows.specs.{declared.linear.Row.Row, declared.farkas.Multipliers.Multipliers}
 use Rattle.rv_proofs.specs.Ranges.{IsRecord, IsControlSet, IsCondition, AreKept, IsInRange}
-use Rattle.rv_proofs.specs.Samples.{by_one}
-use Rattle.rv_proofs.specs.declared.certificate.Certificate.{Certificate}
-use Rattle.rv_proofs.specs.declared.certificate.Location.{Location}
-use Rattle.rv_proofs.specs.declared.certificate.Entry.{Entry}
-use Rattle.rv_proofs.specs.declared.certificate.EntryKind.{EntryKind}
 use Rattle.rv_proofs.specs.declared.certificate.EntryKind.TheVariants.{Dead, Go, Loop}
+use Rattle.rv_proofs.specs.{Systems.System, Counts.HasFree, Samples.by_one, declared.certificate.Certificate.Certificate}
+use Rattle.rv_proofs.specs.{declared.certificate.Location.Location, declared.certificate.Entry.Entry, declared.certificate.EntryKind.EntryKind}
 use Rattle.rv_walk.specs.Plain.{ArePlain}
 
 -- One list of multipliers for each of so many wanted rows, over so many premises.

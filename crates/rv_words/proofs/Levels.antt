@@ -1,16 +1,11 @@
 -- The command's faults and matches, by the walks of its two levels.
 use Rattle.std.proofs.Common.{◌≡◌, ◌∙◌, ap, ap₂, sym, refl, append-nil, codes, false, ℕ, List, [], ◌∷◌, ◌++◌, Option, Some, is_some}
 use Rattle.std.specs.List.{fold, slice_index_or}
-use Rattle.clap.specs.Kinds.{Kinds, or_else}
 use Rattle.clap.specs.Walk.{Text, Walk, finished, nothing_held, rows_after, settled, walk_from, walked}
-use Rattle.clap.specs.Simple.{App, Shape, built, entered, names_of}
-use Rattle.clap.specs.Words.{fault_of, subcommand_of}
 use Rattle.clap.specs.Faults.{check_fault, defaults_fault, entered_fault, level_fault, settle_fault, turn_fault, walk_fault}
-use Rattle.clap.proofs.FaultLemmas.{stopped_fault}
-use Rattle.clap.proofs.OnLiterals.{clap_on_literals}
-use Rattle.rv_words.specs.Asked.{Asked}
-use Rattle.rv_words.specs.Reaver.{prove, reaver}
-use Rattle.rv_words.specs.Words.{command}
+use Rattle.clap.specs.{Kinds.Kinds, Kinds.or_else, Simple.App, Simple.Shape, Simple.built, Simple.entered, Simple.names_of, Words.fault_of, Words.subcommand_of}
+use Rattle.clap.proofs.{FaultLemmas.stopped_fault, OnLiterals.clap_on_literals}
+use Rattle.rv_words.specs.{Asked.Asked, Reaver.prove, Reaver.reaver, Words.command}
 use Rattle.rv_words.proofs.Parsed.{meaning, meaning_is}
 use Rattle.rv_words.proofs.Plain.{Placeable, gathers, placed, plain_fault, plain_walk, plain_walk_fault}
 

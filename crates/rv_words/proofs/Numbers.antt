@@ -1,14 +1,9 @@
 -- What a text of digits reads as.
-use Rattle.std.proofs.Common.{◌≡◌, ◌∙◌, ◌≤◌, ◌<◌, ◌^◌, ◌&&◌, ap, sym, refl, true}
-use Rattle.std.proofs.Common.{false, Bool, ℕ, List, [], ◌∷◌, length, Result, Err, Option, Some, None}
-use Rattle.std.specs.Prelude.{if◌then◌else◌, nat_le}
-use Rattle.std.specs.List.{list_all}
-use Rattle.std.specs.Char.{is_ascii_digit}
-use Rattle.std.specs.Result.{OkIff}
-use Rattle.std.specs.Str.{all_ascii_digits}
-use Rattle.std.specs.Str.Parse.{ParsesUnsigned, digits_value}
+use Rattle.std.proofs.Common.{◌≡◌, ◌∙◌, ◌≤◌, ◌<◌, ◌^◌, ◌&&◌, ap, sym, refl, true, false, Bool, ℕ, List, [], ◌∷◌, length, Result, Err, Option, Some, None}
 use Rattle.std.proofs.lemmas.Bool.{leb-false, leb-true, lt-leb}
 use Rattle.std.proofs.lemmas.Str.Parse.{numerals_by_value, parse_digits, tells_all_ascii_digits}
+use Rattle.std.specs.{Prelude.if◌then◌else◌, Prelude.nat_le, List.list_all, Char.is_ascii_digit, Result.OkIff, Str.all_ascii_digits, Str.Parse.ParsesUnsigned}
+use Rattle.std.specs.{Str.Parse.digits_value}
 use Rattle.clap.proofs.WalkLemmas.{both}
 use Rattle.rv_words.specs.Words.{digits_of, is_numeral}
 

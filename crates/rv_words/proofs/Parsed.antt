@@ -1,21 +1,14 @@
 -- From what `clap` says of a parse to what the words mean.
-use Rattle.std.proofs.Common.{◌≡◌, ◌∙◌, ap, ap₂, sym, subst, refl, arith, inl, inr, true}
-use Rattle.std.proofs.Common.{false, true≢false, is_some, Bool, List, [], ◌∷◌, Option, Some, None, option_map}
-use Rattle.std.specs.Prelude.{Box, if◌then◌else◌, option_and_then, unwrap_or}
-use Rattle.std.specs.Box.{box_value}
+use Rattle.std.proofs.Common.{◌≡◌, ◌∙◌, ap, ap₂, sym, subst, refl, arith, inl, inr, true, false, true≢false, is_some, Bool, List, [], ◌∷◌, Option, Some, None}
+use Rattle.std.proofs.Common.{option_map}
 use Rattle.std.proofs.lemmas.Bool.{ne_eqb}
-use Rattle.clap.specs.Words.{App, HasKind, HasMatchesOf, IsAmong, Kinds, Row, Text, fault_of, is_simple, is_simple_and_free, kind_of}
-use Rattle.clap.specs.Words.{subcommand_of, subcommand_rows, subcommand_rows_of}
-use Rattle.clap.specs.Walk.{is_empty}
-use Rattle.clap.specs.declared.error.Error.{Error}
-use Rattle.clap.specs.declared.error.kind.ErrorKind.{ErrorKind}
-use Rattle.clap.specs.declared.error.kind.ErrorKind.TheVariants.{OutOfMemory}
-use Rattle.clap.specs.declared.parser.matches.ArgMatches.{ArgMatches}
-use Rattle.clap.specs.declared.parser.matches.ArgMatches.TheViews.{out-SubCommand}
-use Rattle.clap.specs.declared.parser.matches.SubCommand.{SubCommand}
-use Rattle.rv_words.specs.Asked.{Asked}
-use Rattle.rv_words.specs.Reaver.{reaver}
-use Rattle.rv_words.specs.Words.{asked_by, command}
+use Rattle.std.specs.{Prelude.Box, Prelude.if◌then◌else◌, Prelude.option_and_then, Prelude.unwrap_or, Box.box_value}
+use Rattle.clap.specs.Words.{App, HasKind, HasMatchesOf, IsAmong, Kinds, Row, Text, fault_of, is_simple, is_simple_and_free, kind_of, subcommand_of}
+use Rattle.clap.specs.Words.{subcommand_rows, subcommand_rows_of}
+use Rattle.clap.specs.{Walk.is_empty, declared.error.Error.Error, declared.error.kind.ErrorKind.ErrorKind}
+use Rattle.clap.specs.{declared.error.kind.ErrorKind.TheVariants.OutOfMemory, declared.parser.matches.ArgMatches.ArgMatches}
+use Rattle.clap.specs.{declared.parser.matches.ArgMatches.TheViews.out-SubCommand, declared.parser.matches.SubCommand.SubCommand}
+use Rattle.rv_words.specs.{Asked.Asked, Reaver.reaver, Words.asked_by, Words.command}
 
 reaver_simple : is_simple reaver ≡ true
 reaver_simple = refl

@@ -1,16 +1,11 @@
 -- What the walk over the words makes of words that are no flags, whatever their text.
-use Rattle.std.proofs.Common.{◌≡◌, ◌∙◌, ◌==◌, ◌&&◌, ◌++◌, ap, ap₂, sym, refl, true, false, not}
-use Rattle.std.proofs.Common.{Bool, ℕ, List, [], ◌∷◌, Some, None, is_some, append-nil, append_assoc}
-use Rattle.std.specs.Prelude.{⊤, if◌then◌else◌, option_and_then}
-use Rattle.std.specs.List.{fold}
-use Rattle.std.specs.Option.{option_map_or}
-use Rattle.std.specs.Str.{bytes_eq}
-use Rattle.clap.specs.Lexer.{long_of, long_of_rest, short_of, short_of_rest, strip_byte}
-use Rattle.clap.specs.Kinds.{Kinds, or_else}
+use Rattle.std.proofs.Common.{◌≡◌, ◌∙◌, ◌==◌, ◌&&◌, ◌++◌, ap, ap₂, sym, refl, true, false, not, Bool, ℕ, List, [], ◌∷◌, Some, None, is_some, append-nil}
+use Rattle.std.proofs.Common.{append_assoc}
+use Rattle.std.specs.{Prelude.⊤, Prelude.if◌then◌else◌, Prelude.option_and_then, List.fold, Option.option_map_or, Str.bytes_eq}
 use Rattle.clap.specs.Walk.{Held, Names, Rule, Step, Text, Waiting, Walk, after_step, idle, long_or_other, option, plain_word, positional, short_or_plain}
 use Rattle.clap.specs.Walk.{subcommand_met, subcommand_or_other, trailing, walked, walked_from, word_met}
-use Rattle.clap.specs.Simple.{Shape}
 use Rattle.clap.specs.Faults.{bundle_fault, flag_word_fault, other_fault, step_fault, turn_fault, walk_fault, word_fault}
+use Rattle.clap.specs.{Lexer.long_of, Lexer.long_of_rest, Lexer.short_of, Lexer.short_of_rest, Lexer.strip_byte, Kinds.Kinds, Kinds.or_else, Simple.Shape}
 use Rattle.rv_words.specs.Plain.{is_plain}
 use Rattle.rv_base.proofs.Truths.{of_not_true}
 

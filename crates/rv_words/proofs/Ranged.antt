@@ -1,21 +1,13 @@
 -- The numbers of a command are within their ranges.
 use Rattle.std.proofs.Common.{◌≡◌, ℕ, Bool, true, false, List, Option, Some, None, refl, subst, arith, ◌&&◌}
+use Rattle.std.proofs.{lemmas.Bool.leb-true, lemmas.Option.option_and_then_some, NetLemmas.Options.map_some}
 use Rattle.std.specs.Prelude.{option_map, option_and_then, if◌then◌else◌, nat_le, codes}
-use Rattle.std.specs.Option.{option_map_or}
-use Rattle.std.specs.Str.{bytes_eq}
-use Rattle.std.specs.Str.Parse.{digits_value}
-use Rattle.std.proofs.lemmas.Bool.{leb-true}
-use Rattle.std.proofs.lemmas.Option.{option_and_then_some}
-use Rattle.clap.specs.Words.{Row, Text, fault_of, first_of, subcommand_of}
-use Rattle.clap.specs.Walk.{is_empty}
-use Rattle.rv_words.specs.Asked.{Asked, prove, check, replay, make, tour}
-use Rattle.rv_words.specs.Ranges.{HasRanges, IsUpTo}
-use Rattle.rv_words.specs.Reaver.{reaver}
+use Rattle.std.specs.{Option.option_map_or, Str.bytes_eq, Str.Parse.digits_value}
+use Rattle.clap.specs.{Words.Row, Words.Text, Words.fault_of, Words.first_of, Words.subcommand_of, Walk.is_empty}
 use Rattle.rv_words.specs.Words.{acceleration_of, asked_by, checking, command, count_of, digits_of, is_numeral, locations_of, names_of, nodes_of, proving}
 use Rattle.rv_words.specs.Words.{replaying}
-use Rattle.rv_base.proofs.Options.{some_same}
-use Rattle.rv_base.proofs.Truths.{both_of}
-use Rattle.std.proofs.NetLemmas.Options.{map_some}
+use Rattle.rv_words.specs.{Asked.Asked, Asked.prove, Asked.check, Asked.replay, Asked.make, Asked.tour, Ranges.HasRanges, Ranges.IsUpTo, Reaver.reaver}
+use Rattle.rv_base.proofs.{Options.some_same, Truths.both_of}
 
 -- what a choice between something and none gives
 chosen : {X : Type 0} (b : Bool) (o : Option X) (x : X) → (if b then o else None) ≡ Some x → (b ≡ true) × (o ≡ Some x)

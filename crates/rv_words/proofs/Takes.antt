@@ -1,37 +1,25 @@
 -- `takes` and `fault_of` of `clap` say the same: a step passes where no kind of error comes of it.
-use Rattle.std.proofs.Common.{◌≡◌, ◌∙◌, ◌==◌, ◌&&◌, ◌||◌, ap, ap₂, sym, refl, arith, codes, zero}
-use Rattle.std.proofs.Common.{suc, true, false, not, true≢false, Bool, ℕ, List, [], ◌∷◌, length, drop, Option, Some, None, is_some}
-use Rattle.std.specs.Prelude.{encode_utf8, find, if◌then◌else◌, nat_le, nat_lt, slice_get}
-use Rattle.std.specs.List.{list_all, list_any}
-use Rattle.std.specs.Option.{option_map_or}
-use Rattle.std.specs.Str.{bytes_eq, chars}
+use Rattle.std.proofs.Common.{◌≡◌, ◌∙◌, ◌==◌, ◌&&◌, ◌||◌, ap, ap₂, sym, refl, arith, codes, zero, suc, true, false, not, true≢false, Bool, ℕ, List, [], ◌∷◌}
+use Rattle.std.proofs.Common.{length, drop, Option, Some, None, is_some}
 use Rattle.std.proofs.lemmas.Bool.{eq-eqb, eqb-true, le-leb, leb-false, leb-true, lt-leb, ltb-false, ltb-true, ne_eqb}
-use Rattle.clap.specs.Lexer.{long_of, short_of}
+use Rattle.std.specs.Prelude.{encode_utf8, find, if◌then◌else◌, nat_le, nat_lt, slice_get}
+use Rattle.std.specs.{List.list_all, List.list_any, Option.option_map_or, Str.bytes_eq, Str.chars}
 use Rattle.clap.specs.Kinds.{Kinds, check_kinds, or_else, range_kinds, value_kinds, values_kinds}
-use Rattle.clap.specs.Values.{is_request, refused_kind}
-use Rattle.clap.specs.ValueTests.{accepts}
-use Rattle.clap.specs.Facts.{explicit_source, unwrap_or_range}
-use Rattle.clap.specs.Walk.{Held, Names, Row, Rule, Step, Text, Waiting}
-use Rattle.clap.specs.Walk.{Walk, action_of, answers_to, arg_by_id, arg_by_index, arg_by_long, arg_by_short, attached_value}
-use Rattle.clap.specs.Walk.{finished, has_row, is_empty, is_pending, most_values, next}
-use Rattle.clap.specs.Walk.{nothing_held, reacted, settled, subcommand, subcommand_met, takes_several, takes_values}
-use Rattle.clap.specs.Walk.{trailing, value, values_or_missing, walk, walk_from, walked, with_default, word_met}
-use Rattle.clap.specs.Simple.{App, Shape, entered, label_of, names_of}
+use Rattle.clap.specs.Walk.{Held, Names, Row, Rule, Step, Text, Waiting, Walk, action_of, answers_to, arg_by_id, arg_by_index, arg_by_long, arg_by_short}
+use Rattle.clap.specs.Walk.{attached_value, finished, has_row, is_empty, is_pending, most_values, next, nothing_held, reacted, settled, subcommand}
+use Rattle.clap.specs.Walk.{subcommand_met, takes_several, takes_values, trailing, value, values_or_missing, walk, walk_from, walked, with_default, word_met}
+use Rattle.clap.specs.Faults.{action_fault, built_fault, bundle_step_fault, check_fault, count_fault, default_fault, defaults_fault, entered_fault}
+use Rattle.clap.specs.Faults.{flag_word_fault, flags_fault, given_default_fault, level_fault, long_fault, option_fault, other_fault, positional_fault}
+use Rattle.clap.specs.Faults.{react_fault, repeat_fault, set_fault, settle_fault, short_fault, step_fault, stray_fault, turn_fault, use_fault, values_fault}
+use Rattle.clap.specs.Faults.{walk_fault, word_fault}
+use Rattle.clap.specs.Takes.{action_passes, built_takes, bundle_step_passes, count_passes, default_passes, entered_passes, flag_word_passes, flags_pass}
+use Rattle.clap.specs.Takes.{is_given, is_valid, level_passes, long_passes, option_passes, other_passes, positional_passes, react_passes, set_passes}
+use Rattle.clap.specs.Takes.{settle_passes, short_passes, step_passes, turn_passes, use_passes, values_pass, walk_passes, word_passes}
+use Rattle.clap.specs.{Lexer.long_of, Lexer.short_of, Values.is_request, Values.refused_kind, ValueTests.accepts, Facts.explicit_source, Facts.unwrap_or_range}
+use Rattle.clap.specs.{Simple.App, Simple.Shape, Simple.entered, Simple.label_of, Simple.names_of, declared.builder.action.ArgAction.ArgAction}
+use Rattle.clap.specs.{declared.builder.value_parser.ValueParser.ValueParser, declared.error.kind.ErrorKind.ErrorKind}
 use Rattle.clap.proofs.WalkLemmas.{both}
-use Rattle.clap.specs.Faults.{action_fault, built_fault, bundle_step_fault, check_fault, count_fault}
-use Rattle.clap.specs.Faults.{default_fault, defaults_fault, entered_fault, flag_word_fault, flags_fault, given_default_fault}
-use Rattle.clap.specs.Faults.{level_fault, long_fault, option_fault, other_fault, positional_fault}
-use Rattle.clap.specs.Faults.{react_fault, repeat_fault, set_fault, settle_fault, short_fault, step_fault}
-use Rattle.clap.specs.Faults.{stray_fault, turn_fault, use_fault, values_fault, walk_fault, word_fault}
-use Rattle.clap.specs.Takes.{action_passes, built_takes, bundle_step_passes, count_passes, default_passes}
-use Rattle.clap.specs.Takes.{entered_passes, flag_word_passes, flags_pass, is_given, is_valid, level_passes}
-use Rattle.clap.specs.Takes.{long_passes, option_passes, other_passes, positional_passes, react_passes}
-use Rattle.clap.specs.Takes.{set_passes, settle_passes, short_passes, step_passes, turn_passes, use_passes}
-use Rattle.clap.specs.Takes.{values_pass, walk_passes, word_passes}
-use Rattle.clap.specs.declared.builder.action.ArgAction.{ArgAction}
 use Rattle.clap.specs.declared.builder.action.ArgAction.TheVariants as action
-use Rattle.clap.specs.declared.builder.value_parser.ValueParser.{ValueParser}
-use Rattle.clap.specs.declared.error.kind.ErrorKind.{ErrorKind}
 use Rattle.clap.specs.declared.error.kind.ErrorKind.TheVariants as kind
 use Rattle.rv_base.proofs.Truths.{and_assoc}
 

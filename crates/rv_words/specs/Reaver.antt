@@ -1,10 +1,8 @@
 -- The command line as a command of `clap`.
 use Rattle.std.specs.Prelude.{◌≡◌, List, [], ◌∷◌, Some, true, false, codes}
 use Rattle.clap.specs.Words.{App, Rule, Shape, Text, new_rule, shape_of}
-use Rattle.clap.specs.Simple.{new_shape}
-use Rattle.clap.specs.declared.builder.action.ArgAction.TheVariants.{Set}
-use Rattle.clap.specs.declared.builder.command.Command.{Command}
-use Rattle.clap.specs.declared.builder.command.Command.TheViews.{out-Command}
+use Rattle.clap.specs.{Simple.new_shape, declared.builder.action.ArgAction.TheVariants.Set, declared.builder.command.Command.Command}
+use Rattle.clap.specs.{declared.builder.command.Command.TheViews.out-Command}
 
 -- A positional word, which is required. A use sets it.
 abbrev pub word_rule : Text → Rule

@@ -1,19 +1,10 @@
 -- What the words of the command line mean.
-use Rattle.std.specs.Prelude.{String, ℕ, Bool, true, false, List, map, length, codes, Option, Some, None, ◌&&◌}
-use Rattle.std.specs.Prelude.{option_map, option_and_then, if◌then◌else◌, nat_le}
-use Rattle.std.specs.List.{list_all}
-use Rattle.std.specs.Option.{option_map_or}
-use Rattle.std.specs.Char.{is_ascii_digit}
-use Rattle.std.specs.Str.{bytes_eq}
-use Rattle.std.specs.Str.Parse.{digits_value}
-use Rattle.std.specs.String.{string_bytes}
-use Rattle.std.specs.Global.{Global}
-use Rattle.clap.specs.Words.{Row, Text, fault_of, first_of, subcommand_of}
-use Rattle.clap.specs.Walk.{is_empty}
-use Rattle.rv_words.specs.Asked.{Asked}
+use Rattle.std.specs.Prelude.{String, ℕ, Bool, true, false, List, map, length, codes, Option, Some, None, ◌&&◌, option_map, option_and_then, if◌then◌else◌}
+use Rattle.std.specs.Prelude.{nat_le}
+use Rattle.std.specs.{List.list_all, Option.option_map_or, Char.is_ascii_digit, Str.bytes_eq, Str.Parse.digits_value, String.string_bytes, Global.Global}
+use Rattle.clap.specs.{Words.Row, Words.Text, Words.fault_of, Words.first_of, Words.subcommand_of, Walk.is_empty}
+use Rattle.rv_words.specs.{Asked.Asked, Reaver.reaver, declared.command.Command.Command}
 use Rattle.rv_words.specs.Asked as asked
-use Rattle.rv_words.specs.Reaver.{reaver}
-use Rattle.rv_words.specs.declared.command.Command.{Command}
 use Rattle.rv_words.specs.declared.command.Command.TheVariants as read
 
 -- The words as texts.

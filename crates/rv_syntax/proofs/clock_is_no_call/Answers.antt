@@ -1,12 +1,10 @@
 use Rattle.std.proofs.Common.{◌≡◌, ℕ, List, [], ◌∷◌, length, refl, sym, ap, ◌∙◌, arith}
 use Rattle.std.specs.Prelude.{Ok}
-use Rattle.rv_syntax.specs.declared.token.Token.{Token}
+use Rattle.rv_syntax.specs.Grammar.{Called, Just, Sampled, fixed, name_token}
+use Rattle.rv_syntax.specs.{declared.token.Token.Token, Machine.Want, Machine.run}
 use Rattle.rv_syntax.specs.declared.token.Mark.TheVariants as mark
 use Rattle.rv_tree.specs.declared.tree.Name.{Name}
-use Rattle.rv_syntax.specs.Grammar.{Called, Just, Sampled, fixed, name_token}
-use Rattle.rv_syntax.specs.Machine.{Want, run}
-use Rattle.rv_syntax.proofs.Shallow.{left}
-use Rattle.rv_syntax.proofs.Expressions.{read-whole}
+use Rattle.rv_syntax.proofs.{Shallow.left, Expressions.read-whole}
 use Rattle.rv_syntax.proofs.clock_is_no_call.Goals as goal
 
 stops : (a b : Name) (at up : ℕ) (more : List Token) → run (Want []) (name_token a ∷ fixed mark.When at ∷ name_token b ∷ fixed mark.Open up ∷ more) ≡ Ok

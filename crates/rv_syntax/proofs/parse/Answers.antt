@@ -1,12 +1,9 @@
-use Rattle.std.proofs.Common.{refl, ap, ◌∙◌, subst}
+use Rattle.std.proofs.{Common.refl, Common.ap, Common.◌∙◌, Common.subst, lemmas.Result.err_from_is_err_and}
 use Rattle.std.specs.Prelude.{Ok, Err}
-use Rattle.std.proofs.lemmas.Result.{err_from_is_err_and}
-use Rattle.rv_syntax.specs.ProgramText.{IsProgram}
-use Rattle.rv_syntax.specs.Reading.{program}
+use Rattle.rv_syntax.specs.{ProgramText.IsProgram, Reading.program}
 use Rattle.rv_tree.specs.Tree.{program_tree}
-use Rattle.rv_syntax.proofs.Bounds.{program-fits}
-use Rattle.rv_syntax.proofs.ExactRules.{IsEndOfText, Exact-program}
 use Rattle.rv_syntax.proofs.FirstFault.{Answered, whole, answers, refuses, only-tree, only-fault}
+use Rattle.rv_syntax.proofs.{Bounds.program-fits, ExactRules.IsEndOfText, ExactRules.Exact-program}
 use Rattle.rv_syntax.proofs.parse.Goals as goal
 
 refused : (c : goal.After-drop-tokens) → Answered c.args.bytes.now c.from_residual-in_err-program.result

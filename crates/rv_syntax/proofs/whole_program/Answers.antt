@@ -1,10 +1,8 @@
 use Rattle.std.proofs.Common.{refl, sym, ap, ◌∙◌, arith}
 use Rattle.std.specs.Prelude.{Ok}
-use Rattle.rv_syntax.specs.Reading.{program}
-use Rattle.rv_syntax.specs.Stopped.{shortfall, fault_at}
+use Rattle.rv_syntax.specs.{Reading.program, Stopped.shortfall, Stopped.fault_at}
 use Rattle.rv_tree.specs.Tree.{program_tree}
-use Rattle.rv_syntax.proofs.ExactRules.{IsEndOfText, Exact-program}
-use Rattle.rv_syntax.proofs.FirstFault.{left-within, told}
+use Rattle.rv_syntax.proofs.{ExactRules.IsEndOfText, ExactRules.Exact-program, FirstFault.left-within, FirstFault.told}
 use Rattle.rv_syntax.proofs.whole_program.Goals as goal
 
 pub fault_of-requires : goal.fault_of-requires

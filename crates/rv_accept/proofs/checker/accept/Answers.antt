@@ -1,9 +1,5 @@
 use Rattle.std.proofs.Common.{◌≡◌, ◌↔◌}
-use Rattle.rv_proofs.specs.Systems.{System}
-use Rattle.rv_proofs.specs.Accepted.{IsAccepted}
-use Rattle.rv_proofs.specs.Runs.{IsSafeSystem}
-use Rattle.rv_proofs.specs.Verdicts.{IsVerdict}
-use Rattle.rv_proofs.specs.declared.verdict.Verdict.TheVariants.{Accepted}
+use Rattle.rv_proofs.specs.{Systems.System, Accepted.IsAccepted, Runs.IsSafeSystem, Verdicts.IsVerdict, declared.verdict.Verdict.TheVariants.Accepted}
 use Rattle.rv_symbolic.proofs.Extending.{map_ok}
 use Rattle.rv_accept.specs.Passing.{IsGiven}
 use Rattle.rv_accept.proofs.Concluding.{verdict_exact, verdict_safe}

@@ -1,10 +1,8 @@
 use Rattle.std.proofs.Common.{◌≡◌, ◌∙◌, ◌<◌, ◌^◌, sym, subst, ap, length, arith, Some, slice_get, ⊎_elim}
-use Rattle.std.proofs.lemmas.Bool.{cases_lt}
-use Rattle.std.proofs.lemmas.Option.{slice_get_within}
+use Rattle.std.proofs.{lemmas.Bool.cases_lt, lemmas.Option.slice_get_within}
 use Rattle.rv_diagram.specs.Nodes.{Diagrams}
 use Rattle.rv_proofs.specs.Systems.{System}
-use Rattle.rv_accept.specs.Held.{IsWithin}
-use Rattle.rv_accept.specs.Passing.{IsGiven}
+use Rattle.rv_accept.specs.{Held.IsWithin, Passing.IsGiven}
 use Rattle.rv_accept.proofs.Firsts.{before_entry}
 use Rattle.rv_base.proofs.Lists.{item_at}
 use Rattle.rv_accept.proofs.checker.entries_fault.Goals as goal

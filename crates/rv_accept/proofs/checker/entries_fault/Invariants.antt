@@ -1,8 +1,6 @@
 use Rattle.std.proofs.Common.{◌≡◌, ℕ, ◌<◌, Some, slice_get}
-use Rattle.rv_proofs.specs.Systems.{System}
-use Rattle.rv_proofs.specs.declared.certificate.Entry.{Entry}
-use Rattle.rv_accept.specs.Held.{IsWithin}
-use Rattle.rv_accept.specs.Passing.{IsGiven, Passes}
+use Rattle.rv_proofs.specs.{Systems.System, declared.certificate.Entry.Entry}
+use Rattle.rv_accept.specs.{Held.IsWithin, Passing.IsGiven, Passing.Passes}
 use Rattle.rv_accept.proofs.checker.entries_fault.Given as goal
 
 abbrev pub invariant-loop-j : goal.invariant-loop-j

@@ -1,10 +1,8 @@
 use Rattle.std.proofs.Common.{◌∙◌, sym, subst, Some}
 use Rattle.rv_diagram.specs.Nodes.{Diagrams}
 use Rattle.rv_proofs.specs.Systems.{System}
-use Rattle.rv_accept.specs.Held.{IsWithin}
-use Rattle.rv_accept.specs.Passing.{IsGiven}
-use Rattle.rv_accept.proofs.Later.{given_later, within_made, location_whole}
-use Rattle.rv_accept.proofs.Firsts.{first_inclusion, first_uncovered}
+use Rattle.rv_accept.specs.{Held.IsWithin, Passing.IsGiven}
+use Rattle.rv_accept.proofs.{Later.given_later, Later.within_made, Later.location_whole, Firsts.first_inclusion, Firsts.first_uncovered}
 use Rattle.rv_accept.proofs.checker.location_fault_in.Goals as goal
 
 pub first_not_included-requires-clause-range : goal.first_not_included-requires-clause-range

@@ -1,6 +1,5 @@
 use Rattle.std.proofs.Common.{◌≡◌, ℕ, ◌<◌, Some, slice_get}
-use Rattle.rv_proofs.specs.Systems.{System}
-use Rattle.rv_proofs.specs.declared.certificate.Location.{Location}
+use Rattle.rv_proofs.specs.{Systems.System, declared.certificate.Location.Location}
 use Rattle.rv_accept.specs.Passing.{IsGiven, AllPass}
 use Rattle.rv_accept.proofs.checker.locations_fault.Given as goal
 

@@ -1,10 +1,6 @@
-use Rattle.std.proofs.Common.{◌∙◌, sym, subst, Some}
-use Rattle.std.proofs.lemmas.Option.{same_Some}
-use Rattle.rv_proofs.specs.Scopes.{IsInScope}
-use Rattle.rv_proofs.specs.Accepted.{IsEntry}
-use Rattle.rv_proofs.specs.declared.certificate.Entry.{Entry}
-use Rattle.rv_accept.specs.Held.{IsScope}
-use Rattle.rv_accept.specs.Passing.{IsGiven, Passes}
+use Rattle.std.proofs.{Common.◌∙◌, Common.sym, Common.subst, Common.Some, lemmas.Option.same_Some}
+use Rattle.rv_proofs.specs.{Scopes.IsInScope, Accepted.IsEntry, declared.certificate.Entry.Entry}
+use Rattle.rv_accept.specs.{Held.IsScope, Passing.IsGiven, Passing.Passes}
 use Rattle.rv_terms.proofs.Growths.{extends_trans, equal_extends}
 use Rattle.rv_accept.proofs.Later.{given_later, held_later, true_later, scope_made, condition_ordered}
 use Rattle.rv_accept.proofs.Firsts.{first_unsettled, first_observer, first_target, first_multipliers}

@@ -1,6 +1,5 @@
 use Rattle.std.proofs.Common.{sym, subst, refl}
-use Rattle.rv_proofs.specs.Verdicts.{IsTarget}
-use Rattle.rv_proofs.specs.declared.certificate.EntryKind.{EntryKind}
+use Rattle.rv_proofs.specs.{Verdicts.IsTarget, declared.certificate.EntryKind.EntryKind}
 use Rattle.rv_accept.proofs.Later.{elsewhere_step, counted_target, reads_next}
 use Rattle.rv_accept.proofs.entry.step_misses.Goals as goal
 

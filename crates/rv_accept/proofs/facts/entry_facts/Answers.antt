@@ -1,17 +1,10 @@
 use Rattle.std.proofs.Common.{◌∙◌, ◌⊎◌, ◌+◌, ◌<◌, ◌≤◌, ◌^◌, MatchOption, sym, arith}
-use Rattle.rv_proofs.specs.Systems.{System, IsSystem, HasLimits}
+use Rattle.rv_proofs.specs.{Systems.System, Systems.IsSystem, Systems.HasLimits, Ranges.IsInRange, Scopes.IsSettled}
 use Rattle.rv_cases.specs.Questions.{AreQuestions}
-use Rattle.rv_proofs.specs.Ranges.{IsInRange}
-use Rattle.rv_proofs.specs.Scopes.{IsSettled}
 use Rattle.rv_symbolic.proofs.Extending.{map_ok}
-use Rattle.rv_accept.specs.Held.{IsScope}
 use Rattle.rv_accept.specs.Needs.{HasMovingRow, HasMovingForm, AreStillRows, AreStillForms}
-use Rattle.rv_accept.specs.Passing.{AreFacts}
-use Rattle.rv_accept.specs.declared.facts.Facts.{Facts}
-use Rattle.rv_accept.proofs.Asked.{point_of}
-use Rattle.rv_accept.proofs.Ranged.{entry_asked, entry_records}
-use Rattle.rv_accept.proofs.Judged.{kept_kind}
-use Rattle.rv_accept.proofs.Deciding.{facts_settled}
+use Rattle.rv_accept.specs.{Held.IsScope, Passing.AreFacts, declared.facts.Facts.Facts}
+use Rattle.rv_accept.proofs.{Asked.point_of, Ranged.entry_asked, Ranged.entry_records, Judged.kept_kind, Deciding.facts_settled}
 use Rattle.rv_accept.proofs.facts.entry_facts.Goals as goal
 
 pub needed_of-requires-clause-given : goal.needed_of-requires-clause-given

@@ -1,12 +1,9 @@
 use Rattle.std.proofs.Common.{◌≡◌, ◌+◌, ◌^◌, ℕ, List, All, length, length-append, ap, subst, sym, ◌∙◌}
 use Rattle.std.proofs.lemmas.List.Elements.{All-append}
-use Rattle.rv_rows.specs.declared.linear.Row.{Row}
-use Rattle.rv_rows.specs.Rows.{RowWithin}
-use Rattle.rv_proofs.specs.Ranges.{IsRecord}
-use Rattle.rv_proofs.specs.Scopes.{after}
+use Rattle.rv_rows.specs.{declared.linear.Row.Row, Rows.RowWithin}
+use Rattle.rv_proofs.specs.{Ranges.IsRecord, Scopes.after, Scopes.each}
 use Rattle.rv_symbolic.proofs.Extending.{map_ok}
 use Rattle.rv_accept.specs.Passing.{AreTried, AreJudged}
-use Rattle.rv_proofs.specs.Scopes.{each}
 use Rattle.rv_accept.proofs.Judged.{rooms, tried_judged}
 use Rattle.rv_accept.proofs.implying.first_after.Goals as goal
 

@@ -1,9 +1,7 @@
 use Rattle.std.proofs.Common.{◌≡◌, ◌+◌, ◌^◌, ℕ, List, All, length, length-append, ap, subst, sym, ◌∙◌}
 use Rattle.std.proofs.lemmas.List.Elements.{All-append}
-use Rattle.rv_rows.specs.declared.linear.Row.{Row}
-use Rattle.rv_rows.specs.Rows.{RowWithin}
-use Rattle.rv_proofs.specs.Ranges.{IsRecord}
-use Rattle.rv_proofs.specs.Scopes.{before}
+use Rattle.rv_rows.specs.{declared.linear.Row.Row, Rows.RowWithin}
+use Rattle.rv_proofs.specs.{Ranges.IsRecord, Scopes.before}
 use Rattle.rv_proofs.proofs.Records.{kept_within}
 use Rattle.rv_accept.proofs.Judged.{tried_judged}
 use Rattle.rv_accept.proofs.implying.first_before.Goals as goal

@@ -1,11 +1,8 @@
-use Rattle.std.proofs.Common.{◌∙◌, ◌+◌, ◌≤◌, ◌++◌, List, Some, length, sym, subst, arith}
-use Rattle.std.proofs.Common.{None as Nothing}
+use Rattle.std.proofs.Common.{◌∙◌, ◌+◌, ◌≤◌, ◌++◌, List, Some, length, sym, subst, arith, None as Nothing}
 use Rattle.rv_rows.specs.declared.linear.Row.{Row}
-use Rattle.rv_proofs.specs.Systems.{System, IsSystem}
-use Rattle.rv_proofs.specs.Scopes.{after, each}
+use Rattle.rv_proofs.specs.{Systems.System, Systems.IsSystem, Scopes.after, Scopes.each}
 use Rattle.rv_accept.specs.Passing.{AreLimited, AreAsked, AreJudged}
-use Rattle.rv_accept.proofs.Listing.{length_each}
-use Rattle.rv_accept.proofs.Judged.{judged_left, found_few, asked_few}
+use Rattle.rv_accept.proofs.{Listing.length_each, Judged.judged_left, Judged.found_few, Judged.asked_few}
 use Rattle.rv_accept.proofs.implying.first_in_turns.Goals as goal
 
 pub first_after-requires : goal.first_after-requires

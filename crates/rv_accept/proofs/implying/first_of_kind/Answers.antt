@@ -1,7 +1,6 @@
 use Rattle.std.proofs.Common.{◌≡◌, ◌∙◌, ◌+◌, ℕ, length, subst, sym}
 use Rattle.std.proofs.lemmas.Option.{same_Some, slice_get_within}
-use Rattle.rv_proofs.specs.Ranges.{IsRecord}
-use Rattle.rv_proofs.specs.declared.certificate.Location.{Location}
+use Rattle.rv_proofs.specs.{Ranges.IsRecord, declared.certificate.Location.Location}
 use Rattle.rv_accept.specs.Passing.{AreAsked}
 use Rattle.rv_accept.proofs.implying.first_of_kind.Goals as goal
 

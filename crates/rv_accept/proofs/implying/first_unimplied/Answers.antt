@@ -1,7 +1,6 @@
 use Rattle.std.proofs.Common.{arith}
 use Rattle.rv_proofs.specs.Scopes.{implications}
-use Rattle.rv_accept.proofs.Ranged.{entry_asked, few_implications}
-use Rattle.rv_accept.proofs.Judged.{few_judged, kept_kind, all_implied, first_implied}
+use Rattle.rv_accept.proofs.{Ranged.entry_asked, Ranged.few_implications, Judged.few_judged, Judged.kept_kind, Judged.all_implied, Judged.first_implied}
 use Rattle.rv_accept.proofs.implying.first_unimplied.Goals as goal
 
 pub first_of_kind-requires : goal.first_of_kind-requires

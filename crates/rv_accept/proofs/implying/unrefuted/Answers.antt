@@ -1,7 +1,6 @@
 use Rattle.std.proofs.Common.{◌≡◌, ◌+◌, ◌^◌, ℕ, List, All, length, length-append, ap, subst, sym, true, false, ◌∙◌}
 use Rattle.std.proofs.lemmas.List.Elements.{All-append}
-use Rattle.rv_rows.specs.declared.linear.Row.{Row}
-use Rattle.rv_rows.specs.Rows.{RowWithin}
+use Rattle.rv_rows.specs.{declared.linear.Row.Row, Rows.RowWithin}
 use Rattle.rv_proofs.specs.Ranges.{IsRecord}
 use Rattle.rv_proofs.proofs.Records.{weights_within}
 use Rattle.rv_accept.proofs.Judged.{refuted_judged, unrefuted_judged}

@@ -1,5 +1,4 @@
-use Rattle.std.proofs.Common.{◌<◌, ◌≤◌, length, arith}
-use Rattle.std.proofs.lemmas.Option.{slice_get_within}
+use Rattle.std.proofs.{Common.◌<◌, Common.◌≤◌, Common.length, Common.arith, lemmas.Option.slice_get_within}
 use Rattle.rv_accept.proofs.Later.{included_first, included_later}
 use Rattle.rv_accept.proofs.including.first_not_included.Goals as goal
 

@@ -1,5 +1,4 @@
-use Rattle.std.proofs.Common.{◌≡◌, ◌∙◌, sym, subst}
-use Rattle.std.proofs.lemmas.Option.{same_Some}
+use Rattle.std.proofs.{Common.◌≡◌, Common.◌∙◌, Common.sym, Common.subst, lemmas.Option.same_Some}
 use Rattle.rv_proofs.specs.declared.certificate.Location.{Location}
 use Rattle.rv_accept.specs.Passing.{AreAsked}
 use Rattle.rv_accept.proofs.Ranged.{needed_list}

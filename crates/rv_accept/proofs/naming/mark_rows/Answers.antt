@@ -1,8 +1,6 @@
 use Rattle.std.proofs.Common.{◌≡◌, ◌≢◌, ◌∙◌, length, pos, sym, arith}
-use Rattle.rv_rows.specs.declared.linear.Row.{Row}
-use Rattle.rv_rows.specs.Rows.{coefficient}
-use Rattle.rv_accept.proofs.Listing.{all_at}
-use Rattle.rv_accept.proofs.Marking.{loop_start, loop_more, loop_end}
+use Rattle.rv_rows.specs.{declared.linear.Row.Row, Rows.coefficient}
+use Rattle.rv_accept.proofs.{Listing.all_at, Marking.loop_start, Marking.loop_more, Marking.loop_end}
 use Rattle.rv_accept.proofs.naming.mark_rows.Goals as goal
 
 pub loop-i-init : goal.loop-i-init

@@ -1,7 +1,6 @@
 use Rattle.std.proofs.Common.{◌≡◌, ◌+◌, ◌<◌, length, arith}
 use Rattle.rv_rows.specs.declared.farkas.Weight.{Weight}
-use Rattle.rv_accept.proofs.Listing.{all_at}
-use Rattle.rv_accept.proofs.Marking.{loop_start, loop_more, loop_end}
+use Rattle.rv_accept.proofs.{Listing.all_at, Marking.loop_start, Marking.loop_more, Marking.loop_end}
 use Rattle.rv_accept.proofs.naming.mark_weights.Goals as goal
 
 pub loop-i-init : goal.loop-i-init

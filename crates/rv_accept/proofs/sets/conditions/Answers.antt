@@ -1,5 +1,4 @@
-use Rattle.std.proofs.Common.{ℕ, sym, subst, length, ◌<◌, arith}
-use Rattle.std.proofs.lemmas.Option.{slice_get_within}
+use Rattle.std.proofs.{Common.ℕ, Common.sym, Common.subst, Common.length, Common.◌<◌, Common.arith, lemmas.Option.slice_get_within}
 use Rattle.rv_diagram.specs.Nodes.{value_of, IsOrderedOver}
 use Rattle.rv_accept.specs.Steps.{has}
 use Rattle.rv_terms.proofs.Growths.{extends_refl, extends_trans}

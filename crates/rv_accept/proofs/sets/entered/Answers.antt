@@ -1,5 +1,4 @@
-use Rattle.std.proofs.Common.{length, ◌<◌, arith}
-use Rattle.std.proofs.lemmas.Option.{slice_get_within}
+use Rattle.std.proofs.{Common.length, Common.◌<◌, Common.arith, lemmas.Option.slice_get_within}
 use Rattle.rv_diagram.specs.Nodes.{value_of}
 use Rattle.rv_terms.proofs.Growths.{extends_trans}
 use Rattle.rv_accept.proofs.Growing.{entered_more}

@@ -1,7 +1,5 @@
 use Rattle.std.proofs.Common.{◌≡◌, ◌∙◌, sym, ap, ℤ, List}
-use Rattle.std.specs.Cmp.Rules.{signed_items}
-use Rattle.std.specs.Cmp.Lexicographic.{pointwise}
-use Rattle.std.specs.Ordering.{int_eq}
+use Rattle.std.specs.{Cmp.Rules.signed_items, Cmp.Lexicographic.pointwise, Ordering.int_eq}
 use Rattle.rv_accept.proofs.settled.are_same.Goals as goal
 
 pub returns : goal.returns

@@ -1,7 +1,6 @@
 use Rattle.std.proofs.Common.{◌≡◌, ◌<◌, ℕ, sym, subst, true, false, [], pos, length, arith}
 use Rattle.std.proofs.lemmas.Option.{get_or_from_slice_get}
-use Rattle.rv_diagram.specs.Nodes.{value_of, valuation_of}
-use Rattle.rv_diagram.specs.Several.{ref_at}
+use Rattle.rv_diagram.specs.{Nodes.value_of, Nodes.valuation_of, Several.ref_at}
 use Rattle.rv_rows.specs.declared.linear.Form.{Form}
 use Rattle.rv_proofs.specs.Implied.{form_at}
 use Rattle.rv_cases.specs.Conditions.{is_in}

@@ -1,9 +1,7 @@
 use Rattle.std.proofs.Common.{◌≡◌, ◌∙◌, ◌+◌, ◌-◌, ◌<◌, ℕ, sym, subst, Some, true, false, [], pos, length, arith}
 use Rattle.std.proofs.lemmas.Option.{none-some, same_Some, get_or_from_slice_get}
-use Rattle.rv_diagram.specs.Nodes.{value_of, valuation_of}
-use Rattle.rv_diagram.specs.Several.{ref_at}
-use Rattle.rv_rows.specs.declared.linear.Row.{Row}
-use Rattle.rv_rows.specs.Rows.{row_at}
+use Rattle.rv_diagram.specs.{Nodes.value_of, Nodes.valuation_of, Several.ref_at}
+use Rattle.rv_rows.specs.{declared.linear.Row.Row, Rows.row_at}
 use Rattle.rv_cases.specs.Conditions.{is_in}
 use Rattle.rv_accept.specs.Steps.{IsTrueOf}
 use Rattle.rv_accept.proofs.Stays.{settled_here, unsettled, test_right, test_all, row_or}

@@ -1,5 +1,4 @@
-use Rattle.std.proofs.Common.{◌∙◌, [], pos, sym, subst}
-use Rattle.std.proofs.lemmas.Option.{get_or_from_slice_get}
+use Rattle.std.proofs.{Common.◌∙◌, Common.[], Common.pos, Common.sym, Common.subst, lemmas.Option.get_or_from_slice_get}
 use Rattle.rv_diagram.specs.Nodes.{value_of}
 use Rattle.rv_rows.specs.declared.linear.Form.{Form}
 use Rattle.rv_accept.specs.Needs.{StaysForm}

@@ -1,6 +1,5 @@
 use Rattle.std.proofs.Common.{◌≡◌, ℕ, ◌<◌, true, All, length}
-use Rattle.rv_proofs.specs.Systems.{System, IsSystem, IsUpdate}
-use Rattle.rv_proofs.specs.Implied.{form_at}
+use Rattle.rv_proofs.specs.{Systems.System, Systems.IsSystem, Systems.IsUpdate, Implied.form_at}
 use Rattle.rv_cases.specs.Questions.{AreQuestions}
 use Rattle.rv_accept.specs.Needs.{flag_at, StaysForm}
 use Rattle.rv_accept.proofs.settling.still_forms.Given as goal

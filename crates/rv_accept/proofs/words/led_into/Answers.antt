@@ -1,9 +1,6 @@
 use Rattle.std.proofs.Common.{true, ◌≡◌, ◌∙◌, ◌+◌, ◌<◌, sym, ap, subst, ℕ, List, length, arith}
-use Rattle.rv_diagram.specs.declared.Triple.{Triple}
-use Rattle.rv_diagram.specs.Nodes.{value_of, IsOrderedOver}
-use Rattle.rv_diagram.specs.Several.{ref_at}
-use Rattle.rv_accept.specs.Steps.{AreRefs}
-use Rattle.rv_accept.specs.Held.{follow}
+use Rattle.rv_diagram.specs.{declared.Triple.Triple, Nodes.value_of, Nodes.IsOrderedOver, Several.ref_at}
+use Rattle.rv_accept.specs.{Steps.AreRefs, Held.follow}
 use Rattle.rv_accept.proofs.Moving.{child_found, child_means}
 use Rattle.rv_accept.proofs.words.led_into.Goals as goal
 

@@ -1,8 +1,6 @@
 use Rattle.std.proofs.Common.{◌∙◌, sym, ap, ◌&&◌, not, List, ℕ}
-use Rattle.rv_diagram.specs.declared.frozen.Frozen.{Frozen}
-use Rattle.rv_diagram.specs.Nodes.{value_of}
-use Rattle.rv_accept.specs.Steps.{has}
-use Rattle.rv_accept.specs.Held.{follow}
+use Rattle.rv_diagram.specs.{declared.frozen.Frozen.Frozen, Nodes.value_of}
+use Rattle.rv_accept.specs.{Steps.has, Held.follow}
 use Rattle.rv_accept.proofs.Failing.{elsewhere, follow_next}
 use Rattle.rv_accept.proofs.words.misses_target.Goals as goal
 

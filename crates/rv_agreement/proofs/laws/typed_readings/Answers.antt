@@ -1,6 +1,5 @@
 use Rattle.std.proofs.Common.{arith, length}
-use Rattle.rv_agreement.proofs.Controls.{never_linear}
-use Rattle.rv_agreement.proofs.Kinded.{flows_read, expressions_read, memories_read}
+use Rattle.rv_agreement.proofs.{Controls.never_linear, Kinded.flows_read, Kinded.expressions_read, Kinded.memories_read}
 use Rattle.rv_agreement.proofs.laws.typed_readings.Goals as goal
 
 pub returns-clause-flows : goal.returns-clause-flows

@@ -1,7 +1,6 @@
 use Rattle.std.proofs.Common.{refl}
 use Rattle.rv_base.specs.declared.value.Value.{Value}
-use Rattle.rv_agreement.specs.Evaluation.{integers}
-use Rattle.rv_agreement.specs.Valuations.{Reading, readings}
+use Rattle.rv_agreement.specs.{Evaluation.integers, Valuations.Reading, Valuations.readings}
 use Rattle.rv_agreement.proofs.Translated.{value_read, compared_read}
 use Rattle.rv_agreement.proofs.program_laws.translated_expressions.Goals as goal
 

@@ -1,15 +1,10 @@
 use Rattle.std.proofs.Common.{true, cond, ℕ, List, length, subst, sym}
-use Rattle.rv_agreement.specs.Agreement.{IsNamed}
-use Rattle.rv_agreement.specs.Trees.{Item}
+use Rattle.rv_agreement.specs.{Agreement.IsNamed, Trees.Item}
 use Rattle.rv_flat.specs.Inlined.{inlined, table_of}
 use Rattle.rv_symbolic.specs.Growing.{Makes}
 use Rattle.rv_symbolic.proofs.Extending.{map_ok}
-use Rattle.rv_bits.specs.Asserted.{IsMetRead}
-use Rattle.rv_bits.specs.Bits.{bit}
-use Rattle.rv_bits.specs.Reads.{tree_in}
-use Rattle.rv_bits.specs.Shown.{clock_bit}
-use Rattle.rv_bits.proofs.Keeping.{flows_kept, after_kept, on_ok}
-use Rattle.rv_bits.proofs.Asserting.{met_made}
+use Rattle.rv_bits.specs.{Asserted.IsMetRead, Bits.bit, Reads.tree_in, Shown.clock_bit}
+use Rattle.rv_bits.proofs.{Keeping.flows_kept, Keeping.after_kept, Keeping.on_ok, Asserting.met_made}
 use Rattle.rv_bits.proofs.assertions.read_assertion.Goals as goal
 
 pub returns-clause-ok : goal.returns-clause-ok

@@ -1,19 +1,11 @@
 use Rattle.std.proofs.Common.{◌≡◌, ◌∙◌, ◌+◌, ◌∷◌, ◌<◌, suc, List, length, map, drop, ap, subst, sym, arith}
-use Rattle.std.proofs.lemmas.List.{length-map}
-use Rattle.std.proofs.Math.Seq.{drop-cons}
+use Rattle.std.proofs.{lemmas.List.length-map, Math.Seq.drop-cons}
 use Rattle.rv_types.specs.declared.typed.Kind.TheVariants as kind
-use Rattle.rv_agreement.specs.Agreement.{ItemFits, IsNamed}
-use Rattle.rv_agreement.specs.Trees.{no_item, nth_item}
-use Rattle.rv_flat.specs.declared.parts.FlatExpr.{FlatExpr}
-use Rattle.rv_flat.specs.FlatInstants.{system_of}
-use Rattle.rv_flat.specs.Systems.{assertion_item, flow_item}
-use Rattle.rv_flat.specs.Tame.{IsOver}
+use Rattle.rv_agreement.specs.{Agreement.ItemFits, Agreement.IsNamed, Trees.no_item, Trees.nth_item}
+use Rattle.rv_flat.specs.{declared.parts.FlatExpr.FlatExpr, FlatInstants.system_of, Systems.assertion_item, Systems.flow_item, Tame.IsOver}
 use Rattle.rv_symbolic.specs.Growing.{Extends}
 use Rattle.rv_symbolic.proofs.Extending.{extends_trans, grows_extends}
-use Rattle.rv_bits.proofs.Keeping.{around_kept, after_kept}
-use Rattle.rv_bits.proofs.Fitting.{over_fits}
-use Rattle.rv_bits.proofs.Listing.{item_in}
-use Rattle.rv_bits.proofs.Asserting.{met_more, met_all}
+use Rattle.rv_bits.proofs.{Keeping.around_kept, Keeping.after_kept, Fitting.over_fits, Listing.item_in, Asserting.met_more, Asserting.met_all}
 use Rattle.rv_bits.proofs.assertions.read_assertions.Goals as goal
 
 pub read_assertion-requires-clause-clock : goal.read_assertion-requires-clause-clock

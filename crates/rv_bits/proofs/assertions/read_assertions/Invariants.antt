@@ -1,8 +1,7 @@
 use Rattle.std.proofs.Common.{◌≡◌, ◌&&◌, List, Option, drop}
 use Rattle.rv_diagram.specs.Nodes.{Valuation, IsRef, value_of}
 use Rattle.rv_agreement.specs.Valuations.{Reading, IsSymbolic}
-use Rattle.rv_control.specs.Control.{all_met}
-use Rattle.rv_control.specs.Named.{named}
+use Rattle.rv_control.specs.{Control.all_met, Named.named}
 use Rattle.rv_flat.specs.FlatInstants.{system_of}
 use Rattle.rv_symbolic.specs.Growing.{Extends}
 use Rattle.rv_bits.specs.Shown.{AreAfter, IsAround}

@@ -1,6 +1,5 @@
 use Rattle.std.proofs.Common.{ℕ, ◌&&◌, subst}
-use Rattle.rv_diagram.specs.Nodes.{value_of}
-use Rattle.rv_diagram.specs.Several.{ref_at}
+use Rattle.rv_diagram.specs.{Nodes.value_of, Several.ref_at}
 use Rattle.rv_symbolic.specs.Growing.{Makes}
 use Rattle.rv_bits.specs.Bits.{is_same}
 use Rattle.rv_bits.proofs.Making.{equal_more}

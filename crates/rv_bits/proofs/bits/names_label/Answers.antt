@@ -1,7 +1,6 @@
 use Rattle.std.proofs.Common.{◌-◌, ◌+◌, ◌&&◌, ◌||◌, Bool, cond, subst, refl, arith}
-use Rattle.rv_diagram.specs.Nodes.{value_of}
+use Rattle.rv_diagram.specs.{Nodes.value_of, Several.ref_at}
 use Rattle.rv_symbolic.specs.Growing.{Makes}
-use Rattle.rv_diagram.specs.Several.{ref_at}
 use Rattle.rv_bits.proofs.Making.{within_more, code_named, next_bit, next_rest}
 use Rattle.rv_bits.proofs.bits.names_label.Goals as goal
 

@@ -1,16 +1,13 @@
 use Rattle.std.proofs.Common.{◌≡◌, ◌∙◌, ℕ, nat_lt, List, length, map, ap, sym, arith}
-use Rattle.std.specs.Prelude.{slice_index_or}
 use Rattle.std.proofs.lemmas.Bool.{le-ltb}
-use Rattle.rv_types.specs.declared.typed.Kind.{Kind}
-use Rattle.rv_types.specs.Variables.{bits_for}
+use Rattle.std.specs.Prelude.{slice_index_or}
+use Rattle.rv_types.specs.{declared.typed.Kind.Kind, Variables.bits_for}
 use Rattle.rv_meaning.specs.Codes.{code}
 use Rattle.rv_control.specs.Control.{names_label}
 use Rattle.rv_symbolic.specs.Growing.{Makes}
 use Rattle.rv_symbolic.proofs.Extending.{map_ok, extends_refl}
 use Rattle.rv_bits.specs.Bits.{bit}
-use Rattle.rv_bits.proofs.Making.{makes_to}
-use Rattle.rv_bits.proofs.Naming.{few_at, mapped_at, mapped_past}
-use Rattle.rv_bits.proofs.Labels.{constant_made}
+use Rattle.rv_bits.proofs.{Making.makes_to, Naming.few_at, Naming.mapped_at, Naming.mapped_past, Labels.constant_made}
 use Rattle.rv_bits.proofs.coded.label_named.Goals as goal
 
 pub names_label-requires-clause-few : goal.names_label-requires-clause-few

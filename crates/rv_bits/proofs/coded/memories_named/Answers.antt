@@ -1,28 +1,19 @@
 use Rattle.std.proofs.Common.{◌≡◌, ◌∙◌, ◌+◌, ◌∷◌, ◌<◌, ◌&&◌, ℕ, suc, [], List, length, drop, ap, subst, sym, arith}
+use Rattle.std.proofs.{Math.Seq.drop-cons, lemmas.List.length-map}
 use Rattle.std.specs.Prelude.{slice_index_or}
-use Rattle.std.proofs.Math.Seq.{drop-cons}
-use Rattle.std.proofs.lemmas.List.{length-map}
 use Rattle.rv_tree.specs.Places.{Sites}
-use Rattle.rv_types.specs.declared.typed.Kind.{Kind}
+use Rattle.rv_types.specs.{declared.typed.Kind.Kind, Lists.Kept}
 use Rattle.rv_types.specs.declared.typed.Kind.TheVariants as kind
-use Rattle.rv_types.specs.Lists.{Kept}
 use Rattle.rv_diagram.specs.Nodes.{Valuation, value_of}
-use Rattle.rv_agreement.specs.Agreement.{bit_count}
-use Rattle.rv_agreement.specs.Trees.{kind_at}
+use Rattle.rv_agreement.specs.{Agreement.bit_count, Trees.kind_at}
 use Rattle.rv_agreement.specs.Trees as trees
-use Rattle.rv_control.specs.Control.{names_label, memories_named}
-use Rattle.rv_control.specs.Named.{named, variables_of, truth_at}
-use Rattle.rv_flat.specs.declared.parts.FlatMemory.{FlatMemory}
-use Rattle.rv_flat.specs.FlatInstants.{memory_places, system_of}
-use Rattle.rv_flat.specs.Steps.{label_counts, memory_kinds}
-use Rattle.rv_flat.specs.Systems.{kept_of}
-use Rattle.rv_symbolic.proofs.Extending.{extends_trans, grows_extends}
-use Rattle.rv_bits.specs.Bits.{bit}
-use Rattle.rv_bits.specs.Shown.{refs_at}
+use Rattle.rv_control.specs.{Control.names_label, Control.memories_named, Named.named, Named.variables_of, Named.truth_at}
+use Rattle.rv_flat.specs.{declared.parts.FlatMemory.FlatMemory, FlatInstants.memory_places, FlatInstants.system_of, Steps.label_counts, Steps.memory_kinds}
+use Rattle.rv_flat.specs.{Systems.kept_of}
+use Rattle.rv_symbolic.proofs.Extending.{extends_trans, grows_extends, extends_refl}
+use Rattle.rv_bits.specs.{Bits.bit, Shown.refs_at}
 use Rattle.rv_bits.proofs.Labels.{label_same, and_more, and_all, memories_split, memories_done}
-use Rattle.rv_bits.proofs.Listing.{item_in}
-use Rattle.rv_bits.proofs.Making.{bits_kept, makes_to}
-use Rattle.rv_symbolic.proofs.Extending.{extends_refl}
+use Rattle.rv_bits.proofs.{Listing.item_in, Making.bits_kept, Making.makes_to}
 use Rattle.rv_bits.proofs.coded.memories_named.Goals as goal
 
 pub loop-number-preserved : goal.loop-number-preserved

@@ -1,9 +1,7 @@
 use Rattle.std.proofs.Common.{◌≡◌, ◌&&◌, drop}
 use Rattle.rv_diagram.specs.Nodes.{Valuation, IsRef, value_of}
-use Rattle.rv_control.specs.Control.{memories_named}
-use Rattle.rv_control.specs.Named.{named}
-use Rattle.rv_flat.specs.FlatInstants.{system_of}
-use Rattle.rv_flat.specs.Steps.{label_counts}
+use Rattle.rv_control.specs.{Control.memories_named, Named.named}
+use Rattle.rv_flat.specs.{FlatInstants.system_of, Steps.label_counts}
 use Rattle.rv_symbolic.specs.Growing.{Extends}
 use Rattle.rv_bits.proofs.coded.memories_named.Given as goal
 

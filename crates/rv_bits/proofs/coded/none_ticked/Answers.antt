@@ -1,15 +1,11 @@
-use Rattle.std.proofs.Common.{◌≡◌, ◌∙◌, ◌+◌, ◌∷◌, ◌<◌, ◌&&◌, ℕ, suc, not, List, length, drop, ap, sym, arith}
-use Rattle.std.proofs.Common.{None as Nothing}
-use Rattle.std.specs.Prelude.{slice_index_or}
+use Rattle.std.proofs.Common.{◌≡◌, ◌∙◌, ◌+◌, ◌∷◌, ◌<◌, ◌&&◌, ℕ, suc, not, List, length, drop, ap, sym, arith, None as Nothing}
 use Rattle.std.proofs.Math.Seq.{drop-cons}
-use Rattle.rv_diagram.specs.Nodes.{Valuation, value_of}
-use Rattle.rv_diagram.specs.Several.{ref_at}
-use Rattle.rv_control.specs.Control.{none_ticked}
-use Rattle.rv_control.specs.Named.{named}
+use Rattle.std.specs.Prelude.{slice_index_or}
+use Rattle.rv_diagram.specs.{Nodes.Valuation, Nodes.value_of, Several.ref_at}
+use Rattle.rv_control.specs.{Control.none_ticked, Named.named}
 use Rattle.rv_flat.specs.FlatInstants.{system_of}
 use Rattle.rv_symbolic.proofs.Extending.{extends_trans}
-use Rattle.rv_bits.proofs.Labels.{and_step, and_all, ticks_split, ticks_done}
-use Rattle.rv_bits.proofs.Making.{any_ref}
+use Rattle.rv_bits.proofs.{Labels.and_step, Labels.and_all, Labels.ticks_split, Labels.ticks_done, Making.any_ref}
 use Rattle.rv_bits.proofs.coded.none_ticked.Goals as goal
 
 pub loop-tick-preserved : goal.loop-tick-preserved

@@ -1,16 +1,9 @@
-use Rattle.std.proofs.Common.{◌≡◌, ◌∙◌, ◌+◌, ◌<◌, length, subst, sym, arith}
-use Rattle.std.proofs.lemmas.List.{length-map}
-use Rattle.rv_agreement.specs.Agreement.{Fits, IsNamed}
-use Rattle.rv_agreement.specs.Trees.{Item, kind_at, memory_kinds}
-use Rattle.rv_flat.specs.FlatInstants.{system_of}
-use Rattle.rv_flat.specs.Inlined.{table_of}
-use Rattle.rv_flat.specs.Systems.{flow_item, kept_of}
-use Rattle.rv_flat.specs.Tame.{IsOver}
+use Rattle.std.proofs.{Common.◌≡◌, Common.◌∙◌, Common.◌+◌, Common.◌<◌, Common.length, Common.subst, Common.sym, Common.arith, lemmas.List.length-map}
+use Rattle.rv_agreement.specs.{Agreement.Fits, Agreement.IsNamed, Trees.Item, Trees.kind_at, Trees.memory_kinds}
+use Rattle.rv_flat.specs.{FlatInstants.system_of, Inlined.table_of, Systems.flow_item, Systems.kept_of, Tame.IsOver}
 use Rattle.rv_flat.proofs.Inlining.{memory_at}
 use Rattle.rv_bits.specs.Flows.{AreAfters}
-use Rattle.rv_bits.proofs.Keeping.{around_kept}
-use Rattle.rv_bits.proofs.Fitting.{over_fits}
-use Rattle.rv_bits.proofs.Flowing.{after_pushed}
+use Rattle.rv_bits.proofs.{Keeping.around_kept, Fitting.over_fits, Flowing.after_pushed}
 use Rattle.rv_bits.proofs.flows.read_afters.Goals as goal
 
 pub show-requires-clause-clock : goal.show-requires-clause-clock

@@ -1,5 +1,4 @@
-use Rattle.rv_bits.specs.Flows.{AreAfters}
-use Rattle.rv_bits.specs.Shown.{AreAfter, IsAround}
+use Rattle.rv_bits.specs.{Flows.AreAfters, Shown.AreAfter, Shown.IsAround}
 use Rattle.rv_bits.proofs.flows.read_afters.Given as goal
 
 abbrev pub invariant-loop-number : goal.invariant-loop-number

@@ -1,8 +1,6 @@
 use Rattle.std.proofs.Common.{◌∙◌, sym}
-use Rattle.rv_bits.specs.Flows.{on_bit}
-use Rattle.rv_bits.specs.Reads.{tree_in}
-use Rattle.rv_bits.proofs.Keeping.{flows_kept, after_kept}
-use Rattle.rv_bits.proofs.Flowing.{reads_longer, on_kept}
+use Rattle.rv_bits.specs.{Flows.on_bit, Reads.tree_in}
+use Rattle.rv_bits.proofs.{Keeping.flows_kept, Keeping.after_kept, Flowing.reads_longer, Flowing.on_kept}
 use Rattle.rv_bits.proofs.flows.read_flow.Goals as goal
 
 pub returns-clause-ok : goal.returns-clause-ok

@@ -1,20 +1,12 @@
 use Rattle.std.proofs.Common.{◌≡◌, ◌∙◌, ◌+◌, ◌++◌, ◌∷◌, ◌≤◌, ℕ, [], List, length, length-append, ap, subst, sym, arith}
 use Rattle.std.proofs.lemmas.List.{length-map}
 use Rattle.rv_types.specs.declared.typed.Kind.TheVariants as kind
-use Rattle.rv_agreement.specs.Agreement.{Fits}
-use Rattle.rv_agreement.specs.Trees.{Item, no_item, nth_item, kind_at}
-use Rattle.rv_flat.specs.declared.parts.FlatFlow.{FlatFlow}
-use Rattle.rv_flat.specs.FlatInstants.{system_of}
-use Rattle.rv_flat.specs.Inlined.{tree_among}
-use Rattle.rv_flat.specs.Systems.{flow_item}
-use Rattle.rv_flat.specs.Tame.{IsOver}
+use Rattle.rv_agreement.specs.{Agreement.Fits, Trees.Item, Trees.no_item, Trees.nth_item, Trees.kind_at}
+use Rattle.rv_flat.specs.{declared.parts.FlatFlow.FlatFlow, FlatInstants.system_of, Inlined.tree_among, Systems.flow_item, Tame.IsOver}
 use Rattle.rv_flat.proofs.Inlining.{is_table}
 use Rattle.rv_symbolic.proofs.Extending.{extends_trans}
 use Rattle.rv_bits.specs.Shown.{AreFlowRefs}
-use Rattle.rv_bits.proofs.Keeping.{tables_kept}
-use Rattle.rv_bits.proofs.Listing.{item_in}
-use Rattle.rv_bits.proofs.Fitting.{over_fits}
-use Rattle.rv_bits.proofs.Flowing.{flow_pushed}
+use Rattle.rv_bits.proofs.{Keeping.tables_kept, Listing.item_in, Fitting.over_fits, Flowing.flow_pushed}
 use Rattle.rv_bits.proofs.flows.read_flows.Goals as goal
 
 pub read_flow-requires-clause-around : goal.read_flow-requires-clause-around

@@ -1,5 +1,4 @@
-use Rattle.rv_bits.specs.Flows.{AreFlowsRead}
-use Rattle.rv_bits.specs.Shown.{AreAfter}
+use Rattle.rv_bits.specs.{Flows.AreFlowsRead, Shown.AreAfter}
 use Rattle.rv_bits.proofs.flows.read_flows.Given as goal
 
 abbrev pub invariant-loop-flow : goal.invariant-loop-flow

@@ -1,10 +1,7 @@
-use Rattle.std.proofs.Common.{◌≡◌, ◌∙◌, ◌-◌, ℕ, suc, List, map, ap, subst, sym, arith, Some}
-use Rattle.std.proofs.Common.{None as Nothing}
+use Rattle.std.proofs.Common.{◌≡◌, ◌∙◌, ◌-◌, ℕ, suc, List, map, ap, subst, sym, arith, Some, None as Nothing}
 use Rattle.std.specs.Prelude.{slice_get, slice_index_or}
 use Rattle.rv_tree.specs.Places.{Sites, index_of}
-use Rattle.rv_flat.specs.Facts.{numbers_among}
-use Rattle.rv_flat.specs.Lists.{tick_places}
-use Rattle.rv_flat.specs.Systems.{places_of, tick_clocks_of}
+use Rattle.rv_flat.specs.{Facts.numbers_among, Lists.tick_places, Systems.places_of, Systems.tick_clocks_of}
 use Rattle.rv_bits.proofs.Nexting.{numbers_told, clock_some, clock_none}
 use Rattle.rv_bits.proofs.following.clock_of_tick.Goals as goal
 

@@ -1,5 +1,4 @@
-use Rattle.std.proofs.Common.{◌≡◌, ◌∙◌, ◌+◌, ◌∷◌, suc, drop, sym, arith}
-use Rattle.std.proofs.Math.Seq.{drop-cons}
+use Rattle.std.proofs.{Common.◌≡◌, Common.◌∙◌, Common.◌+◌, Common.◌∷◌, Common.suc, Common.drop, Common.sym, Common.arith, Math.Seq.drop-cons}
 use Rattle.rv_bits.proofs.Nexting.{copies_more, copies_done, copies_few}
 use Rattle.rv_bits.proofs.following.count_states.Goals as goal
 

@@ -1,14 +1,9 @@
 use Rattle.std.proofs.Common.{◌≡◌, ◌∙◌, ℕ, List, ap, subst, sym, arith}
 use Rattle.rv_tree.specs.Places.{index_of}
-use Rattle.rv_flat.specs.declared.parts.FlatMemory.{FlatMemory}
-use Rattle.rv_flat.specs.FlatInstants.{memory_places}
-use Rattle.rv_flat.specs.Systems.{memory_places_of}
+use Rattle.rv_flat.specs.{declared.parts.FlatMemory.FlatMemory, FlatInstants.memory_places, FlatInstants.system_of, Systems.memory_places_of}
 use Rattle.rv_agreement.specs.Valuations.{updated}
-use Rattle.rv_control.specs.Control.{bit_of}
-use Rattle.rv_control.specs.Named.{named}
-use Rattle.rv_flat.specs.FlatInstants.{system_of}
-use Rattle.rv_bits.specs.Following.{IsKeptBit, kept_ref}
-use Rattle.rv_bits.specs.Shown.{refs_at}
+use Rattle.rv_control.specs.{Control.bit_of, Named.named}
+use Rattle.rv_bits.specs.{Following.IsKeptBit, Following.kept_ref, Shown.refs_at}
 use Rattle.rv_bits.proofs.Nexting.{kept_is_ref, bit_shown, bit_past_all, memory_within}
 use Rattle.rv_bits.proofs.following.kept_after.Goals as goal
 

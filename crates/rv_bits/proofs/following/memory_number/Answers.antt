@@ -1,10 +1,8 @@
 use Rattle.std.proofs.Common.{◌≡◌, ◌∙◌, ◌+◌, ◌∷◌, ◌<◌, suc, true, false, cond, [], length, drop, ap, sym, arith}
+use Rattle.std.proofs.{lemmas.List.length-map, lemmas.List.get_or-map, Math.Seq.drop-cons}
 use Rattle.std.specs.Prelude.{slice_index_or}
-use Rattle.std.proofs.lemmas.List.{length-map, get_or-map}
-use Rattle.std.proofs.Math.Seq.{drop-cons}
 use Rattle.rv_tree.specs.Places.{is_same, index_of}
-use Rattle.rv_flat.specs.declared.parts.FlatMemory.{FlatMemory}
-use Rattle.rv_flat.specs.Systems.{memory_places_of}
+use Rattle.rv_flat.specs.{declared.parts.FlatMemory.FlatMemory, Systems.memory_places_of}
 use Rattle.rv_bits.proofs.Nexting.{index_step}
 use Rattle.rv_bits.proofs.following.memory_number.Goals as goal
 

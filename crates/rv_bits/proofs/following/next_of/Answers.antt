@@ -2,11 +2,9 @@ use Rattle.std.proofs.Common.{◌≡◌, ◌∙◌, List, ap, subst, sym}
 use Rattle.rv_types.specs.Lists.{Variable}
 use Rattle.rv_tree.specs.Places.{Sites, index_of}
 use Rattle.rv_agreement.specs.Valuations.{next_tick, updated}
-use Rattle.rv_control.specs.Control.{bit_of}
-use Rattle.rv_control.specs.Named.{named}
+use Rattle.rv_control.specs.{Control.bit_of, Named.named}
 use Rattle.rv_flat.specs.declared.parts.Bit.TheVariants as variant
-use Rattle.rv_flat.specs.FlatInstants.{system_of}
-use Rattle.rv_flat.specs.Lists.{variable_of}
+use Rattle.rv_flat.specs.{FlatInstants.system_of, Lists.variable_of}
 use Rattle.rv_symbolic.proofs.Extending.{map_ok, extends_refl}
 use Rattle.rv_bits.specs.Following.{IsNextRead, IsTickRead, IsKeptBit}
 use Rattle.rv_bits.proofs.Nexting.{places_same, tick_main}

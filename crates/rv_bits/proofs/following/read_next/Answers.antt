@@ -1,7 +1,6 @@
 use Rattle.std.proofs.Common.{◌+◌, length, subst, sym}
 use Rattle.rv_bits.specs.Following.{AreNextRead}
-use Rattle.rv_bits.proofs.Keeping.{around_kept}
-use Rattle.rv_bits.proofs.Nexting.{next_pushed, afters_kept}
+use Rattle.rv_bits.proofs.{Keeping.around_kept, Nexting.next_pushed, Nexting.afters_kept}
 use Rattle.rv_bits.proofs.following.read_next.Goals as goal
 
 pub next_at-requires-clause-after : goal.next_at-requires-clause-after

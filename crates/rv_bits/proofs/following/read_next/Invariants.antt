@@ -1,5 +1,4 @@
-use Rattle.rv_bits.specs.Following.{AreNextRead}
-use Rattle.rv_bits.specs.Shown.{IsAround}
+use Rattle.rv_bits.specs.{Following.AreNextRead, Shown.IsAround}
 use Rattle.rv_bits.proofs.following.read_next.Given as goal
 
 abbrev pub invariant-loop-bit : goal.invariant-loop-bit

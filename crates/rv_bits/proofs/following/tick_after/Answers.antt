@@ -1,14 +1,10 @@
-use Rattle.std.proofs.Common.{◌≡◌, ◌∙◌, ◌<◌, ◌||◌, ℕ, List, length, ap, subst, sym, arith, Option, Some}
-use Rattle.std.proofs.Common.{None as Nothing}
-use Rattle.std.specs.Prelude.{slice_index_or}
+use Rattle.std.proofs.Common.{◌≡◌, ◌∙◌, ◌<◌, ◌||◌, ℕ, List, length, ap, subst, sym, arith, Option, Some, None as Nothing}
 use Rattle.std.proofs.lemmas.List.{length-map}
-use Rattle.rv_diagram.specs.Nodes.{Valuation, Answers, value_of}
-use Rattle.rv_diagram.specs.Several.{ref_at}
-use Rattle.rv_agreement.specs.Agreement.{IsNamed}
-use Rattle.rv_agreement.specs.Valuations.{Reading, IsSymbolic}
+use Rattle.std.specs.Prelude.{slice_index_or}
+use Rattle.rv_diagram.specs.{Nodes.Valuation, Nodes.Answers, Nodes.value_of, Several.ref_at}
+use Rattle.rv_agreement.specs.{Agreement.IsNamed, Valuations.Reading, Valuations.IsSymbolic}
 use Rattle.rv_control.specs.Named.{named}
-use Rattle.rv_flat.specs.FlatInstants.{system_of}
-use Rattle.rv_flat.specs.Systems.{flow_item}
+use Rattle.rv_flat.specs.{FlatInstants.system_of, Systems.flow_item}
 use Rattle.rv_symbolic.proofs.Extending.{map_ok, grows_extends}
 use Rattle.rv_bits.specs.Shown.{is_there_at}
 use Rattle.rv_bits.proofs.Nexting.{some_within}

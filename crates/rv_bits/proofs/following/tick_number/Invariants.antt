@@ -1,7 +1,6 @@
 use Rattle.std.proofs.Common.{◌≡◌, ◌+◌, ◌≤◌, map, drop, Some}
 use Rattle.rv_control.specs.Control.{tick_index}
-use Rattle.rv_flat.specs.Lists.{tick_places}
-use Rattle.rv_flat.specs.Systems.{tick_flows_of}
+use Rattle.rv_flat.specs.{Lists.tick_places, Systems.tick_flows_of}
 use Rattle.rv_bits.proofs.following.tick_number.Given as goal
 
 abbrev pub invariant-loop-variable : goal.invariant-loop-variable

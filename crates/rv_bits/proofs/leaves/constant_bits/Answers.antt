@@ -1,8 +1,7 @@
 use Rattle.std.proofs.Common.{◌∙◌, ap, sym, List, ℕ}
 use Rattle.rv_diagram.proofs.Calls.{value_of-false}
 use Rattle.rv_base.specs.declared.value.Value.{Value}
-use Rattle.rv_bits.specs.Bits.{bit}
-use Rattle.rv_bits.specs.Constants.{constant_bit}
+use Rattle.rv_bits.specs.{Bits.bit, Constants.constant_bit}
 use Rattle.rv_bits.proofs.leaves.constant_bits.Goals as goal
 
 pub returns-in-Whole-clause-means : goal.returns-in-Whole-clause-means

@@ -1,5 +1,4 @@
-use Rattle.std.proofs.Common.{◌∙◌, ◌*◌, ◌^◌, ◌<◌, ap, subst, sym, arith}
-use Rattle.std.proofs.Math.Nat.{pow-succ', mul_comm}
+use Rattle.std.proofs.{Common.◌∙◌, Common.◌*◌, Common.◌^◌, Common.◌<◌, Common.ap, Common.subst, Common.sym, Common.arith, Math.Nat.pow-succ', Math.Nat.mul_comm}
 use Rattle.rv_bits.proofs.Naming.{bits_more}
 use Rattle.rv_bits.proofs.names.label_bits.Goals as goal
 

@@ -2,10 +2,8 @@ use Rattle.std.proofs.Common.{◌≡◌, ℕ, ◌<◌, length, map}
 use Rattle.rv_diagram.specs.Nodes.{Valuation}
 use Rattle.rv_flat.specs.Lists.{variable_of}
 use Rattle.rv_control.specs.Named.{truth_at}
-use Rattle.rv_symbolic.specs.Growing.{Extends}
-use Rattle.rv_symbolic.specs.Linked.{AreRefs}
-use Rattle.rv_bits.specs.Bits.{bit}
-use Rattle.rv_bits.specs.Names.{owned}
+use Rattle.rv_symbolic.specs.{Growing.Extends, Linked.AreRefs}
+use Rattle.rv_bits.specs.{Bits.bit, Names.owned}
 use Rattle.rv_bits.proofs.names.owned_bits.Given as goal
 
 abbrev pub invariant-loop-number : goal.invariant-loop-number

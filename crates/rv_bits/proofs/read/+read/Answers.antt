@@ -1,22 +1,14 @@
 use Rattle.std.proofs.Common.{◌≡◌, ◌∙◌, ◌+◌, ◌<◌, ℕ, suc, not, cond, nat_le, List, [], ◌∷◌, ◌++◌, length, drop, ap, subst, sym, arith}
-use Rattle.std.proofs.Math.Seq.{drop-cons}
-use Rattle.std.proofs.lemmas.Option.{slice_get_within}
+use Rattle.std.proofs.{Math.Seq.drop-cons, lemmas.Option.slice_get_within}
 use Rattle.rv_tree.specs.Places.{Sites}
-use Rattle.rv_diagram.specs.Nodes.{value_of}
-use Rattle.rv_diagram.specs.Several.{ref_at}
+use Rattle.rv_diagram.specs.{Nodes.value_of, Several.ref_at}
 use Rattle.rv_agreement.specs.Trees.{FlatTree, Node, Memory, Ticked, Not, Binary, If, AtMostOne, When, More}
-use Rattle.rv_flat.specs.declared.parts.FlatExpr.{FlatExpr}
-use Rattle.rv_flat.specs.FlatInstants.{system_of}
-use Rattle.rv_flat.specs.Inlined.{size_of}
-use Rattle.rv_flat.specs.Tame.{AreOver}
+use Rattle.rv_flat.specs.{declared.parts.FlatExpr.FlatExpr, FlatInstants.system_of, Inlined.size_of, Tame.AreOver}
 use Rattle.rv_control.specs.Named.{variables_of}
-use Rattle.rv_symbolic.specs.Growing.{Makes}
-use Rattle.rv_symbolic.specs.Linked.{AreRefs}
+use Rattle.rv_symbolic.specs.{Growing.Makes, Linked.AreRefs}
 use Rattle.rv_symbolic.proofs.Extending.{map_ok, extends_refl, extends_trans, refs_after}
-use Rattle.rv_bits.specs.Bits.{bit, count_true, Spells, IsSingle}
-use Rattle.rv_bits.specs.Operators.{operated_by}
-use Rattle.rv_bits.specs.Shown.{refs_at, clock_bit, IsAfter, AreAfter, ReadsTo}
-use Rattle.rv_bits.specs.Reads.{tree_in, trees_in, true_at, ShowsTo}
+use Rattle.rv_bits.specs.{Bits.bit, Bits.count_true, Bits.Spells, Bits.IsSingle, Operators.operated_by, Shown.refs_at, Shown.clock_bit, Shown.IsAfter}
+use Rattle.rv_bits.specs.{Shown.AreAfter, Shown.ReadsTo, Reads.tree_in, Reads.trees_in, Reads.true_at, Reads.ShowsTo}
 use Rattle.rv_bits.proofs.Making.{any_ref, refs_more}
 use Rattle.rv_bits.proofs.Showing.{reads_constant, reads_memory, reads_tick, reads_not, reads_binary, reads_if, reads_most, reads_when, shows_after}
 use Rattle.rv_bits.proofs.Keeping.{around_kept, after_kept, after_set, trees_left, fit_more, counted_more, on_ok, both_ok, none_counted, none_after}

@@ -1,11 +1,8 @@
 use Rattle.std.proofs.Common.{◌≡◌, ◌∙◌, ◌+◌, ◌&&◌, map, nat_lt, ap, subst, sym}
 use Rattle.rv_types.specs.declared.typed.Kind.TheVariants as kind
 use Rattle.rv_types.specs.Lists.{Input}
-use Rattle.rv_agreement.specs.Agreement.{bit_count}
-use Rattle.rv_agreement.specs.Trees.{kind_at}
-use Rattle.rv_flat.specs.declared.parts.FlatInput.{FlatInput}
-use Rattle.rv_flat.specs.Lists.{variable_of}
-use Rattle.rv_flat.specs.Steps.{label_counts, input_kinds}
+use Rattle.rv_agreement.specs.{Agreement.bit_count, Trees.kind_at}
+use Rattle.rv_flat.specs.{declared.parts.FlatInput.FlatInput, Lists.variable_of, Steps.label_counts, Steps.input_kinds}
 use Rattle.rv_control.specs.Named.{truth_at}
 use Rattle.rv_bits.specs.Tables.{AreBitLists}
 use Rattle.rv_bits.proofs.Listing.{item_in, list_pushed, spells_to}

@@ -1,8 +1,7 @@
 use Rattle.std.proofs.Common.{map}
 use Rattle.rv_types.specs.Lists.{Input}
 use Rattle.rv_agreement.specs.Trees.{kind_at}
-use Rattle.rv_flat.specs.Lists.{variable_of}
-use Rattle.rv_flat.specs.Steps.{label_counts, input_kinds}
+use Rattle.rv_flat.specs.{Lists.variable_of, Steps.label_counts, Steps.input_kinds}
 use Rattle.rv_bits.specs.Tables.{AreBitLists}
 use Rattle.rv_bits.proofs.tables.input_refs.Given as goal
 

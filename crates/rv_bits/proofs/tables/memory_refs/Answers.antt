@@ -2,12 +2,8 @@ use Rattle.std.proofs.Common.{◌≡◌, ◌∙◌, ◌+◌, ◌&&◌, [], map, 
 use Rattle.std.specs.Prelude.{slice_index_or}
 use Rattle.rv_types.specs.declared.typed.Kind.TheVariants as kind
 use Rattle.rv_types.specs.Lists.{Kept}
-use Rattle.rv_agreement.specs.Agreement.{bit_count}
-use Rattle.rv_agreement.specs.Trees.{kind_at}
-use Rattle.rv_flat.specs.declared.parts.FlatMemory.{FlatMemory}
-use Rattle.rv_flat.specs.FlatInstants.{memory_places}
-use Rattle.rv_flat.specs.Lists.{variable_of}
-use Rattle.rv_flat.specs.Steps.{label_counts, memory_kinds}
+use Rattle.rv_agreement.specs.{Agreement.bit_count, Trees.kind_at}
+use Rattle.rv_flat.specs.{declared.parts.FlatMemory.FlatMemory, FlatInstants.memory_places, Lists.variable_of, Steps.label_counts, Steps.memory_kinds}
 use Rattle.rv_control.specs.Named.{truth_at}
 use Rattle.rv_bits.specs.Tables.{AreBitLists, memory_bit}
 use Rattle.rv_bits.proofs.Listing.{item_in, list_pushed, spells_to}

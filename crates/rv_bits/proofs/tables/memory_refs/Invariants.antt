@@ -1,7 +1,6 @@
 use Rattle.std.proofs.Common.{map}
 use Rattle.rv_agreement.specs.Trees.{kind_at}
-use Rattle.rv_flat.specs.Lists.{variable_of}
-use Rattle.rv_flat.specs.Steps.{label_counts, memory_kinds}
+use Rattle.rv_flat.specs.{Lists.variable_of, Steps.label_counts, Steps.memory_kinds}
 use Rattle.rv_bits.specs.Tables.{AreBitLists, memory_bit}
 use Rattle.rv_bits.proofs.tables.memory_refs.Given as goal
 

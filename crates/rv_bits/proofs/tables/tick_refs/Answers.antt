@@ -1,5 +1,4 @@
-use Rattle.std.proofs.Common.{◌≡◌, ◌∙◌, ◌+◌, ◌++◌, ◌∷◌, ℕ, suc, [], List, map, drop, ap, sym, refl, arith}
-use Rattle.std.proofs.Common.{None as Nothing}
+use Rattle.std.proofs.Common.{◌≡◌, ◌∙◌, ◌+◌, ◌++◌, ◌∷◌, ℕ, suc, [], List, map, drop, ap, sym, refl, arith, None as Nothing}
 use Rattle.std.proofs.Math.Seq.{drop-cons}
 use Rattle.rv_flat.specs.Lists.{variable_of}
 use Rattle.rv_bits.specs.Tables.{ticks_in}

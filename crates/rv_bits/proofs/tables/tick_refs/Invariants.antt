@@ -1,7 +1,6 @@
 use Rattle.std.proofs.Common.{◌≡◌, ◌++◌, map, drop, List, Option, Some}
 use Rattle.rv_tree.specs.Places.{Sites}
-use Rattle.rv_flat.specs.Lists.{variable_of, tick_places}
-use Rattle.rv_flat.specs.Systems.{tick_flows_of}
+use Rattle.rv_flat.specs.{Lists.variable_of, Lists.tick_places, Systems.tick_flows_of}
 use Rattle.rv_bits.specs.Tables.{AreTickRefs}
 use Rattle.rv_bits.proofs.tables.tick_refs.Given as goal
 

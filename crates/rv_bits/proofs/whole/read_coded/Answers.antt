@@ -1,12 +1,9 @@
 use Rattle.std.proofs.Common.{◌&&◌}
 use Rattle.rv_diagram.specs.Nodes.{Answers, value_of}
-use Rattle.rv_control.specs.Control.{inputs_named, memories_named}
-use Rattle.rv_control.specs.Named.{named}
-use Rattle.rv_flat.specs.FlatInstants.{system_of}
-use Rattle.rv_flat.specs.Steps.{label_counts}
+use Rattle.rv_control.specs.{Control.inputs_named, Control.memories_named, Named.named}
+use Rattle.rv_flat.specs.{FlatInstants.system_of, Steps.label_counts}
 use Rattle.rv_symbolic.proofs.Extending.{map_ok}
-use Rattle.rv_bits.proofs.Making.{both_made_of}
-use Rattle.rv_bits.proofs.Wholes.{and_kept}
+use Rattle.rv_bits.proofs.{Making.both_made_of, Wholes.and_kept}
 use Rattle.rv_bits.proofs.whole.read_coded.Goals as goal
 
 pub returns-clause-ok : goal.returns-clause-ok

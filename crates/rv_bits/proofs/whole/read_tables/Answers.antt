@@ -1,7 +1,5 @@
 use Rattle.std.proofs.Common.{List, subst, map}
-use Rattle.rv_flat.specs.declared.parts.Bit.{Bit}
-use Rattle.rv_flat.specs.Lists.{variable_of}
-use Rattle.rv_flat.specs.Systems.{tick_flows_of}
+use Rattle.rv_flat.specs.{declared.parts.Bit.Bit, Lists.variable_of, Systems.tick_flows_of}
 use Rattle.rv_bits.specs.Tables.{AreTickRefs}
 use Rattle.rv_bits.proofs.Spelling.{tables_read}
 use Rattle.rv_bits.proofs.whole.read_tables.Goals as goal

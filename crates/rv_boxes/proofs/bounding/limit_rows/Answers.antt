@@ -1,5 +1,4 @@
-use Rattle.std.proofs.Common.{length, arith, None}
-use Rattle.std.proofs.lemmas.Option.{get_or_from_slice_get}
+use Rattle.std.proofs.{Common.length, Common.arith, Common.None, lemmas.Option.get_or_from_slice_get}
 use Rattle.rv_boxes.proofs.Limiting.{limit_noted}
 use Rattle.rv_boxes.proofs.bounding.limit_rows.Goals as goal
 

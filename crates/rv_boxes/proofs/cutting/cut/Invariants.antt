@@ -1,8 +1,6 @@
 use Rattle.std.proofs.Common.{◌≡◌}
 use Rattle.rv_diagram.specs.declared.frozen.Frozen.{Frozen}
-use Rattle.rv_proofs.specs.Systems.{System, IsSystem}
-use Rattle.rv_proofs.specs.Ranges.{IsControlSet}
-use Rattle.rv_proofs.specs.Cases.{AreCases}
+use Rattle.rv_proofs.specs.{Systems.System, Systems.IsSystem, Ranges.IsControlSet, Cases.AreCases}
 use Rattle.rv_boxes.specs.Cutting.{AreCut}
 use Rattle.rv_boxes.proofs.cutting.cut.Given as goal
 

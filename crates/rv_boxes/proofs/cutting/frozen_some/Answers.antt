@@ -1,5 +1,4 @@
-use Rattle.std.proofs.Common.{sym, ◌∙◌}
-use Rattle.std.proofs.lemmas.Bool.{false≢true}
+use Rattle.std.proofs.{Common.sym, Common.◌∙◌, lemmas.Bool.false≢true}
 use Rattle.rv_terms.proofs.Finding.{some_from}
 use Rattle.rv_boxes.proofs.cutting.frozen_some.Goals as goal
 

@@ -1,13 +1,10 @@
 use Rattle.std.proofs.Common.{◌∙◌, pos, negsuc, rules, arith, FitsSigned, sym, ap, subst}
-use Rattle.std.specs.Int.{w128}
 use Rattle.std.proofs.lemmas.Int.{to_z-of_z}
-use Rattle.rv_rows.specs.declared.linear.Row.{Row}
-use Rattle.rv_rows.specs.Rows.{coefficient, row_at}
+use Rattle.std.specs.Int.{w128}
+use Rattle.rv_rows.specs.{declared.linear.Row.Row, Rows.coefficient, Rows.row_at}
 use Rattle.rv_proofs.specs.Boxes.{HasOneColumn}
-use Rattle.rv_boxes.specs.declared.ends.End.{End}
-use Rattle.rv_boxes.specs.Ends.{IsOnlyColumn, end_at}
-use Rattle.rv_boxes.proofs.Numbers.{row_read, end_read}
-use Rattle.rv_boxes.proofs.Closest.{ends_none, ends_outside, ends_taken, end_there}
+use Rattle.rv_boxes.specs.{declared.ends.End.End, Ends.IsOnlyColumn, Ends.end_at}
+use Rattle.rv_boxes.proofs.{Numbers.row_read, Numbers.end_read, Closest.ends_none, Closest.ends_outside, Closest.ends_taken, Closest.end_there}
 use Rattle.rv_boxes.proofs.ends.take_premise.Goals as goal
 
 pub returns-in_default : goal.returns-in_default

@@ -1,6 +1,5 @@
 use Rattle.std.proofs.Common.{◌≡◌, ◌∙◌, ◌++◌, ◌∷◌, [], List, length, subst, sym, ap}
-use Rattle.rv_proofs.specs.declared.certificate.Entry.{Entry}
-use Rattle.rv_proofs.specs.declared.report.Case.{Case}
+use Rattle.rv_proofs.specs.{declared.certificate.Entry.Entry, declared.report.Case.Case}
 use Rattle.rv_boxes.specs.Certifying.{IsEntryOf, AreEntriesOf}
 use Rattle.rv_boxes.proofs.Reaching.{entries_more}
 use Rattle.rv_base.proofs.Lists.{none_left, seam_along, seam_at}

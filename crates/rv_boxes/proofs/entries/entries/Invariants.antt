@@ -1,9 +1,7 @@
 use Rattle.std.proofs.Common.{◌≡◌, ◌++◌, length}
 use Rattle.rv_diagram.specs.declared.frozen.Frozen.{Frozen}
-use Rattle.rv_proofs.specs.Systems.{System}
-use Rattle.rv_proofs.specs.Boxes.{BoxClaim}
-use Rattle.rv_boxes.specs.Rounds.{IsSetting}
-use Rattle.rv_boxes.specs.Certifying.{IsJudgeable, AreCasesIn, AreEntriesOf}
+use Rattle.rv_proofs.specs.{Systems.System, Boxes.BoxClaim}
+use Rattle.rv_boxes.specs.{Rounds.IsSetting, Certifying.IsJudgeable, Certifying.AreCasesIn, Certifying.AreEntriesOf}
 use Rattle.rv_boxes.proofs.entries.entries.Given as goal
 
 abbrev pub invariant-loop-case : goal.invariant-loop-case

@@ -1,7 +1,5 @@
 use Rattle.std.proofs.Common.{arith}
-use Rattle.rv_boxes.proofs.Fitting.{has_tests}
-use Rattle.rv_boxes.proofs.Stepping.{premises_are}
-use Rattle.rv_boxes.proofs.Entering.{can_reach, entry_good, entry_bad}
+use Rattle.rv_boxes.proofs.{Fitting.has_tests, Stepping.premises_are, Entering.can_reach, Entering.entry_good, Entering.entry_bad}
 use Rattle.rv_boxes.proofs.entries.entry_of.Goals as goal
 
 pub told_rows-requires : goal.told_rows-requires

@@ -1,6 +1,5 @@
 use Rattle.std.proofs.Common.{ℕ, length, sym, subst}
-use Rattle.rv_boxes.specs.Boxed.{IsOpenBox}
-use Rattle.rv_boxes.specs.Certifying.{CanReach}
+use Rattle.rv_boxes.specs.{Boxed.IsOpenBox, Certifying.CanReach}
 use Rattle.rv_boxes.proofs.entries.kind_of.Goals as goal
 
 pub step_of-requires-clause-wanted : goal.step_of-requires-clause-wanted

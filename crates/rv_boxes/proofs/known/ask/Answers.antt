@@ -1,8 +1,7 @@
 use Rattle.std.proofs.Common.{◌≡◌, ◌∙◌, ap, sym, subst}
 use Rattle.rv_diagram.specs.Nodes.{Diagrams}
 use Rattle.rv_cases.specs.Questions.{AreQuestions}
-use Rattle.rv_boxes.proofs.Giving.{given_allowed}
-use Rattle.rv_boxes.proofs.Knowing.{knows_ahead}
+use Rattle.rv_boxes.proofs.{Giving.given_allowed, Knowing.knows_ahead}
 use Rattle.rv_boxes.proofs.known.ask.Goals as goal
 
 pub cases-requires : goal.cases-requires

@@ -1,6 +1,5 @@
 use Rattle.std.proofs.Common.{◌∙◌, Ok, ap}
-use Rattle.rv_boxes.specs.Claiming.{claim_of}
-use Rattle.rv_boxes.specs.Narrowed.{narrowed}
+use Rattle.rv_boxes.specs.{Claiming.claim_of, Narrowed.narrowed}
 use Rattle.rv_boxes.proofs.Narrowing.{narrowed_plain, bad_layers, not_good}
 use Rattle.rv_boxes.proofs.layers.layers_in.Goals as goal
 

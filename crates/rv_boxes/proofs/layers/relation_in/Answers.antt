@@ -1,13 +1,9 @@
 use Rattle.std.proofs.Common.{subst}
 use Rattle.rv_diagram.specs.Nodes.{value_of}
-use Rattle.rv_symbolic.specs.declared.relation.Parts.{Parts}
-use Rattle.rv_symbolic.specs.Represented.{IsRelationOf}
+use Rattle.rv_symbolic.specs.{declared.relation.Parts.Parts, Represented.IsRelationOf}
 use Rattle.rv_symbolic.proofs.Extending.{extends_trans, map_ok}
-use Rattle.rv_boxes.specs.Claiming.{claim_of}
-use Rattle.rv_boxes.specs.Layering.{IsNarrowedTo, ArePartsWith}
-use Rattle.rv_boxes.specs.Narrowed.{narrowed}
-use Rattle.rv_boxes.proofs.Narrowing.{narrowed_system}
-use Rattle.rv_boxes.proofs.Relating.{parts_refs, parts_narrowed}
+use Rattle.rv_boxes.specs.{Claiming.claim_of, Layering.IsNarrowedTo, Layering.ArePartsWith, Narrowed.narrowed}
+use Rattle.rv_boxes.proofs.{Narrowing.narrowed_system, Relating.parts_refs, Relating.parts_narrowed}
 use Rattle.rv_boxes.proofs.layers.relation_in.Goals as goal
 
 pub taken_in-requires : goal.taken_in-requires

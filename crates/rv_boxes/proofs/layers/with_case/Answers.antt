@@ -1,13 +1,10 @@
 use Rattle.std.proofs.Common.{◌||◌, sym, subst}
 use Rattle.rv_diagram.specs.Nodes.{value_of, IsOrderedOver}
 use Rattle.rv_symbolic.specs.Growing.{Makes}
-use Rattle.rv_proofs.specs.Scopes.{IsIn}
-use Rattle.rv_proofs.specs.Boxes.{IsTaken}
+use Rattle.rv_proofs.specs.{Scopes.IsIn, Boxes.IsTaken}
 use Rattle.rv_walk.specs.Ends.{has}
-use Rattle.rv_boxes.specs.Boxed.{IsOpenBox}
-use Rattle.rv_boxes.specs.Layering.{IsCollected}
-use Rattle.rv_boxes.proofs.Stepping.{premises_are, all_taken, none_taken}
-use Rattle.rv_boxes.proofs.Collecting.{collected_open, collected_shut}
+use Rattle.rv_boxes.specs.{Boxed.IsOpenBox, Layering.IsCollected}
+use Rattle.rv_boxes.proofs.{Stepping.premises_are, Stepping.all_taken, Stepping.none_taken, Collecting.collected_open, Collecting.collected_shut}
 use Rattle.rv_symbolic.proofs.Extending.{map_ok}
 use Rattle.rv_boxes.proofs.layers.with_case.Goals as goal
 

@@ -1,10 +1,8 @@
 use Rattle.std.proofs.Common.{◌≡◌, ℕ, subst, arith, length}
 use Rattle.rv_proofs.specs.Boxes.{IsTaken}
 use Rattle.rv_symbolic.proofs.Extending.{extends_refl, extends_trans}
-use Rattle.rv_boxes.specs.Rounds.{IsInCases}
-use Rattle.rv_boxes.specs.Layering.{IsCollected}
-use Rattle.rv_boxes.proofs.Relating.{opening_there}
-use Rattle.rv_boxes.proofs.Collecting.{collected_start, collected_more}
+use Rattle.rv_boxes.specs.{Rounds.IsInCases, Layering.IsCollected}
+use Rattle.rv_boxes.proofs.{Relating.opening_there, Collecting.collected_start, Collecting.collected_more}
 use Rattle.rv_boxes.proofs.layers.with_cases.Goals as goal
 
 pub loop-place-init : goal.loop-place-init

@@ -1,11 +1,7 @@
-use Rattle.rv_diagram.specs.Nodes.{IsRef}
-use Rattle.rv_diagram.specs.declared.frozen.Frozen.{Frozen}
-use Rattle.rv_proofs.specs.Systems.{System}
-use Rattle.rv_proofs.specs.Boxes.{BoxClaim, IsTaken}
+use Rattle.rv_diagram.specs.{Nodes.IsRef, declared.frozen.Frozen.Frozen}
+use Rattle.rv_proofs.specs.{Systems.System, Boxes.BoxClaim, Boxes.IsTaken}
 use Rattle.rv_symbolic.specs.Growing.{Extends}
-use Rattle.rv_boxes.specs.Rounds.{IsInCases}
-use Rattle.rv_boxes.specs.Certifying.{AreCasesIn}
-use Rattle.rv_boxes.specs.Layering.{IsOpening, IsCollected}
+use Rattle.rv_boxes.specs.{Rounds.IsInCases, Certifying.AreCasesIn, Layering.IsOpening, Layering.IsCollected}
 use Rattle.rv_boxes.proofs.layers.with_cases.Given as goal
 
 abbrev pub invariant-loop-place : goal.invariant-loop-place

@@ -1,7 +1,5 @@
-use Rattle.std.proofs.Common.{rules, FitsSigned}
+use Rattle.std.proofs.{Common.rules, Common.FitsSigned, Common.length, lemmas.Int.to_z-of_z}
 use Rattle.std.specs.Int.{w128}
-use Rattle.std.proofs.lemmas.Int.{to_z-of_z}
-use Rattle.std.proofs.Common.{length}
 use Rattle.rv_boxes.specs.Boxed.{IsGreatest}
 use Rattle.rv_boxes.proofs.Limiting.{limit_risen, limit_gone}
 use Rattle.rv_boxes.proofs.limits.loosened_from.Goals as goal

@@ -1,8 +1,6 @@
 use Rattle.std.proofs.Common.{[], List, sym, subst}
 use Rattle.rv_rows.specs.declared.linear.Row.{Row}
-use Rattle.rv_boxes.specs.Claiming.{claim_of}
-use Rattle.rv_boxes.specs.Rounds.{IsSetting}
-use Rattle.rv_boxes.specs.Certifying.{IsPart}
+use Rattle.rv_boxes.specs.{Claiming.claim_of, Rounds.IsSetting, Certifying.IsPart}
 use Rattle.rv_boxes.proofs.Assembling.{judgeable, first_setting}
 use Rattle.rv_boxes.proofs.locations.certify.Goals as goal
 

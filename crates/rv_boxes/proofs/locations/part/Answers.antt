@@ -1,6 +1,5 @@
 use Rattle.std.proofs.Common.{◌<◌, ◌^◌, arith, length}
-use Rattle.rv_boxes.proofs.Entering.{cases_in}
-use Rattle.rv_boxes.proofs.Assembling.{part_of}
+use Rattle.rv_boxes.proofs.{Entering.cases_in, Assembling.part_of}
 use Rattle.rv_boxes.proofs.locations.part.Goals as goal
 
 pub entries-requires : goal.entries-requires

@@ -1,5 +1,4 @@
-use Rattle.std.proofs.Common.{◌≡◌, ℕ, length}
-use Rattle.std.proofs.Common.{None as Nothing}
+use Rattle.std.proofs.Common.{◌≡◌, ℕ, length, None as Nothing}
 use Rattle.std.specs.Prelude.{slice_index_or}
 use Rattle.rv_boxes.proofs.marks.no_marks.Given as goal
 

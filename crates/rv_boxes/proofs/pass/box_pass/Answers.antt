@@ -1,8 +1,7 @@
 use Rattle.std.proofs.Common.{ℤ, List, sym, subst, Result, IfOk}
 use Rattle.rv_diagram.specs.declared.store.StoreFault.{StoreFault}
 use Rattle.rv_walk.specs.declared.end.BoxEnd.{BoxEnd}
-use Rattle.rv_boxes.specs.Rounds.{IsGiven}
-use Rattle.rv_boxes.specs.Passing.{IsEndOf}
+use Rattle.rv_boxes.specs.{Rounds.IsGiven, Passing.IsEndOf}
 use Rattle.rv_boxes.proofs.Ending.{exactly}
 use Rattle.rv_symbolic.proofs.Extending.{map_ok}
 use Rattle.rv_boxes.proofs.pass.box_pass.Goals as goal

@@ -1,14 +1,9 @@
 use Rattle.std.proofs.Common.{◌≡◌, ◌≤◌, ◌^◌, ◌+ℤ◌, ◌*ℤ◌, ℤ, pos, rules, sym, ap, FitsSigned, ◌∙◌, subst}
-use Rattle.std.specs.Int.{w128}
-use Rattle.std.specs.Int.RustNames.{unsigned_abs}
 use Rattle.std.proofs.lemmas.Int.{to_z-of_z}
-use Rattle.rv_rows.specs.Rows.{row_at}
-use Rattle.rv_rows.specs.Forms.{number}
-use Rattle.rv_boxes.specs.Ends.{end_at}
-use Rattle.rv_boxes.specs.Weighing.{IsInserted}
-use Rattle.rv_boxes.specs.Boxed.{IsTowards}
-use Rattle.rv_boxes.proofs.Summing.{sum_skips, sum_adds, turned_from}
-use Rattle.rv_boxes.proofs.Numbers.{towards_read, loose_read, number_within}
+use Rattle.std.specs.{Int.w128, Int.RustNames.unsigned_abs}
+use Rattle.rv_rows.specs.{Rows.row_at, Forms.number}
+use Rattle.rv_boxes.specs.{Ends.end_at, Weighing.IsInserted, Boxed.IsTowards}
+use Rattle.rv_boxes.proofs.{Summing.sum_skips, Summing.sum_adds, Summing.turned_from, Numbers.towards_read, Numbers.loose_read, Numbers.number_within}
 use Rattle.rv_boxes.proofs.peaks.with_column.Goals as goal
 
 pub returns-then-is_zero-clause-some : goal.returns-then-is_zero-clause-some

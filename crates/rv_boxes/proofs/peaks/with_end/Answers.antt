@@ -1,6 +1,5 @@
-use Rattle.std.proofs.Common.{rules, sym, ap, ◌∙◌, ◌+ℤ◌, ◌*ℤ◌, FitsSigned}
+use Rattle.std.proofs.{Common.rules, Common.sym, Common.ap, Common.◌∙◌, Common.◌+ℤ◌, Common.◌*ℤ◌, Common.FitsSigned, lemmas.Int.to_z-of_z}
 use Rattle.std.specs.Int.{w128}
-use Rattle.std.proofs.lemmas.Int.{to_z-of_z}
 use Rattle.rv_rows.specs.declared.linear.Row.{Row}
 use Rattle.rv_boxes.proofs.Numbers.{product_room, row_read}
 use Rattle.rv_boxes.proofs.peaks.with_end.Goals as goal

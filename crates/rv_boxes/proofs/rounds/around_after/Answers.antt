@@ -1,12 +1,8 @@
 use Rattle.std.proofs.Common.{◌∙◌, ap, length, sym, subst}
 use Rattle.rv_diagram.specs.declared.frozen.Frozen.{Frozen}
 use Rattle.rv_walk.specs.Ends.{has}
-use Rattle.rv_boxes.specs.Imaging.{AreImages}
-use Rattle.rv_boxes.specs.Marking.{AreMarked}
-use Rattle.rv_boxes.proofs.Giving.{given_there}
-use Rattle.rv_boxes.proofs.Imagining.{none_images, same_set}
-use Rattle.rv_boxes.proofs.Knowing.{rest_kept, knows_kept}
-use Rattle.rv_boxes.proofs.Noting.{marks_wider}
+use Rattle.rv_boxes.specs.{Imaging.AreImages, Marking.AreMarked}
+use Rattle.rv_boxes.proofs.{Giving.given_there, Imagining.none_images, Imagining.same_set, Knowing.rest_kept, Knowing.knows_kept, Noting.marks_wider}
 use Rattle.rv_boxes.proofs.rounds.around_after.Goals as goal
 
 pub note_known-requires-clause-system : goal.note_known-requires-clause-system

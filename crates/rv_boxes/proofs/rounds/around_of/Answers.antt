@@ -1,7 +1,6 @@
 use Rattle.std.proofs.Common.{◌≡◌, ◌∙◌, ap}
 use Rattle.rv_diagram.specs.Nodes.{Diagrams}
-use Rattle.rv_boxes.proofs.Giving.{given_there}
-use Rattle.rv_boxes.proofs.Noting.{marks_start}
+use Rattle.rv_boxes.proofs.{Giving.given_there, Noting.marks_start}
 use Rattle.rv_boxes.proofs.rounds.around_of.Goals as goal
 
 pub nothing_known-requires : goal.nothing_known-requires

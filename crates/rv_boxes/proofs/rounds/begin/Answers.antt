@@ -1,10 +1,7 @@
 use Rattle.std.proofs.Common.{◌∙◌, List, sym, subst}
 use Rattle.rv_rows.specs.declared.linear.Row.{Row}
-use Rattle.rv_boxes.specs.Claiming.{claim_of}
-use Rattle.rv_boxes.specs.Rounds.{IsSetting}
-use Rattle.rv_boxes.proofs.Giving.{given_there}
-use Rattle.rv_boxes.proofs.Imagining.{none_images}
-use Rattle.rv_boxes.proofs.Rounding.{setting_first, rising_of}
+use Rattle.rv_boxes.specs.{Claiming.claim_of, Rounds.IsSetting}
+use Rattle.rv_boxes.proofs.{Giving.given_there, Imagining.none_images, Rounding.setting_first, Rounding.rising_of}
 use Rattle.rv_boxes.proofs.rounds.begin.Goals as goal
 
 pub first_claim-requires : goal.first_claim-requires

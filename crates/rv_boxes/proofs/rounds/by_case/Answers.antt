@@ -1,9 +1,7 @@
 use Rattle.std.proofs.Common.{Bool, ◌++◌, arith, refl, sym, subst}
 use Rattle.rv_proofs.specs.Scopes.{IsIn}
-use Rattle.rv_boxes.specs.Opening.{AreUpdates}
-use Rattle.rv_boxes.specs.Rounds.{HasGrown}
-use Rattle.rv_boxes.proofs.Fitting.{are_updates, opposite_updates}
-use Rattle.rv_boxes.proofs.Stepping.{premises_are, grown_open, grown_shut, grown_told}
+use Rattle.rv_boxes.specs.{Opening.AreUpdates, Rounds.HasGrown}
+use Rattle.rv_boxes.proofs.{Fitting.are_updates, Fitting.opposite_updates, Stepping.premises_are, Stepping.grown_open, Stepping.grown_shut, Stepping.grown_told}
 use Rattle.rv_boxes.proofs.rounds.by_case.Goals as goal
 
 pub open_limits-requires-clause-premises : goal.open_limits-requires-clause-premises

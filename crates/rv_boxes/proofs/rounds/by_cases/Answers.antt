@@ -1,10 +1,8 @@
 use Rattle.std.proofs.Common.{◌≡◌, ◌∙◌, ◌+◌, ◌||◌, Bool, ℕ, arith, refl, sym, subst, length}
 use Rattle.rv_proofs.specs.Scopes.{IsIn}
 use Rattle.rv_boxes.specs.Rounds.{IsInCases, HasGrown}
-use Rattle.rv_boxes.proofs.Giving.{given_there}
 use Rattle.rv_boxes.proofs.Composing.{grown_none, grown_both, grown_within, more_inside}
-use Rattle.rv_boxes.proofs.Imagining.{image_there, set_images}
-use Rattle.rv_boxes.proofs.Noting.{mark_there}
+use Rattle.rv_boxes.proofs.{Giving.given_there, Imagining.image_there, Imagining.set_images, Noting.mark_there}
 use Rattle.rv_boxes.proofs.rounds.by_cases.Goals as goal
 
 pub loop-place-init : goal.loop-place-init

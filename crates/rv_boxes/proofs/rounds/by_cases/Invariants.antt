@@ -1,11 +1,8 @@
 use Rattle.std.proofs.Common.{◌≡◌, length}
-use Rattle.rv_proofs.specs.Systems.{System}
-use Rattle.rv_proofs.specs.Scopes.{IsIn}
-use Rattle.rv_proofs.specs.Boxes.{BoxClaim}
+use Rattle.rv_proofs.specs.{Systems.System, Scopes.IsIn, Boxes.BoxClaim}
 use Rattle.rv_cases.specs.declared.asking.Questions.{Questions}
-use Rattle.rv_boxes.specs.Imaging.{AreImages}
-use Rattle.rv_boxes.specs.Marking.{AreMarked}
 use Rattle.rv_boxes.specs.Rounds.{IsGiven, IsSetting, IsKeptClaim, AreCasesOf, HasGrown, IsInCases}
+use Rattle.rv_boxes.specs.{Imaging.AreImages, Marking.AreMarked}
 use Rattle.rv_boxes.proofs.rounds.by_cases.Given as goal
 
 abbrev pub invariant-loop-place : goal.invariant-loop-place

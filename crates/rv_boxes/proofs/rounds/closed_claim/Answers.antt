@@ -1,11 +1,8 @@
 use Rattle.std.proofs.Common.{◌≡◌, ◌∙◌, true, false, sym, ap, subst, length}
 use Rattle.rv_diagram.specs.Nodes.{Diagrams}
-use Rattle.rv_boxes.specs.declared.claim.Claim.{Claim}
+use Rattle.rv_boxes.specs.{declared.claim.Claim.Claim, Claiming.claim_of}
 use Rattle.rv_proofs.specs.Boxes.{IsClosed}
-use Rattle.rv_boxes.specs.Claiming.{claim_of}
-use Rattle.rv_boxes.proofs.Giving.{given_there}
-use Rattle.rv_boxes.proofs.Imagining.{none_images}
-use Rattle.rv_boxes.proofs.Rounding.{least_of, round_smaller}
+use Rattle.rv_boxes.proofs.{Giving.given_there, Imagining.none_images, Rounding.least_of, Rounding.round_smaller}
 use Rattle.rv_boxes.proofs.rounds.closed_claim.Goals as goal
 
 pub begin-requires : goal.begin-requires

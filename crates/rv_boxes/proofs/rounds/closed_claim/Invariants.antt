@@ -1,10 +1,6 @@
 use Rattle.std.proofs.Common.{◌≡◌, ◌+◌, cond, false, length}
-use Rattle.rv_proofs.specs.Systems.{System}
-use Rattle.rv_proofs.specs.Boxes.{IsClosed}
-use Rattle.rv_boxes.specs.Claiming.{claim_of}
-use Rattle.rv_boxes.specs.Imaging.{AreImages}
-use Rattle.rv_boxes.specs.Knowing.{AreAround}
-use Rattle.rv_boxes.specs.Rounds.{IsGiven, IsStart, IsRising, left_of}
+use Rattle.rv_proofs.specs.{Systems.System, Boxes.IsClosed}
+use Rattle.rv_boxes.specs.{Claiming.claim_of, Imaging.AreImages, Knowing.AreAround, Rounds.IsGiven, Rounds.IsStart, Rounds.IsRising, Rounds.left_of}
 use Rattle.rv_boxes.proofs.rounds.closed_claim.Given as goal
 
 abbrev pub invariant-loop-more : goal.invariant-loop-more

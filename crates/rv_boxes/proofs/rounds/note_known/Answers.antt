@@ -1,7 +1,6 @@
 use Rattle.std.proofs.Common.{◌∙◌, ap}
 use Rattle.rv_diagram.specs.Nodes.{Diagrams}
-use Rattle.rv_boxes.proofs.Giving.{given_there}
-use Rattle.rv_boxes.proofs.Knowing.{knows_still}
+use Rattle.rv_boxes.proofs.{Giving.given_there, Knowing.knows_still}
 use Rattle.rv_boxes.proofs.rounds.note_known.Goals as goal
 
 pub is_within-requires-clause-a : goal.is_within-requires-clause-a

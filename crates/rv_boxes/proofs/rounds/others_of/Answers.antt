@@ -1,9 +1,7 @@
 use Rattle.std.proofs.Common.{◌∙◌, ap, sym, subst}
-use Rattle.rv_diagram.specs.Nodes.{Diagrams}
-use Rattle.rv_diagram.specs.declared.frozen.Frozen.{Frozen}
+use Rattle.rv_diagram.specs.{Nodes.Diagrams, declared.frozen.Frozen.Frozen}
 use Rattle.rv_proofs.specs.Cases.{AreCases}
-use Rattle.rv_boxes.proofs.Imagining.{same_set}
-use Rattle.rv_boxes.proofs.Knowing.{covered}
+use Rattle.rv_boxes.proofs.{Imagining.same_set, Knowing.covered}
 use Rattle.rv_boxes.proofs.rounds.others_of.Goals as goal
 
 pub cut-requires : goal.cut-requires

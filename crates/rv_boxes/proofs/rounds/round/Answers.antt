@@ -1,9 +1,7 @@
 use Rattle.std.proofs.Common.{Bool, length}
 use Rattle.rv_proofs.specs.Scopes.{IsIn}
-use Rattle.rv_boxes.specs.Claiming.{claim_of}
-use Rattle.rv_boxes.specs.Rounds.{HasGrown, IsInCases}
-use Rattle.rv_boxes.proofs.Knowing.{rest_within}
-use Rattle.rv_boxes.proofs.Rounding.{setting_others, round_of}
+use Rattle.rv_boxes.specs.{Claiming.claim_of, Rounds.HasGrown, Rounds.IsInCases}
+use Rattle.rv_boxes.proofs.{Knowing.rest_within, Rounding.setting_others, Rounding.round_of}
 use Rattle.rv_symbolic.proofs.Extending.{map_ok}
 use Rattle.rv_boxes.proofs.rounds.round.Goals as goal
 

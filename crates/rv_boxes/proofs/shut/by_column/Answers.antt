@@ -1,10 +1,6 @@
-use Rattle.std.proofs.Common.{◌≡◌, length, sym, ap, ◌∙◌, Some}
-use Rattle.std.proofs.lemmas.Option.{none-some}
-use Rattle.rv_boxes.specs.declared.ends.End.{End}
-use Rattle.rv_boxes.specs.Ends.{end_at}
-use Rattle.rv_boxes.proofs.Numbers.{end_read}
-use Rattle.rv_boxes.proofs.Crossing.{crossed_at}
-use Rattle.rv_boxes.proofs.Shutting.{ends_shut, ends_refute}
+use Rattle.std.proofs.{Common.◌≡◌, Common.length, Common.sym, Common.ap, Common.◌∙◌, Common.Some, lemmas.Option.none-some}
+use Rattle.rv_boxes.specs.{declared.ends.End.End, Ends.end_at}
+use Rattle.rv_boxes.proofs.{Numbers.end_read, Crossing.crossed_at, Shutting.ends_shut, Shutting.ends_refute}
 use Rattle.rv_boxes.proofs.shut.by_column.Goals as goal
 
 pub returns-in_ok-found-in-Some-high-clause-refuted : goal.returns-in_ok-found-in-Some-high-clause-refuted

@@ -1,9 +1,6 @@
 use Rattle.std.proofs.Common.{◌+◌, ◌≤◌, ◌^◌, ◌++◌, ◌∷◌, [], rules, FitsSigned, length, ap, ◌∙◌}
-use Rattle.std.specs.Int.{w128}
-use Rattle.std.specs.Int.RustNames.{unsigned_abs}
-use Rattle.std.proofs.lemmas.Int.{to_z-of_z}
-use Rattle.std.proofs.lemmas.List.{length_push}
-use Rattle.std.proofs.lemmas.List.Elements.{All-push, All-same}
+use Rattle.std.proofs.{lemmas.Int.to_z-of_z, lemmas.List.length_push, lemmas.List.Elements.All-push, lemmas.List.Elements.All-same}
+use Rattle.std.specs.{Int.w128, Int.RustNames.unsigned_abs}
 use Rattle.rv_boxes.proofs.Numbers.{negated_more, turned_small, read_small}
 use Rattle.rv_boxes.proofs.shut.negated.Goals as goal
 

@@ -1,11 +1,7 @@
 use Rattle.std.proofs.Common.{arith, ap, length, sym, subst}
-use Rattle.rv_rows.specs.declared.linear.Row.{Row}
-use Rattle.rv_rows.specs.Rows.{row_at}
+use Rattle.rv_rows.specs.{declared.linear.Row.Row, Rows.row_at}
 use Rattle.rv_proofs.specs.Boxes.{HasOneColumn}
-use Rattle.rv_boxes.proofs.Closest.{only_has_one}
-use Rattle.rv_boxes.proofs.Tops.{some_boxed}
-use Rattle.rv_boxes.proofs.Shutting.{free_holds}
-use Rattle.rv_boxes.proofs.Numbers.{negated_read, row_read}
+use Rattle.rv_boxes.proofs.{Closest.only_has_one, Tops.some_boxed, Shutting.free_holds, Numbers.negated_read, Numbers.row_read}
 use Rattle.rv_boxes.proofs.shut.shut_by.Goals as goal
 
 pub returns-in-Some-clause-none : goal.returns-in-Some-clause-none

@@ -1,6 +1,4 @@
-use Rattle.std.proofs.Common.{◌<◌, length, arith, pos}
-use Rattle.std.proofs.lemmas.List.Elements.{All-more}
-use Rattle.std.proofs.lemmas.Option.{get_or_from_slice_get}
+use Rattle.std.proofs.{Common.◌<◌, Common.length, Common.arith, Common.pos, lemmas.List.Elements.All-more, lemmas.Option.get_or_from_slice_get}
 use Rattle.rv_rows.specs.declared.farkas.Weight.{Weight}
 use Rattle.rv_boxes.proofs.WeightLemmas.{rises_after}
 use Rattle.rv_boxes.proofs.weights.place_of.Goals as goal

@@ -1,6 +1,5 @@
 use Rattle.std.proofs.Common.{length, ap, sym, ◌∙◌, arith}
-use Rattle.rv_calls.specs.Numbering.{with_names}
-use Rattle.rv_calls.specs.Callings.{node_texts}
+use Rattle.rv_calls.specs.{Numbering.with_names, Callings.node_texts}
 use Rattle.rv_calls.proofs.Collected.{collected}
 use Rattle.rv_instances.proofs.Known.{once}
 use Rattle.rv_tree.specs.Tree.{program_tree}

@@ -1,6 +1,5 @@
 use Rattle.std.proofs.Common.{◌≡◌, [], drop}
-use Rattle.rv_calls.specs.Numbering.{with_names}
-use Rattle.rv_calls.specs.Callings.{node_texts}
+use Rattle.rv_calls.specs.{Numbering.with_names, Callings.node_texts}
 use Rattle.rv_calls.proofs.calls.names_of_nodes.Given as goal
 
 abbrev pub invariant-loop-node : goal.invariant-loop-node

@@ -1,9 +1,7 @@
-use Rattle.std.proofs.Common.{◌≡◌, ◌∙◌, rules, None as Nothing}
+use Rattle.std.proofs.{Common.◌≡◌, Common.◌∙◌, Common.rules, Common.None as Nothing, lemmas.Option.get_or_from_slice_get}
 use Rattle.rv_calls.specs.Components.{mark_of}
-use Rattle.rv_calls.proofs.Turned.{reversed_graph}
-use Rattle.rv_calls.proofs.Parting.{seen_fresh, parts_fresh, still, parted_more}
+use Rattle.rv_calls.proofs.{Turned.reversed_graph, Parting.seen_fresh, Parting.parts_fresh, Parting.still, Parting.parted_more}
 use Rattle.rv_calls.proofs.components.assign.Goals as goal
-use Rattle.std.proofs.lemmas.Option.{get_or_from_slice_get}
 
 pub reach-requires-clause-vertices : goal.reach-requires-clause-vertices
 reach-requires-clause-vertices c = reversed_graph c.args.graph.now c.args.turned.now c.requires.turned

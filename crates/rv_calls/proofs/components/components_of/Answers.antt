@@ -1,5 +1,4 @@
-use Rattle.std.proofs.Common.{inl, inr, sym, subst, arith}
-use Rattle.std.proofs.lemmas.Bool.{cases_eq}
+use Rattle.std.proofs.{Common.inl, Common.inr, Common.sym, Common.subst, Common.arith, lemmas.Bool.cases_eq}
 use Rattle.rv_calls.specs.Components.{HasMark}
 use Rattle.rv_calls.proofs.Parting.{parted_all}
 use Rattle.rv_calls.proofs.components.components_of.Goals as goal

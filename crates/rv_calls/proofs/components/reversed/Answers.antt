@@ -1,11 +1,10 @@
 use Rattle.std.proofs.Common.{◌≡◌, ◌<◌, ℕ, List, [], length, replicate, sym, ◌∙◌, ap, subst, arith}
+use Rattle.std.proofs.lemmas.Option.{get_or_from_slice_get}
 use Rattle.std.specs.List.{Contains}
-use Rattle.rv_calls.specs.Graphs.{Graph, edges}
-use Rattle.rv_calls.specs.Components.{IsReversedTo, IsTurned}
+use Rattle.rv_calls.specs.{Graphs.Graph, Graphs.edges, Components.IsReversedTo, Components.IsTurned}
 use Rattle.rv_instances.proofs.Lists.{contains_at}
 use Rattle.rv_calls.proofs.Turned.{reversed_none, reversed_more}
 use Rattle.rv_calls.proofs.components.reversed.Goals as goal
-use Rattle.std.proofs.lemmas.Option.{get_or_from_slice_get}
 
 pub loop-v-init : goal.loop-v-init
 loop-v-init c =

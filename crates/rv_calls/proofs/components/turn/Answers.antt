@@ -1,7 +1,6 @@
 use Rattle.std.proofs.Common.{◌≡◌, List, ℕ, [], ◌∷◌, ◌++◌, set, sym, ◌∙◌, ap, subst}
 use Rattle.std.proofs.lemmas.List.{get_or_default}
-use Rattle.rv_calls.specs.Graphs.{edges}
-use Rattle.rv_calls.specs.Components.{IsTurned}
+use Rattle.rv_calls.specs.{Graphs.edges, Components.IsTurned}
 use Rattle.rv_calls.proofs.Turned.{turned_one}
 use Rattle.rv_calls.proofs.components.turn.Goals as goal
 

@@ -1,10 +1,9 @@
 use Rattle.std.proofs.Common.{◌≡◌, ℕ, ◌++◌, [], List, map, reverse, get_or, sym, ◌∙◌, ap, subst}
+use Rattle.std.proofs.lemmas.Option.{get_or_from_slice_get}
 use Rattle.rv_instances.specs.declared.answer.Instance.{Instance}
-use Rattle.rv_calls.specs.declared.calls.Calling.{Calling}
-use Rattle.rv_calls.specs.Listing.{called_instance, IsExpansion}
+use Rattle.rv_calls.specs.{declared.calls.Calling.Calling, Listing.called_instance, Listing.IsExpansion}
 use Rattle.rv_calls.proofs.Expanding.{expansion_next, expansion_step, ahead_less}
 use Rattle.rv_calls.proofs.expansion.expand.Goals as goal
-use Rattle.std.proofs.lemmas.Option.{get_or_from_slice_get}
 
 pub at-requires : goal.at-requires
 at-requires c = expansion_next c.args.calls.now c.args.root c.loop-instance.found c.loop-instance.waiting c.pop.new.self c.in-Some.instance

@@ -1,14 +1,9 @@
 use Rattle.std.proofs.Common.{◌≡◌, List, [], sym, subst, arith}
 use Rattle.rv_tree.specs.Tree.{program_tree}
-use Rattle.rv_calls.specs.declared.calls.Calling.{Calling}
-use Rattle.rv_instances.specs.declared.answer.Instance.{Instance}
-use Rattle.rv_calls.specs.Callings.{callings_of}
-use Rattle.rv_instances.specs.AllInstances.{AreInstances}
+use Rattle.rv_calls.specs.{declared.calls.Calling.Calling, Callings.callings_of, Listing.AreAllSorted, Listing.all_listed}
+use Rattle.rv_instances.specs.{declared.answer.Instance.Instance, AllInstances.AreInstances}
 use Rattle.rv_types.specs.Instances.{name_at}
-use Rattle.rv_calls.specs.Listing.{AreAllSorted, all_listed}
-use Rattle.rv_calls.proofs.Recursions.{is_graph, table_size}
-use Rattle.rv_calls.proofs.SortedCalls.{sorted_graph, sorted_order}
-use Rattle.rv_calls.proofs.Listed.{instances_listed}
+use Rattle.rv_calls.proofs.{Recursions.is_graph, Recursions.table_size, SortedCalls.sorted_graph, SortedCalls.sorted_order, Listed.instances_listed}
 use Rattle.rv_instances.proofs.Lists.{if_ok}
 use Rattle.rv_calls.proofs.expansion.instances.Goals as goal
 

@@ -1,8 +1,6 @@
-use Rattle.std.proofs.Common.{List, sym, subst, rules}
-use Rattle.std.proofs.lemmas.List.Sorted.{IsNonDecreasingBy-from_sort_by_key}
+use Rattle.std.proofs.{Common.List, Common.sym, Common.subst, Common.rules, lemmas.List.Sorted.IsNonDecreasingBy-from_sort_by_key}
 use Rattle.std.specs.List.Sorted.{IsPermutation}
-use Rattle.rv_calls.specs.declared.calls.Calling.{Calling}
-use Rattle.rv_calls.specs.Listing.{AreSorted}
+use Rattle.rv_calls.specs.{declared.calls.Calling.Calling, Listing.AreSorted}
 use Rattle.rv_calls.proofs.expansion.sorted.Goals as goal
 
 pub returns : goal.returns

@@ -1,7 +1,6 @@
-use Rattle.std.proofs.Common.{false, ◌∙◌}
+use Rattle.std.proofs.{Common.false, Common.◌∙◌, lemmas.Option.get_or_from_slice_get}
 use Rattle.rv_calls.proofs.Walks.{left_step, went_step, met, loop_step}
 use Rattle.rv_calls.proofs.graph.explore.Goals as goal
-use Rattle.std.proofs.lemmas.Option.{get_or_from_slice_get}
 
 pub loop-top-smaller-in_ok-leave-in-None : goal.loop-top-smaller-in_ok-leave-in-None
 loop-top-smaller-in_ok-leave-in-None c =

@@ -1,7 +1,6 @@
-use Rattle.std.proofs.Common.{◌<◌, false, sym, ◌∙◌, subst}
+use Rattle.std.proofs.{Common.◌<◌, Common.false, Common.sym, Common.◌∙◌, Common.subst, lemmas.Option.get_or_from_slice_get}
 use Rattle.rv_calls.proofs.Walks.{root_step}
 use Rattle.rv_calls.proofs.graph.visit.Goals as goal
-use Rattle.std.proofs.lemmas.Option.{get_or_from_slice_get}
 
 pub at-requires : goal.at-requires
 at-requires c = subst (λ n. c.args.root < n) (sym c.requires.walk.entered_size) c.requires.root

@@ -1,11 +1,10 @@
 use Rattle.std.proofs.Common.{◌≡◌, ◌<◌, ℕ, List, [], ◌∷◌, ◌++◌, length, set, sym, ◌∙◌, ap, subst, rules, Some, arith}
+use Rattle.std.proofs.lemmas.Option.{get_or_from_slice_get}
 use Rattle.std.specs.List.{Contains}
-use Rattle.rv_calls.specs.Graphs.{edges}
-use Rattle.rv_calls.specs.Components.{Marks, IsSearch, IsSpread}
+use Rattle.rv_calls.specs.{Graphs.edges, Components.Marks, Components.IsSearch, Components.IsSpread}
 use Rattle.rv_instances.proofs.Lists.{contains_at}
 use Rattle.rv_calls.proofs.Searches.{search_start, search_step, search_end, search_last}
 use Rattle.rv_calls.proofs.reach.reach.Goals as goal
-use Rattle.std.proofs.lemmas.Option.{get_or_from_slice_get}
 
 pub loop-v-init : goal.loop-v-init
 loop-v-init c =

@@ -1,10 +1,7 @@
 use Rattle.std.proofs.Common.{◌≡◌, ◌∙◌, ap, sym, subst}
 use Rattle.rv_tree.specs.Tree.{program_tree}
-use Rattle.rv_calls.specs.Graphs.{Graph, IsGraph, IsOrdered}
-use Rattle.rv_calls.specs.Callings.{call_graph, callings_of}
-use Rattle.rv_calls.specs.Loops.{IsRecursion}
-use Rattle.rv_calls.proofs.Recursions.{no_recursion, recursion_of, is_graph}
-use Rattle.rv_calls.proofs.Lowering.{ordered_no_loop}
+use Rattle.rv_calls.specs.{Graphs.Graph, Graphs.IsGraph, Graphs.IsOrdered, Callings.call_graph, Callings.callings_of, Loops.IsRecursion}
+use Rattle.rv_calls.proofs.{Recursions.no_recursion, Recursions.recursion_of, Recursions.is_graph, Lowering.ordered_no_loop}
 use Rattle.rv_calls.proofs.recursion.check.Goals as goal
 
 pub node_order-requires-clause-known : goal.node_order-requires-clause-known

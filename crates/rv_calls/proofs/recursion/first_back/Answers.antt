@@ -1,10 +1,9 @@
 use Rattle.std.proofs.Common.{◌≡◌, List, [], get_or, sym, ◌∙◌, subst, arith}
+use Rattle.std.proofs.lemmas.Option.{get_or_from_slice_get}
 use Rattle.std.specs.List.{Contains}
-use Rattle.rv_calls.specs.declared.calls.Calling.{Calling}
-use Rattle.rv_calls.specs.Loops.{IsLowered}
+use Rattle.rv_calls.specs.{declared.calls.Calling.Calling, Loops.IsLowered}
 use Rattle.rv_calls.proofs.Lowering.{lowered_to_more}
 use Rattle.rv_calls.proofs.recursion.first_back.Goals as goal
-use Rattle.std.proofs.lemmas.Option.{get_or_from_slice_get}
 
 pub lower_in_node-least-requires-clause-callees : goal.lower_in_node-least-requires-clause-callees
 lower_in_node-least-requires-clause-callees c d w =

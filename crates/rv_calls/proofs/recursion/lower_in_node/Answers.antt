@@ -1,8 +1,6 @@
 use Rattle.std.proofs.Common.{List, [], ◌∷◌, get_or, take, sym, subst, arith}
-use Rattle.std.proofs.lemmas.List.{take_more, take_all}
-use Rattle.std.proofs.lemmas.List.Elements.{Contains-get_or}
-use Rattle.rv_calls.specs.declared.calls.Calling.{Calling}
-use Rattle.rv_calls.specs.Loops.{IsLowered}
+use Rattle.std.proofs.{lemmas.List.take_more, lemmas.List.take_all, lemmas.List.Elements.Contains-get_or}
+use Rattle.rv_calls.specs.{declared.calls.Calling.Calling, Loops.IsLowered}
 use Rattle.rv_calls.proofs.Lowering.{lowered_none, lowered_more}
 use Rattle.rv_calls.proofs.recursion.lower_in_node.Goals as goal
 

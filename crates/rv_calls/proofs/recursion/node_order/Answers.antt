@@ -1,8 +1,5 @@
 use Rattle.std.proofs.Common.{◌<◌, length, sym, ◌∙◌, ap, subst}
-use Rattle.rv_calls.specs.Graphs.{Graph, IsGraph, IsLoop, IsSortedOf}
-use Rattle.rv_calls.specs.Callings.{callees}
-use Rattle.rv_calls.specs.Components.{AreComponents}
-use Rattle.rv_calls.specs.Loops.{IsFirstLoop}
+use Rattle.rv_calls.specs.{Graphs.Graph, Graphs.IsGraph, Graphs.IsLoop, Graphs.IsSortedOf, Callings.callees, Components.AreComponents, Loops.IsFirstLoop}
 use Rattle.rv_calls.proofs.Lowering.{callee_within, first_found, none_found}
 use Rattle.rv_instances.proofs.Lists.{length_map}
 use Rattle.rv_calls.proofs.recursion.node_order.Goals as goal

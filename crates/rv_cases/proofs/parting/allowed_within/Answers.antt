@@ -1,5 +1,4 @@
-use Rattle.std.proofs.Common.{◌∙◌, ◌&&◌, ap}
-use Rattle.std.proofs.lemmas.Result.{IfOk-weaker}
+use Rattle.std.proofs.{Common.◌∙◌, Common.◌&&◌, Common.ap, lemmas.Result.IfOk-weaker}
 use Rattle.rv_diagram.specs.Nodes.{Answers, IsMeant, value_of}
 use Rattle.rv_cases.specs.Made.{is_allowed_in}
 use Rattle.rv_cases.proofs.parting.allowed_within.Goals as goal

@@ -1,10 +1,8 @@
-use Rattle.std.proofs.Common.{ℕ, sym, subst, arith}
-use Rattle.std.proofs.lemmas.Result.{IfOk-weaker}
+use Rattle.std.proofs.{Common.ℕ, Common.sym, Common.subst, Common.arith, lemmas.Result.IfOk-weaker}
 use Rattle.rv_diagram.specs.Nodes.{IsOrderedOver}
 use Rattle.rv_proofs.specs.Cases.{AreCases}
 use Rattle.rv_cases.specs.Made.{is_allowed_in, AreMadeOf, AreDifferent}
-use Rattle.rv_cases.proofs.Covering.{made_cases}
-use Rattle.rv_cases.proofs.Differing.{made_different}
+use Rattle.rv_cases.proofs.{Covering.made_cases, Differing.made_different}
 use Rattle.rv_cases.proofs.parting.cases.Goals as goal
 
 pub take_cases-answer-requires-clause-allowed : goal.take_cases-answer-requires-clause-allowed

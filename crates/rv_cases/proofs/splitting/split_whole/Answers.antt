@@ -1,6 +1,5 @@
 use Rattle.std.proofs.Common.{◌≡◌, ◌<◌, ◌∙◌, sym, subst, length, ℕ, arith, List, [], ⊎_elim}
-use Rattle.std.proofs.lemmas.Bool.{cases_lt}
-use Rattle.std.proofs.lemmas.List.{get_or_read}
+use Rattle.std.proofs.{lemmas.Bool.cases_lt, lemmas.List.get_or_read}
 use Rattle.rv_diagram.specs.Nodes.{value_of}
 use Rattle.rv_terms.specs.Growing.{Extends}
 use Rattle.rv_terms.proofs.Growths.{extends_trans}

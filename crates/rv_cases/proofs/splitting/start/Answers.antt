@@ -1,5 +1,4 @@
-use Rattle.std.proofs.Common.{◌∙◌, ap, sym, subst, List, ℕ, [], ◌∷◌, ◌++◌}
-use Rattle.std.proofs.lemmas.Bool.{false≢true}
+use Rattle.std.proofs.{Common.◌∙◌, Common.ap, Common.sym, Common.subst, Common.List, Common.ℕ, Common.[], Common.◌∷◌, Common.◌++◌, lemmas.Bool.false≢true}
 use Rattle.rv_diagram.specs.Nodes.{value_of}
 use Rattle.rv_terms.proofs.Finding.{some_from}
 use Rattle.rv_cases.specs.Conditions.{IsParted}

@@ -3,8 +3,7 @@ use Rattle.std.proofs.lemmas.Option.{get_or_from_slice_get}
 use Rattle.rv_diagram.specs.Nodes.{Valuation, value_of}
 use Rattle.rv_proofs.specs.Systems.{System}
 use Rattle.rv_cases.specs.Conditions.{is_in, list_at, AreAnswers, HasOneAnswer, IsSampleOf}
-use Rattle.rv_cases.specs.Questions.{observer_answers, AreQuestions, IsSettledFor}
-use Rattle.rv_cases.specs.Telling.{IsObserved}
+use Rattle.rv_cases.specs.{Questions.observer_answers, Questions.AreQuestions, Questions.IsSettledFor, Telling.IsObserved}
 use Rattle.rv_cases.proofs.Tellings.{observed_told}
 use Rattle.rv_cases.proofs.telling.observer_in.Goals as goal
 

@@ -3,8 +3,7 @@ use Rattle.std.proofs.lemmas.Option.{get_or_from_slice_get}
 use Rattle.rv_rows.specs.declared.linear.Row.{Row}
 use Rattle.rv_diagram.specs.Nodes.{Valuation, value_of}
 use Rattle.rv_cases.specs.Conditions.{is_in, list_at, AreAnswers, HasOneAnswer}
-use Rattle.rv_cases.specs.Questions.{rows_at}
-use Rattle.rv_cases.specs.Telling.{AreTold, IsNoted}
+use Rattle.rv_cases.specs.{Questions.rows_at, Telling.AreTold, Telling.IsNoted}
 use Rattle.rv_cases.proofs.Tellings.{told_none, told_more}
 use Rattle.rv_cases.proofs.telling.tests_in.Goals as goal
 

@@ -3,8 +3,7 @@ use Rattle.std.proofs.lemmas.Option.{get_or_from_slice_get}
 use Rattle.rv_rows.specs.declared.linear.Form.{Form}
 use Rattle.rv_diagram.specs.Nodes.{Valuation, value_of}
 use Rattle.rv_cases.specs.Conditions.{is_in, list_at, AreAnswers, HasOneAnswer}
-use Rattle.rv_cases.specs.Questions.{forms_at, memory_answers}
-use Rattle.rv_cases.specs.Telling.{AreUpdated}
+use Rattle.rv_cases.specs.{Questions.forms_at, Questions.memory_answers, Telling.AreUpdated}
 use Rattle.rv_cases.proofs.Tellings.{updated_none, updated_more}
 use Rattle.rv_cases.proofs.telling.updates_in.Goals as goal
 

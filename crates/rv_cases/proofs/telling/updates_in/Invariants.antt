@@ -1,9 +1,7 @@
 use Rattle.std.proofs.Common.{ℕ}
 use Rattle.rv_diagram.specs.Nodes.{value_of}
 use Rattle.rv_proofs.specs.Systems.{System}
-use Rattle.rv_cases.specs.Conditions.{IsSampleOf}
-use Rattle.rv_cases.specs.Questions.{AreQuestions, IsSettledFor}
-use Rattle.rv_cases.specs.Telling.{AreUpdated}
+use Rattle.rv_cases.specs.{Conditions.IsSampleOf, Questions.AreQuestions, Questions.IsSettledFor, Telling.AreUpdated}
 use Rattle.rv_cases.proofs.telling.updates_in.Given as goal
 
 abbrev pub invariant-loop-k : goal.invariant-loop-k

@@ -1,7 +1,6 @@
 use Rattle.std.proofs.Common.{length}
 use Rattle.rv_types.specs.Instances.{is_main, main_instance}
-use Rattle.rv_calls.proofs.AllInstances.{all_found, only_instances}
-use Rattle.rv_calls.proofs.OnceInstances.{instances_once}
+use Rattle.rv_calls.proofs.{AllInstances.all_found, AllInstances.only_instances, OnceInstances.instances_once}
 use Rattle.rv_causality.proofs.laws.counted_instances.Goals as goal
 
 pub returns-clause-all : goal.returns-clause-all

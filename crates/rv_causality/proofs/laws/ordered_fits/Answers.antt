@@ -1,6 +1,5 @@
 use Rattle.std.proofs.Common.{map}
-use Rattle.rv_types.specs.Instances.{name_at}
-use Rattle.rv_types.specs.Values.{label_count}
+use Rattle.rv_types.specs.{Instances.name_at, Values.label_count}
 use Rattle.rv_instances.proofs.Known.{name_declared}
 use Rattle.rv_causality.proofs.Answered.{answer_named, main_within}
 use Rattle.rv_sizes.proofs.Limits.{none_above}

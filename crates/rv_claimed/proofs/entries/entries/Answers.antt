@@ -1,6 +1,5 @@
 use Rattle.std.proofs.Common.{◌≡◌, ◌∙◌, ◌++◌, ◌∷◌, [], Bool, List, length, subst, sym, ap}
-use Rattle.rv_proofs.specs.declared.certificate.Entry.{Entry}
-use Rattle.rv_proofs.specs.declared.report.Case.{Case}
+use Rattle.rv_proofs.specs.{declared.certificate.Entry.Entry, declared.report.Case.Case}
 use Rattle.rv_claims.specs.Claiming.{claim_of}
 use Rattle.rv_claimed.specs.Certifying.{AreListed}
 use Rattle.rv_claimed.proofs.Reaching.{listed_more}

@@ -1,6 +1,5 @@
 use Rattle.std.proofs.Common.{List, refl, subst, sym}
-use Rattle.rv_rows.specs.declared.linear.Row.{Row}
-use Rattle.rv_rows.specs.Multipliers.{AreShutAtOnce}
+use Rattle.rv_rows.specs.{declared.linear.Row.Row, Multipliers.AreShutAtOnce}
 use Rattle.rv_claimed.proofs.entries.step_of.Goals as goal
 
 pub returns : goal.returns

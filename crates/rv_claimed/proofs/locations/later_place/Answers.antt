@@ -2,8 +2,7 @@ use Rattle.std.proofs.Common.{List, sym, subst}
 use Rattle.std.specs.Prelude.{IfOk}
 use Rattle.rv_rows.specs.declared.linear.Row.{Row}
 use Rattle.rv_claims.specs.Claiming.{claim_of}
-use Rattle.rv_claimed.specs.Certifying.{IsSetting}
-use Rattle.rv_claimed.specs.Building.{IsPlaceOf}
+use Rattle.rv_claimed.specs.{Certifying.IsSetting, Building.IsPlaceOf}
 use Rattle.rv_claimed.proofs.Assembling.{others_setting}
 use Rattle.rv_claimed.proofs.locations.later_place.Goals as goal
 

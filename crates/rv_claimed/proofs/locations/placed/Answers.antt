@@ -1,7 +1,6 @@
 use Rattle.std.proofs.Common.{◌<◌, ◌^◌, arith, length}
 use Rattle.rv_claims.specs.Claiming.{claim_of}
-use Rattle.rv_claimed.proofs.Entering.{cases_in}
-use Rattle.rv_claimed.proofs.Assembling.{place_of}
+use Rattle.rv_claimed.proofs.{Entering.cases_in, Assembling.place_of}
 use Rattle.rv_claimed.proofs.locations.placed.Goals as goal
 
 pub entries-requires : goal.entries-requires

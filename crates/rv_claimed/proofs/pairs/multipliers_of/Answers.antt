@@ -1,6 +1,5 @@
 use Rattle.std.proofs.Common.{pos, List, ap}
-use Rattle.rv_rows.specs.declared.farkas.Weight.{Weight}
-use Rattle.rv_rows.specs.declared.farkas.Multipliers.{Multipliers}
+use Rattle.rv_rows.specs.{declared.farkas.Weight.Weight, declared.farkas.Multipliers.Multipliers}
 use Rattle.rv_claimed.proofs.pairs.multipliers_of.Goals as goal
 
 pub returns : goal.returns

@@ -1,8 +1,6 @@
 use Rattle.rv_flat.specs.FlatInstants.{system_of}
-use Rattle.rv_control.specs.Named.{named}
-use Rattle.rv_control.specs.Symbolic.{symbolic}
-use Rattle.rv_control.proofs.Abstract.{allowed_there, allowed_told}
-use Rattle.rv_control.proofs.Readings.{is_symbolic}
+use Rattle.rv_control.specs.{Named.named, Symbolic.symbolic}
+use Rattle.rv_control.proofs.{Abstract.allowed_there, Abstract.allowed_told, Readings.is_symbolic}
 use Rattle.rv_control.proofs.laws.computed_instants.Goals as goal
 
 pub returns-clause-symbolic : goal.returns-clause-symbolic

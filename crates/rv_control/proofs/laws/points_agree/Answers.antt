@@ -1,7 +1,6 @@
 use Rattle.rv_flat.specs.FlatInstants.{system_of}
 use Rattle.rv_control.specs.Named.{variables_of}
-use Rattle.rv_control.proofs.Order.{is_listed}
-use Rattle.rv_control.proofs.Points.{point_agrees}
+use Rattle.rv_control.proofs.{Order.is_listed, Points.point_agrees}
 use Rattle.rv_control.proofs.laws.points_agree.Goals as goal
 
 pub returns : goal.returns

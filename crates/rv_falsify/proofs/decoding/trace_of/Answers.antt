@@ -1,12 +1,11 @@
 use Rattle.std.proofs.Common.{◌≡◌, ◌+◌, ◌*◌, ◌∙◌, ◌<◌, List, [], length, map, sym, ap, subst, arith}
-use Rattle.std.specs.Prelude.{slice_index_or}
 use Rattle.std.proofs.lemmas.Option.{get_or_from_slice_get}
+use Rattle.std.specs.Prelude.{slice_index_or}
 use Rattle.rv_types.specs.declared.typed.Kind.{Kind}
 use Rattle.rv_flat.specs.Steps.{label_counts, memory_kinds, input_kinds}
 use Rattle.rv_control.specs.Spelled.{decoded}
 use Rattle.rv_falsify.specs.Decoding.{bits_before, bits_along}
-use Rattle.rv_falsify.proofs.Placed.{room}
-use Rattle.rv_falsify.proofs.Spelling.{all_inputs_spelled, starts_spelled}
+use Rattle.rv_falsify.proofs.{Placed.room, Spelling.all_inputs_spelled, Spelling.starts_spelled}
 use Rattle.rv_falsify.proofs.decoding.trace_of.Goals as goal
 
 pub overflow_add-first : goal.overflow_add-first

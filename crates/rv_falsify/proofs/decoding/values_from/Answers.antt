@@ -2,8 +2,7 @@ use Rattle.std.proofs.Common.{◌≡◌, ◌*◌, ◌∙◌, ◌∷◌, [], ℕ,
 use Rattle.rv_agreement.specs.Trees.{kind_at}
 use Rattle.rv_control.specs.Spelled.{value_at}
 use Rattle.rv_falsify.specs.Decoding.{bits_before, bits_along}
-use Rattle.rv_falsify.proofs.Counted.{step_more, steps_within}
-use Rattle.rv_falsify.proofs.Spelling.{along_same, decoded_all, each_more}
+use Rattle.rv_falsify.proofs.{Counted.step_more, Counted.steps_within, Spelling.along_same, Spelling.decoded_all, Spelling.each_more}
 use Rattle.rv_falsify.proofs.decoding.values_from.Goals as goal
 
 pub value_from-requires-clause-end : goal.value_from-requires-clause-end

@@ -1,19 +1,17 @@
 use Rattle.std.proofs.Common.{◌≡◌, ◌∙◌, List, [], Bool, length, map, ap, subst, arith}
-use Rattle.std.specs.Prelude.{Ok, slice_index_or}
 use Rattle.std.proofs.lemmas.List.{length-map}
+use Rattle.std.specs.Prelude.{Ok, slice_index_or}
 use Rattle.rv_base.specs.declared.value.Trace.{Trace}
 use Rattle.rv_tree.specs.Tree.{program_tree}
 use Rattle.rv_types.specs.Instances.{name_at}
 use Rattle.rv_diagram.specs.Nodes.{valuation_of}
 use Rattle.rv_flat.specs.declared.flat.Flat.{Flat}
-use Rattle.rv_control.specs.Control.{control_of}
-use Rattle.rv_control.specs.Spelled.{spelled_inputs, spelled_starts}
+use Rattle.rv_control.specs.{Control.control_of, Spelled.spelled_inputs, Spelled.spelled_starts}
 use Rattle.rv_walk.specs.Paths.{IsFalsifyingPath}
 use Rattle.rv_replay.proofs.Sources.{observed}
 use Rattle.rv_reading.specs.declared.reading.Reading.{Reading}
 use Rattle.rv_falsify.specs.Falsifying.{IsFalsifying, IsShortest}
-use Rattle.rv_falsify.proofs.Running.{Laws}
-use Rattle.rv_falsify.proofs.Falsified.{shortest, some_falsifies, words_falsify}
+use Rattle.rv_falsify.proofs.{Running.Laws, Falsified.shortest, Falsified.some_falsifies, Falsified.words_falsify}
 use Rattle.rv_falsify.proofs.finding.find_back.Goals as goal
 
 pub trace_of-requires-clause-some : goal.trace_of-requires-clause-some

@@ -2,8 +2,7 @@ use Rattle.std.proofs.Common.{ap, sym, ◌∙◌, subst}
 use Rattle.rv_tree.specs.Tree.{program_tree}
 use Rattle.rv_types.specs.Instances.{name_at}
 use Rattle.rv_flat.specs.FlatOf.{IsFlatOf}
-use Rattle.rv_reading.specs.declared.reading.Reading.{Reading}
-use Rattle.rv_reading.specs.Read.{flat_of}
+use Rattle.rv_reading.specs.{declared.reading.Reading.Reading, Read.flat_of}
 use Rattle.rv_falsify.proofs.finding.find_candidate.Goals as goal
 
 pub trace_with-requires-clause-program : goal.trace_with-requires-clause-program

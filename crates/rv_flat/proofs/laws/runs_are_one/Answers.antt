@@ -1,5 +1,4 @@
-use Rattle.rv_flat.proofs.BackRuns.{has_run}
-use Rattle.rv_flat.proofs.SystemRuns.{run_of}
+use Rattle.rv_flat.proofs.{BackRuns.has_run, SystemRuns.run_of}
 use Rattle.rv_flat.proofs.laws.runs_are_one.Goals as goal
 
 pub returns-clause-flat : goal.returns-clause-flat

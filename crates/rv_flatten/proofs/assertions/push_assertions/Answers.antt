@@ -1,12 +1,9 @@
 use Rattle.std.proofs.Common.{◌++◌, ◌∷◌, [], List, map, refl, sym, ◌∙◌, ap, subst}
 use Rattle.std.specs.List.{Contains}
-use Rattle.rv_tree.specs.declared.tree.Assertion.{Assertion}
-use Rattle.rv_tree.specs.Tree.{assertion_tree, AssertionTree}
-use Rattle.rv_flatten.specs.Building.{numbers_of, program_given}
+use Rattle.rv_tree.specs.{declared.tree.Assertion.Assertion, Tree.assertion_tree, Tree.AssertionTree}
+use Rattle.rv_flatten.specs.{Building.numbers_of, Building.program_given, Readings.assertion_of}
 use Rattle.rv_flat.specs.RawTree.{raw_tree}
-use Rattle.rv_flatten.specs.Readings.{assertion_of}
-use Rattle.rv_flatten.proofs.AssertedParts.{assertions_at, made_of_trees}
-use Rattle.rv_flatten.proofs.Gathered.{gathered_more, gathered_all}
+use Rattle.rv_flatten.proofs.{AssertedParts.assertions_at, AssertedParts.made_of_trees, Gathered.gathered_more, Gathered.gathered_all}
 use Rattle.rv_types.proofs.Members.{in_map}
 use Rattle.rv_flatten.proofs.assertions.push_assertions.Goals as goal
 

@@ -1,11 +1,9 @@
 use Rattle.std.proofs.Common.{◌≡◌, ◌++◌, map, drop}
-use Rattle.rv_tree.specs.declared.tree.Assertion.{Assertion}
-use Rattle.rv_tree.specs.Tree.{assertion_tree}
+use Rattle.rv_tree.specs.{declared.tree.Assertion.Assertion, Tree.assertion_tree}
 use Rattle.rv_types.specs.Instances.{Instance, IsInstance}
 use Rattle.rv_instances.specs.Layouts.{IsNumberOf}
-use Rattle.rv_flatten.specs.Building.{main_given, numbers_of, program_given}
+use Rattle.rv_flatten.specs.{Building.main_given, Building.numbers_of, Building.program_given, Readings.assertion_of}
 use Rattle.rv_flat.specs.RawTree.{raw_tree}
-use Rattle.rv_flatten.specs.Readings.{assertion_of}
 use Rattle.rv_flatten.proofs.assertions.push_assertions.Given as goal
 
 abbrev pub invariant-loop-assertion : goal.invariant-loop-assertion

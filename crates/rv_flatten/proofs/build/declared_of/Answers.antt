@@ -1,13 +1,8 @@
 use Rattle.std.proofs.Common.{◌≡◌, ◌≤◌, ◌∷◌, ◌++◌, map, length, sym, ◌∙◌, ap, subst, arith}
-use Rattle.rv_tree.specs.Bounded.{most}
-use Rattle.rv_tree.specs.Places.{names}
-use Rattle.rv_tree.specs.Tree.{ProgramTree, NodeTree}
-use Rattle.rv_types.specs.Instances.{node_of}
-use Rattle.rv_types.specs.Values.{labels_at}
-use Rattle.rv_types.specs.Lists.{MainTick, Tick, sites_of, with_copies, memory_variables, input_variables, test_variables, memory_columns}
-use Rattle.rv_types.specs.Lists.{input_columns}
-use Rattle.rv_flatten.specs.Kept.{kept_memory, found_comparison}
-use Rattle.rv_flatten.specs.Building.{program_given, main_given}
+use Rattle.rv_tree.specs.{Bounded.most, Places.names, Tree.ProgramTree, Tree.NodeTree}
+use Rattle.rv_types.specs.Lists.{MainTick, Tick, sites_of, with_copies, memory_variables, input_variables, test_variables, memory_columns, input_columns}
+use Rattle.rv_types.specs.{Instances.node_of, Values.labels_at}
+use Rattle.rv_flatten.specs.{Kept.kept_memory, Kept.found_comparison, Building.program_given, Building.main_given}
 use Rattle.rv_flatten.proofs.Assembled.{taken_kinds, inputs_within, kinds_within, main_kinds, few_given, first_node}
 use Rattle.rv_flatten.proofs.FlowTotals.{some_instance}
 use Rattle.rv_instances.proofs.LabelCodes.{few_labels}

@@ -1,23 +1,14 @@
 use Rattle.std.proofs.Common.{◌≡◌, ◌≤◌, true, [], ◌∷◌, length, get_or, sym, ◌∙◌, ap, subst}
-use Rattle.rv_tree.specs.Places.{index_of, is_same}
-use Rattle.rv_tree.specs.Tree.{ProgramTree, NodeTree}
-use Rattle.rv_types.specs.Instances.{node_of}
-use Rattle.rv_types.specs.Lists.{sites_of}
-use Rattle.rv_flat.specs.Facts.{all_few, integers, numbers_among}
-use Rattle.rv_flat.specs.Lists.{tick_places}
-use Rattle.rv_flat.specs.Systems.{places_of}
+use Rattle.rv_tree.specs.{Places.index_of, Places.is_same, Tree.ProgramTree, Tree.NodeTree}
+use Rattle.rv_types.specs.{Instances.node_of, Lists.sites_of}
+use Rattle.rv_flat.specs.{Facts.all_few, Facts.integers, Facts.numbers_among, Lists.tick_places, Systems.places_of}
 use Rattle.rv_flatten.specs.Building.{program_given, main_given, numbers_of}
-use Rattle.rv_flatten.proofs.Assembled.{first_node, is_named, is_read, are_kinds}
-use Rattle.rv_flatten.proofs.Assembled.{main_number, observer_there, observer_kind, observer_within, all_ticks_known, same_flows}
-use Rattle.rv_flatten.proofs.CountedVariables.{few_integers, few_variables}
-use Rattle.rv_flatten.proofs.CountedVariables.{few_labels as few_label_lists}
-use Rattle.rv_flatten.proofs.FlowTotals.{some_instance}
-use Rattle.rv_flatten.proofs.InstanceNumbers.{node_in}
-use Rattle.rv_flatten.proofs.AgreedLaws.{Laws}
-use Rattle.rv_flatten.proofs.ReadFlat.{is_flat_of}
+use Rattle.rv_flatten.proofs.Assembled.{first_node, is_named, is_read, are_kinds, main_number, observer_there, observer_kind, observer_within, all_ticks_known}
+use Rattle.rv_flatten.proofs.Assembled.{same_flows}
+use Rattle.rv_flatten.proofs.CountedVariables.{few_integers, few_variables, few_labels as few_label_lists}
 use Rattle.rv_flatten.proofs.ReadKeeps.{ends, flows_are, memories_are, assertions_are, clocks_are, ticks_are_apart, memories_are_apart, comparisons_are_apart}
 use Rattle.rv_flatten.proofs.ReadKeeps.{flows_are_light, memories_are_light, assertions_are_light}
-use Rattle.rv_flatten.proofs.VariableCount.{counted_variables}
+use Rattle.rv_flatten.proofs.{FlowTotals.some_instance, InstanceNumbers.node_in, AgreedLaws.Laws, ReadFlat.is_flat_of, VariableCount.counted_variables}
 use Rattle.rv_types.proofs.Members.{text_itself}
 use Rattle.rv_flatten.proofs.build.flat_by.Goals as goal
 

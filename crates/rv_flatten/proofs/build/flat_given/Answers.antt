@@ -1,9 +1,6 @@
 use Rattle.std.proofs.Common.{◌≡◌, ◌≤◌, [], sym, ◌∙◌, ap, subst}
-use Rattle.rv_types.specs.Instances.{name_at}
-use Rattle.rv_types.specs.Scopes.{observer_faults}
-use Rattle.rv_types.specs.Settled.{node_number}
-use Rattle.rv_instances.specs.AllInstances.{AreCounted}
-use Rattle.rv_instances.specs.Fitting.{AreFew}
+use Rattle.rv_types.specs.{Instances.name_at, Scopes.observer_faults, Settled.node_number}
+use Rattle.rv_instances.specs.{AllInstances.AreCounted, Fitting.AreFew}
 use Rattle.rv_flatten.specs.Building.{program_given, main_given}
 use Rattle.rv_flatten.proofs.GivenParts.{main_name}
 use Rattle.rv_flatten.proofs.build.flat_given.Goals as goal

@@ -1,9 +1,7 @@
 use Rattle.std.proofs.Common.{◌≡◌, sym, ◌∙◌, ap, subst}
 use Rattle.rv_tree.specs.Tree.{program_tree}
 use Rattle.rv_types.specs.Instances.{name_at}
-use Rattle.rv_instances.specs.Expanded.{program_of}
-use Rattle.rv_instances.specs.Counts.{expanded}
-use Rattle.rv_instances.specs.Fitting.{Fits}
+use Rattle.rv_instances.specs.{Expanded.program_of, Counts.expanded, Fitting.Fits}
 use Rattle.rv_flat.specs.declared.flat.Flat.{Flat}
 use Rattle.rv_instances.proofs.Lists.{if_ok}
 use Rattle.rv_flatten.proofs.build.flat_of.Goals as goal

@@ -1,9 +1,6 @@
 use Rattle.std.proofs.Common.{◌≡◌, sym, ap, subst}
-use Rattle.rv_types.specs.Instances.{name_at}
-use Rattle.rv_types.specs.Lists.{sites_of}
-use Rattle.rv_types.specs.Needs.{IsSequence}
-use Rattle.rv_instances.specs.Expanded.{program_of, main_of}
-use Rattle.rv_instances.specs.Weights.{AreLight}
+use Rattle.rv_types.specs.{Instances.name_at, Lists.sites_of, Needs.IsSequence}
+use Rattle.rv_instances.specs.{Expanded.program_of, Expanded.main_of, Weights.AreLight}
 use Rattle.rv_flatten.proofs.build.flat_read.Goals as goal
 
 pub flat_given-requires-clause-given : goal.flat_given-requires-clause-given

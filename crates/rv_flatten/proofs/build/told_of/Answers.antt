@@ -2,8 +2,7 @@ use Rattle.std.proofs.Common.{map, sym, ◌∙◌, ap}
 use Rattle.rv_tree.specs.Tree.{ProgramTree, NodeTree}
 use Rattle.rv_types.specs.Names.{labels_of, texts}
 use Rattle.rv_flatten.specs.Building.{program_given, main_given}
-use Rattle.rv_flatten.proofs.Assembled.{main_name, first_node}
-use Rattle.rv_flatten.proofs.FlowTotals.{some_instance}
+use Rattle.rv_flatten.proofs.{Assembled.main_name, Assembled.first_node, FlowTotals.some_instance}
 use Rattle.rv_flatten.proofs.build.told_of.Goals as goal
 
 pub node-main-requires-clause-within : goal.node-main-requires-clause-within

@@ -1,9 +1,7 @@
 use Rattle.std.proofs.Common.{◌≡◌, ◌∙◌, map, length}
 use Rattle.rv_tree.specs.Tree.{program_tree}
 use Rattle.rv_types.specs.Instances.{name_at}
-use Rattle.rv_flatten.specs.NodeReaders.{lists_to}
-use Rattle.rv_flatten.specs.Compared.{tests_in, compared_in}
-use Rattle.rv_flatten.specs.Kept.{found_comparison}
+use Rattle.rv_flatten.specs.{NodeReaders.lists_to, Compared.tests_in, Compared.compared_in, Kept.found_comparison}
 use Rattle.rv_flatten.proofs.ComparedPlaces.{are_comparisons}
 use Rattle.rv_flatten.proofs.comparisons.comparisons_of.Goals as goal
 

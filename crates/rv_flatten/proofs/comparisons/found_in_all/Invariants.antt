@@ -1,7 +1,5 @@
 use Rattle.std.proofs.Common.{◌≡◌, map}
-use Rattle.rv_flatten.specs.NodeReaders.{lists_to}
-use Rattle.rv_flatten.specs.Compared.{compared_in}
-use Rattle.rv_flatten.specs.Kept.{found_comparison}
+use Rattle.rv_flatten.specs.{NodeReaders.lists_to, Compared.compared_in, Kept.found_comparison}
 use Rattle.rv_flatten.proofs.comparisons.found_in_all.Given as goal
 
 abbrev pub invariant-loop-instance : goal.invariant-loop-instance

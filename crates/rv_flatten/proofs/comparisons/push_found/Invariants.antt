@@ -1,6 +1,5 @@
 use Rattle.std.proofs.Common.{◌≡◌, ◌++◌, map, drop}
-use Rattle.rv_flatten.specs.Compared.{compared_at}
-use Rattle.rv_flatten.specs.Kept.{found_comparison}
+use Rattle.rv_flatten.specs.{Compared.compared_at, Kept.found_comparison}
 use Rattle.rv_flatten.proofs.comparisons.push_found.Given as goal
 
 abbrev pub invariant-loop-one : goal.invariant-loop-one

@@ -1,6 +1,4 @@
-use Rattle.std.proofs.Common.{◌∙◌, rules}
-use Rattle.std.proofs.lemmas.Fn.{dedup_same}
-use Rattle.std.proofs.lemmas.List.Sorted.{answers_always, ranks_by}
+use Rattle.std.proofs.{Common.◌∙◌, Common.rules, lemmas.Fn.dedup_same, lemmas.List.Sorted.answers_always, lemmas.List.Sorted.ranks_by}
 use Rattle.std.specs.Ordering.{is_lt}
 use Rattle.rv_flatten.specs.declared.kept.Comparison.{Comparison}
 use Rattle.rv_flatten.proofs.SortedPlaces.{same_by, order_by, order_total, are_sorted}

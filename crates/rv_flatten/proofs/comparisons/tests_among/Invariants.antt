@@ -1,7 +1,6 @@
 use Rattle.std.proofs.Common.{◌≡◌, ◌++◌, map, flat_map, drop}
 use Rattle.rv_instances.specs.Timed.{operator_listed}
-use Rattle.rv_flatten.specs.NodeReaders.{scope_read}
-use Rattle.rv_flatten.specs.Compared.{is_told_test, own_test}
+use Rattle.rv_flatten.specs.{NodeReaders.scope_read, Compared.is_told_test, Compared.own_test}
 use Rattle.rv_flatten.proofs.comparisons.tests_among.Given as goal
 
 abbrev pub invariant-loop-one : goal.invariant-loop-one

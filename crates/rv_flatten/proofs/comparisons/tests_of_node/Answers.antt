@@ -1,7 +1,6 @@
 use Rattle.std.proofs.Common.{◌≡◌, ◌∙◌, ap, List, map, flat_map, IfOk, subst}
 use Rattle.rv_instances.specs.Timed.{operator_listed}
-use Rattle.rv_flatten.specs.declared.comparisons.Tested.{Tested}
-use Rattle.rv_flatten.specs.Compared.{is_told_test, own_test}
+use Rattle.rv_flatten.specs.{declared.comparisons.Tested.Tested, Compared.is_told_test, Compared.own_test}
 use Rattle.rv_flatten.proofs.comparisons.tests_of_node.Goals as goal
 
 pub returns : goal.returns

@@ -2,8 +2,7 @@ use Rattle.std.proofs.Common.{◌≡◌, ◌<◌, ◌≤◌, length, get_or, sym
 use Rattle.rv_tree.specs.Tree.{node_tree, program_tree}
 use Rattle.rv_types.specs.declared.reading_clocks.NodeClocks.{NodeClocks}
 use Rattle.rv_flatten.specs.Compared.{told_tests_in}
-use Rattle.rv_flatten.proofs.ClockedNodes.{clocked_once, each_node, one_more}
-use Rattle.rv_flatten.proofs.ToldTests.{nodes_told}
+use Rattle.rv_flatten.proofs.{ClockedNodes.clocked_once, ClockedNodes.each_node, ClockedNodes.one_more, ToldTests.nodes_told}
 use Rattle.rv_flatten.proofs.comparisons.tests_of_nodes.Goals as goal
 
 pub loop-clocks-preserved : goal.loop-clocks-preserved

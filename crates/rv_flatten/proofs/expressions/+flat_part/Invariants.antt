@@ -1,6 +1,5 @@
 use Rattle.std.proofs.Common.{◌≡◌, ◌+◌, ◌*◌, max, map, take, drop}
-use Rattle.rv_tree.specs.declared.tree.Expr.{size-Expr}
-use Rattle.rv_tree.specs.Tree.{tree_of, trees}
+use Rattle.rv_tree.specs.{declared.tree.Expr.size-Expr, Tree.tree_of, Tree.trees}
 use Rattle.rv_flat.specs.RawTree.{raw_tree}
 use Rattle.rv_flatten.specs.Tables.{tree_read, trues_read}
 use Rattle.rv_flatten.proofs.expressions.+flat_part.Given as goal

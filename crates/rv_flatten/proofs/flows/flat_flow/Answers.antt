@@ -1,10 +1,8 @@
 use Rattle.std.proofs.Common.{◌<◌, [], length, Some, sym, ◌∙◌, ap, subst, arith}
-use Rattle.std.proofs.lemmas.List.{length-map, get_or-map}
-use Rattle.std.proofs.lemmas.Option.{get_or_from_slice_get}
+use Rattle.std.proofs.{lemmas.List.length-map, lemmas.List.get_or-map, lemmas.Option.get_or_from_slice_get}
 use Rattle.rv_base.specs.declared.value.Place.{Place}
 use Rattle.rv_types.specs.Needs.{Gives}
-use Rattle.rv_instances.specs.Flowing.{place_at}
-use Rattle.rv_instances.specs.Layouts.{all_places}
+use Rattle.rv_instances.specs.{Flowing.place_at, Layouts.all_places}
 use Rattle.rv_flatten.specs.Building.{numbers_of, program_given, main_given}
 use Rattle.rv_flatten.proofs.MadeFlows.{its_giver, flows_size, its_kind}
 use Rattle.rv_flatten.proofs.flows.flat_flow.Goals as goal

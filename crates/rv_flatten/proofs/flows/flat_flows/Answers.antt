@@ -1,5 +1,4 @@
-use Rattle.std.proofs.Common.{refl, arith}
-use Rattle.std.proofs.lemmas.List.{length-map}
+use Rattle.std.proofs.{Common.refl, Common.arith, lemmas.List.length-map}
 use Rattle.rv_base.specs.declared.value.Place.{Place}
 use Rattle.rv_types.specs.Lists.{sites_of}
 use Rattle.rv_flatten.specs.Building.{numbers_of, program_given, main_given}

@@ -1,8 +1,6 @@
 use Rattle.std.proofs.Common.{◌≡◌, ◌∙◌, ap, map, slice_index_or, subst, sym}
 use Rattle.rv_types.specs.Lists.{AreTicks, sites_of}
-use Rattle.rv_instances.specs.Expanded.{program_of, main_of}
-use Rattle.rv_instances.specs.Flowing.{place_at}
-use Rattle.rv_instances.specs.Layouts.{all_places}
+use Rattle.rv_instances.specs.{Expanded.program_of, Expanded.main_of, Flowing.place_at, Layouts.all_places}
 use Rattle.rv_flat.specs.Facts.{numbers_among}
 use Rattle.rv_flatten.specs.Frames.{IsNumbering}
 use Rattle.rv_flatten.proofs.FoundNumbers.{tick_flows_numbered}

@@ -1,9 +1,7 @@
 use Rattle.std.proofs.Common.{length, sym, ap, subst, arith}
 use Rattle.rv_types.specs.Lists.{sites_of}
-use Rattle.rv_instances.specs.Expanded.{program_of, main_of}
-use Rattle.rv_instances.specs.Layouts.{all_places}
-use Rattle.rv_flatten.specs.Kept.{AreKept}
-use Rattle.rv_flatten.specs.Positions.{AreNumbersOf}
+use Rattle.rv_instances.specs.{Expanded.program_of, Expanded.main_of, Layouts.all_places}
+use Rattle.rv_flatten.specs.{Kept.AreKept, Positions.AreNumbersOf}
 use Rattle.rv_flatten.proofs.FoundNumbers.{ticks_numbered, memories_numbered}
 use Rattle.rv_flatten.proofs.found.numbered.Goals as goal
 

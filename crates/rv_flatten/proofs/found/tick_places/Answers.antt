@@ -1,8 +1,6 @@
-use Rattle.std.proofs.Common.{ℕ, ◌<◌, List, length, sym, ◌∙◌, ap, subst}
-use Rattle.std.proofs.lemmas.List.{length-map}
+use Rattle.std.proofs.{Common.ℕ, Common.◌<◌, Common.List, Common.length, Common.sym, Common.◌∙◌, Common.ap, Common.subst, lemmas.List.length-map}
 use Rattle.std.specs.List.{Contains}
-use Rattle.rv_instances.specs.Expanded.{program_of}
-use Rattle.rv_instances.specs.Flowing.{all_flows, flow_sites}
+use Rattle.rv_instances.specs.{Expanded.program_of, Flowing.all_flows, Flowing.flow_sites}
 use Rattle.rv_flatten.proofs.found.tick_places.Goals as goal
 
 pub places_of-requires-clause-numbers : goal.places_of-requires-clause-numbers

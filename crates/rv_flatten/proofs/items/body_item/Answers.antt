@@ -1,11 +1,8 @@
 use Rattle.std.proofs.Common.{sym, ◌∙◌, ap, subst}
-use Rattle.rv_instances.specs.Expanded.{program_of, main_of}
-use Rattle.rv_instances.specs.Layouts.{IsLayout, node_at}
+use Rattle.rv_instances.specs.{Expanded.program_of, Expanded.main_of, Layouts.IsLayout, Layouts.node_at}
 use Rattle.rv_types.specs.Scopes.{node_scope}
-use Rattle.rv_flatten.specs.declared.frame.Frame.{Frame}
-use Rattle.rv_flatten.specs.Tables.{clock_read}
-use Rattle.rv_flatten.proofs.ReadItems.{body_instance, body_within}
-use Rattle.rv_flatten.proofs.MadeItems.{body_made}
+use Rattle.rv_flatten.specs.{declared.frame.Frame.Frame, Tables.clock_read}
+use Rattle.rv_flatten.proofs.{ReadItems.body_instance, ReadItems.body_within, MadeItems.body_made}
 use Rattle.rv_flatten.proofs.items.body_item.Goals as goal
 
 pub new-reader-requires-clause-within : goal.new-reader-requires-clause-within

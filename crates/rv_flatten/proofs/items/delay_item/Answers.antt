@@ -1,13 +1,10 @@
 use Rattle.std.proofs.Common.{◌≡◌, sym, ◌∙◌, ap, subst}
 use Rattle.rv_tree.specs.Tree.{tree_of}
-use Rattle.rv_types.specs.Clocks.{pace}
-use Rattle.rv_instances.specs.Expanded.{program_of, main_of}
-use Rattle.rv_instances.specs.Layouts.{IsLayout, IsNumberOf, IsWithin, node_at}
-use Rattle.rv_instances.specs.NumberedNeeds.{clock_number, clock_of_expression, node_read, numbers_of}
+use Rattle.rv_types.specs.{Clocks.pace, Scopes.node_scope}
+use Rattle.rv_instances.specs.{Expanded.program_of, Expanded.main_of, Layouts.IsLayout, Layouts.IsNumberOf, Layouts.IsWithin, Layouts.node_at}
+use Rattle.rv_instances.specs.{NumberedNeeds.clock_number, NumberedNeeds.clock_of_expression, NumberedNeeds.node_read, NumberedNeeds.numbers_of}
 use Rattle.rv_instances.proofs.ClockBounds.{low_within, taken_low, pace_low}
-use Rattle.rv_types.specs.Scopes.{node_scope}
-use Rattle.rv_flatten.specs.declared.frame.Frame.{Frame}
-use Rattle.rv_flatten.specs.Tables.{clock_read}
+use Rattle.rv_flatten.specs.{declared.frame.Frame.Frame, Tables.clock_read}
 use Rattle.rv_flatten.proofs.MadeItems.{delay_made}
 use Rattle.rv_flatten.proofs.items.delay_item.Goals as goal
 

@@ -1,11 +1,9 @@
 use Rattle.std.proofs.Common.{sym, ◌∙◌, ap, subst}
 use Rattle.rv_tree.specs.Tree.{assertion_tree}
-use Rattle.rv_instances.specs.Expanded.{program_of, main_of}
-use Rattle.rv_instances.specs.Layouts.{IsLayout, IsNumberOf, node_at}
+use Rattle.rv_instances.specs.{Expanded.program_of, Expanded.main_of, Layouts.IsLayout, Layouts.IsNumberOf, Layouts.node_at}
 use Rattle.rv_types.specs.Scopes.{node_scope}
-use Rattle.rv_flatten.specs.declared.frame.Frame.{Frame}
+use Rattle.rv_flatten.specs.{declared.frame.Frame.Frame, Tables.clock_read}
 use Rattle.rv_flat.specs.RawTree.{Node, If, raw_tree}
-use Rattle.rv_flatten.specs.Tables.{clock_read}
 use Rattle.rv_flatten.proofs.MadeItems.{assertion_made}
 use Rattle.rv_flatten.proofs.items.flat_assertion.Goals as goal
 

@@ -1,6 +1,5 @@
 use Rattle.std.proofs.Common.{subst}
-use Rattle.rv_instances.specs.Expanded.{program_of}
-use Rattle.rv_instances.specs.Givers.{StandsFor}
+use Rattle.rv_instances.specs.{Expanded.program_of, Givers.StandsFor}
 use Rattle.rv_flatten.proofs.items.giver_item.Goals as goal
 
 pub returns-in-Input : goal.returns-in-Input

@@ -1,14 +1,9 @@
 use Rattle.std.proofs.Common.{◌+◌, arith, sym, ◌∙◌, ap, subst}
-use Rattle.rv_instances.specs.Expanded.{program_of, main_of}
-use Rattle.rv_instances.specs.Layouts.{IsLayout, node_at}
+use Rattle.rv_instances.specs.{Expanded.program_of, Expanded.main_of, Layouts.IsLayout, Layouts.node_at, NumberedNeeds.numbers_of}
 use Rattle.rv_types.specs.Scopes.{node_scope}
-use Rattle.rv_flatten.specs.declared.frame.Frame.{Frame}
-use Rattle.rv_instances.specs.NumberedNeeds.{numbers_of}
+use Rattle.rv_flatten.specs.{declared.frame.Frame.Frame, Readings.unplaced, Tables.flow_read, Tables.clock_read}
 use Rattle.rv_flat.specs.RawTree.{Flow, raw_tree}
-use Rattle.rv_flatten.specs.Readings.{unplaced}
-use Rattle.rv_flatten.specs.Tables.{flow_read, clock_read}
-use Rattle.rv_flatten.proofs.ReadItems.{output_instance, output_within, output_few}
-use Rattle.rv_flatten.proofs.MadeItems.{output_made}
+use Rattle.rv_flatten.proofs.{ReadItems.output_instance, ReadItems.output_within, ReadItems.output_few, MadeItems.output_made}
 use Rattle.rv_flatten.proofs.items.output_item.Goals as goal
 
 pub new-reader-requires-clause-within : goal.new-reader-requires-clause-within

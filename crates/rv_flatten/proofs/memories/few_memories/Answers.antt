@@ -1,5 +1,4 @@
-use Rattle.std.proofs.Common.{arith, map}
-use Rattle.std.proofs.lemmas.List.{length-map}
+use Rattle.std.proofs.{Common.arith, Common.map, lemmas.List.length-map}
 use Rattle.rv_flatten.specs.Kept.{kept_memory}
 use Rattle.rv_flatten.proofs.FewMemories.{few_memories}
 use Rattle.rv_flatten.proofs.memories.few_memories.Goals as goal

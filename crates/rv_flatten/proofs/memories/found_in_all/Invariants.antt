@@ -1,6 +1,5 @@
 use Rattle.std.proofs.Common.{◌≡◌, map}
-use Rattle.rv_flatten.specs.NodeReaders.{lists_to}
-use Rattle.rv_flatten.specs.Remembered.{read_seen, kept_seen, kept_in}
+use Rattle.rv_flatten.specs.{NodeReaders.lists_to, Remembered.read_seen, Remembered.kept_seen, Remembered.kept_in}
 use Rattle.rv_flatten.proofs.memories.found_in_all.Given as goal
 
 abbrev pub invariant-loop-number : goal.invariant-loop-number

@@ -1,8 +1,7 @@
 use Rattle.std.proofs.Common.{◌≡◌, ◌∙◌, ap, map, length}
 use Rattle.rv_tree.specs.Tree.{program_tree}
 use Rattle.rv_types.specs.Instances.{name_at}
-use Rattle.rv_flatten.specs.NodeReaders.{lists_to}
-use Rattle.rv_flatten.specs.Remembered.{read_seen, reads_in, kept_seen, kept_in}
+use Rattle.rv_flatten.specs.{NodeReaders.lists_to, Remembered.read_seen, Remembered.reads_in, Remembered.kept_seen, Remembered.kept_in}
 use Rattle.rv_flatten.proofs.KeptMemories.{are_kept}
 use Rattle.rv_flatten.proofs.memories.kept_of.Goals as goal
 

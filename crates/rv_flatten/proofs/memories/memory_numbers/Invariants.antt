@@ -1,9 +1,6 @@
 use Rattle.std.proofs.Common.{List}
-use Rattle.rv_tree.specs.Tree.{ProgramTree}
-use Rattle.rv_tree.specs.Places.{Identifier}
-use Rattle.rv_instances.specs.declared.answer.Instance.{Instance}
-use Rattle.rv_instances.specs.Callees.{callee_in}
-use Rattle.rv_instances.specs.Expanded.{IsExpanded}
+use Rattle.rv_tree.specs.{Tree.ProgramTree, Places.Identifier}
+use Rattle.rv_instances.specs.{declared.answer.Instance.Instance, Callees.callee_in, Expanded.IsExpanded}
 use Rattle.rv_flatten.specs.Kept.{AreKept}
 use Rattle.rv_flatten.proofs.MemoryNumbers.{AreTold}
 use Rattle.rv_flatten.proofs.memories.memory_numbers.Given as goal

@@ -1,13 +1,10 @@
 use Rattle.std.proofs.Common.{◌≡◌, List, map, ◌∙◌, ap}
-use Rattle.rv_tree.specs.Delays.{node_delays}
-use Rattle.rv_tree.specs.Tree.{node_tree}
-use Rattle.rv_types.specs.Delayed.{delayed_kinds}
-use Rattle.rv_types.specs.Scopes.{node_scope}
+use Rattle.rv_tree.specs.{Delays.node_delays, Tree.node_tree}
+use Rattle.rv_types.specs.{Delayed.delayed_kinds, Scopes.node_scope}
 use Rattle.rv_instances.specs.Timed.{delay_listed, delays_told}
 use Rattle.rv_instances.proofs.Lists.{if_ok}
-use Rattle.rv_flatten.specs.declared.memories.MemoryRead.{MemoryRead}
-use Rattle.rv_flatten.specs.NodeReaders.{node_read, scope_read}
 use Rattle.rv_flatten.specs.Remembered.{joined, read_seen, reads_in}
+use Rattle.rv_flatten.specs.{declared.memories.MemoryRead.MemoryRead, NodeReaders.node_read, NodeReaders.scope_read}
 use Rattle.rv_flatten.proofs.JoinedReads.{joined_reads}
 use Rattle.rv_flatten.proofs.memories.reads_of_node.Goals as goal
 

@@ -2,8 +2,7 @@ use Rattle.std.proofs.Common.{◌≡◌, ◌<◌, ◌≤◌, ◌∷◌, [], List
 use Rattle.std.proofs.lemmas.List.{map-append}
 use Rattle.rv_tree.specs.Tree.{node_tree, program_tree}
 use Rattle.rv_types.specs.declared.reading_clocks.NodeClocks.{NodeClocks}
-use Rattle.rv_flatten.specs.declared.memories.MemoryRead.{MemoryRead}
-use Rattle.rv_flatten.specs.Remembered.{read_seen, reads_in}
+use Rattle.rv_flatten.specs.{declared.memories.MemoryRead.MemoryRead, Remembered.read_seen, Remembered.reads_in}
 use Rattle.rv_flatten.proofs.ClockedNodes.{clocked_once, each_node, one_more}
 use Rattle.rv_flatten.proofs.memories.reads_of_nodes.Goals as goal
 

@@ -1,7 +1,6 @@
 use Rattle.std.proofs.Common.{◌≡◌, ◌++◌, map, drop}
 use Rattle.rv_instances.specs.Timed.{delay_listed}
-use Rattle.rv_flatten.specs.NodeReaders.{node_read}
-use Rattle.rv_flatten.specs.Remembered.{joined, read_seen}
+use Rattle.rv_flatten.specs.{NodeReaders.node_read, Remembered.joined, Remembered.read_seen}
 use Rattle.rv_flatten.proofs.memories.together.Given as goal
 
 abbrev pub invariant-loop-number : goal.invariant-loop-number

@@ -1,8 +1,7 @@
 use Rattle.std.proofs.Common.{◌≡◌, ◌<◌, ◌≤◌, ◌∷◌, [], length, map, get_or, sym, ◌∙◌, ap, subst}
 use Rattle.std.proofs.lemmas.List.{map-append}
 use Rattle.rv_tree.specs.Tree.{node_tree, program_tree}
-use Rattle.rv_types.specs.declared.reading_clocks.NodeClocks.{NodeClocks}
-use Rattle.rv_types.specs.Scopes.{node_scope}
+use Rattle.rv_types.specs.{declared.reading_clocks.NodeClocks.NodeClocks, Scopes.node_scope}
 use Rattle.rv_flatten.specs.NodeReaders.{scope_by}
 use Rattle.rv_flatten.proofs.ClockedNodes.{clocked_once, each_node, one_more}
 use Rattle.rv_flatten.proofs.node_reader.own_tables.Goals as goal

@@ -1,7 +1,6 @@
 use Rattle.std.proofs.Common.{◌≡◌, map, take}
 use Rattle.rv_tree.specs.Tree.{program_tree, node_tree}
-use Rattle.rv_types.specs.declared.reading_clocks.NodeClocks.{NodeClocks}
-use Rattle.rv_types.specs.Scopes.{node_scope}
+use Rattle.rv_types.specs.{declared.reading_clocks.NodeClocks.NodeClocks, Scopes.node_scope}
 use Rattle.rv_flatten.specs.NodeReaders.{scope_by}
 use Rattle.rv_flatten.proofs.node_reader.own_tables.Given as goal
 

@@ -1,11 +1,8 @@
-use Rattle.std.proofs.Common.{◌≡◌, ◌+◌, replicate, ◌∙◌, ap, arith}
-use Rattle.std.proofs.lemmas.Result.{IfOk-weaker}
+use Rattle.std.proofs.{Common.◌≡◌, Common.◌+◌, Common.replicate, Common.◌∙◌, Common.ap, Common.arith, lemmas.Result.IfOk-weaker}
 use Rattle.rv_tree.specs.Places.{index_of}
-use Rattle.rv_instances.specs.Flowing.{place_at}
-use Rattle.rv_instances.specs.Layouts.{all_places}
+use Rattle.rv_instances.specs.{Flowing.place_at, Layouts.all_places}
 use Rattle.rv_flatten.specs.Positions.{told}
-use Rattle.rv_flatten.proofs.FlowTotals.{few_flows}
-use Rattle.rv_flatten.proofs.Standings.{stands_at}
+use Rattle.rv_flatten.proofs.{FlowTotals.few_flows, Standings.stands_at}
 use Rattle.rv_flatten.proofs.positions.positions.Goals as goal
 
 pub returns : goal.returns

@@ -1,5 +1,4 @@
-use Rattle.std.proofs.Common.{◌+◌, get_or, take, refl, sym, ◌∙◌, ap, arith}
-use Rattle.std.proofs.lemmas.List.{take_more}
+use Rattle.std.proofs.{Common.◌+◌, Common.get_or, Common.take, Common.refl, Common.sym, Common.◌∙◌, Common.ap, Common.arith, lemmas.List.take_more}
 use Rattle.rv_flatten.specs.Positions.{way_from}
 use Rattle.rv_flatten.proofs.PlaceWalks.{way_back, way_more}
 use Rattle.rv_flatten.proofs.positions.turn.Goals as goal

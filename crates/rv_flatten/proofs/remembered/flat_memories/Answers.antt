@@ -1,12 +1,9 @@
 use Rattle.std.proofs.Common.{◌≡◌, ◌∷◌, [], List, map, get_or, sym, ◌∙◌, ap, subst}
 use Rattle.std.proofs.lemmas.List.{map-append, take_all}
 use Rattle.std.specs.List.{Contains}
-use Rattle.rv_flat.specs.declared.parts.FlatMemory.{FlatMemory}
-use Rattle.rv_flatten.specs.Building.{IsRemembered, main_given, numbers_of, program_given}
-use Rattle.rv_flat.specs.Systems.{memory_of}
-use Rattle.rv_flatten.specs.Kept.{kept_memory}
-use Rattle.rv_flatten.proofs.ClockedNodes.{one_more}
-use Rattle.rv_flatten.proofs.KeptParts.{and_one_more}
+use Rattle.rv_flat.specs.{declared.parts.FlatMemory.FlatMemory, Systems.memory_of}
+use Rattle.rv_flatten.specs.{Building.IsRemembered, Building.main_given, Building.numbers_of, Building.program_given, Kept.kept_memory}
+use Rattle.rv_flatten.proofs.{ClockedNodes.one_more, KeptParts.and_one_more}
 use Rattle.rv_types.proofs.Members.{nothing_in}
 use Rattle.rv_base.proofs.Lists.{contains_got}
 use Rattle.rv_flatten.proofs.remembered.flat_memories.Goals as goal

@@ -1,9 +1,7 @@
 use Rattle.std.proofs.Common.{◌≡◌, map, take}
 use Rattle.std.specs.List.{Contains}
-use Rattle.rv_flat.specs.declared.parts.FlatMemory.{FlatMemory}
-use Rattle.rv_flatten.specs.Building.{IsRemembered, main_given, numbers_of, program_given}
-use Rattle.rv_flat.specs.Systems.{memory_of}
-use Rattle.rv_flatten.specs.Kept.{kept_memory}
+use Rattle.rv_flat.specs.{declared.parts.FlatMemory.FlatMemory, Systems.memory_of}
+use Rattle.rv_flatten.specs.{Building.IsRemembered, Building.main_given, Building.numbers_of, Building.program_given, Kept.kept_memory}
 use Rattle.rv_flatten.proofs.remembered.flat_memories.Given as goal
 
 abbrev pub invariant-loop-kept : goal.invariant-loop-kept

@@ -1,6 +1,5 @@
 use Rattle.std.proofs.Common.{rules, ℕ, ◌<◌, ◌++◌, get_or, length, flat_map, refl, ap, ◌∙◌, arith, SFits}
-use Rattle.std.proofs.lemmas.Int.{to_z-of_z}
-use Rattle.std.proofs.lemmas.List.{get_or_default}
+use Rattle.std.proofs.{lemmas.Int.to_z-of_z, lemmas.List.get_or_default}
 use Rattle.std.specs.Int.{w128}
 use Rattle.rv_flatten.specs.Literals.{around, around_literal}
 use Rattle.rv_flatten.proofs.Gathered.{gathered_more, gathered_all}

@@ -1,7 +1,6 @@
 use Rattle.std.proofs.Common.{◌<◌, ◌++◌, get_or, length, flat_map, false, refl, arith}
 use Rattle.std.proofs.lemmas.List.{get_or_default}
-use Rattle.rv_base.specs.declared.value.Value.{Value}
-use Rattle.rv_base.specs.declared.value.Value.TheVariants.{Flag}
+use Rattle.rv_base.specs.{declared.value.Value.Value, declared.value.Value.TheVariants.Flag}
 use Rattle.rv_flatten.specs.Literals.{around_value}
 use Rattle.rv_flatten.proofs.Gathered.{gathered_more, gathered_all}
 use Rattle.rv_flatten.proofs.thresholds.spread_values.Goals as goal

@@ -1,5 +1,4 @@
-use Rattle.std.proofs.Common.{◌∙◌, subst}
-use Rattle.std.proofs.lemmas.Result.{IfOk-weaker}
+use Rattle.std.proofs.{Common.◌∙◌, Common.subst, lemmas.Result.IfOk-weaker}
 use Rattle.rv_tree.specs.Tree.{program_tree}
 use Rattle.rv_flatten.specs.Literals.{IsDistinctOf}
 use Rattle.rv_flat.specs.Thresholds.{AreThresholds}

@@ -1,7 +1,6 @@
 use Rattle.std.proofs.Common.{◌∙◌, subst}
 use Rattle.std.specs.List.{Contains}
-use Rattle.rv_instances.specs.Expanded.{program_of, main_of}
-use Rattle.rv_instances.specs.NumberedNeeds.{node_read, numbers_of}
+use Rattle.rv_instances.specs.{Expanded.program_of, Expanded.main_of, NumberedNeeds.node_read, NumberedNeeds.numbers_of}
 use Rattle.rv_flatten.proofs.MarkedTicks.{arrow_within}
 use Rattle.rv_flatten.proofs.ticks.add_instance.Goals as goal
 

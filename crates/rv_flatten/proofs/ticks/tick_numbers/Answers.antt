@@ -1,5 +1,4 @@
-use Rattle.std.proofs.Common.{◌<◌, ◌^◌, replicate, sym, ◌∙◌, ap, subst}
-use Rattle.std.proofs.lemmas.Result.{IfOk-weaker}
+use Rattle.std.proofs.{Common.◌<◌, Common.◌^◌, Common.replicate, Common.sym, Common.◌∙◌, Common.ap, Common.subst, lemmas.Result.IfOk-weaker}
 use Rattle.rv_flatten.specs.Positions.{told}
 use Rattle.rv_flatten.proofs.Standings.{ticks_stand}
 use Rattle.rv_flatten.proofs.ticks.tick_numbers.Goals as goal

@@ -1,6 +1,5 @@
 use Rattle.std.proofs.Common.{◌<◌, ◌^◌, false, length, replicate, sym, ◌∙◌, ap, subst}
-use Rattle.std.proofs.lemmas.List.{length-replicate}
-use Rattle.std.proofs.lemmas.Result.{IfOk-weaker}
+use Rattle.std.proofs.{lemmas.List.length-replicate, lemmas.Result.IfOk-weaker}
 use Rattle.rv_instances.specs.Expanded.{program_of, main_of}
 use Rattle.rv_flatten.specs.Arrows.{marked_from, with_marks}
 use Rattle.rv_flatten.proofs.MarkedTicks.{AreNumbered, marks_size, ticks_within, are_ticks}

@@ -1,8 +1,7 @@
 use Rattle.std.proofs.Common.{◌≡◌, ◌++◌, map, drop}
 use Rattle.rv_types.specs.Lists.{with_copies}
-use Rattle.rv_flatten.specs.Kept.{kept_memory}
+use Rattle.rv_flatten.specs.{Kept.kept_memory, VariableLists.kept_variables}
 use Rattle.rv_flat.specs.Lists.{variable_of}
-use Rattle.rv_flatten.specs.VariableLists.{kept_variables}
 use Rattle.rv_flatten.proofs.variables.add_memories.Given as goal
 
 abbrev pub invariant-loop-memory : goal.invariant-loop-memory

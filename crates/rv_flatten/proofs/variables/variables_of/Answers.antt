@@ -1,5 +1,4 @@
-use Rattle.std.proofs.Common.{map, ◌∙◌}
-use Rattle.std.proofs.lemmas.Result.{IfOk-weaker}
+use Rattle.std.proofs.{Common.map, Common.◌∙◌, lemmas.Result.IfOk-weaker}
 use Rattle.rv_types.specs.Lists.{sites_of}
 use Rattle.rv_flatten.specs.Kept.{kept_memory, found_comparison}
 use Rattle.rv_flatten.proofs.VariableParts.{list_same, ticks_listed}

@@ -1,6 +1,5 @@
-use Rattle.std.proofs.Common.{◌∙◌, rules, FitsSigned, to_z, of_z}
+use Rattle.std.proofs.{Common.◌∙◌, Common.rules, Common.FitsSigned, Common.to_z, Common.of_z, lemmas.Int.to_z-of_z}
 use Rattle.std.specs.Int.{w128}
-use Rattle.std.proofs.lemmas.Int.{to_z-of_z}
 use Rattle.rv_meaning.specs.Meaning.{number as whole_number}
 use Rattle.rv_forms.proofs.Ranks.{constant_made}
 use Rattle.rv_forms.proofs.constants.constant_term.Goals as goal

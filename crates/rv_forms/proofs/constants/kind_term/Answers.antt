@@ -1,8 +1,7 @@
 use Rattle.std.proofs.Common.{List, sym, subst, IfOk}
 use Rattle.rv_types.specs.declared.typed.Kind.{Kind}
 use Rattle.rv_diagram.specs.declared.Triple.{Triple}
-use Rattle.rv_terms.specs.declared.parted.Term.{Term}
-use Rattle.rv_terms.specs.Parts.{IsTermOf}
+use Rattle.rv_terms.specs.{declared.parted.Term.Term, Parts.IsTermOf}
 use Rattle.rv_forms.specs.Columns.{kind_form}
 use Rattle.rv_forms.proofs.constants.kind_term.Goals as goal
 

@@ -1,9 +1,8 @@
 use Rattle.std.proofs.Common.{◌≡◌, pos, [], ◌∷◌, ◌++◌, ◌∙◌, sym, arith, rules, FitsSigned}
-use Rattle.std.specs.Int.{w128}
 use Rattle.std.proofs.lemmas.Int.{to_z-of_z}
+use Rattle.std.specs.Int.{w128}
 use Rattle.rv_rows.specs.Arithmetic.{unit}
-use Rattle.rv_forms.proofs.Ranks.{unit_at}
-use Rattle.rv_forms.proofs.Taken.{taken_more, taken_whole}
+use Rattle.rv_forms.proofs.{Ranks.unit_at, Taken.taken_more, Taken.taken_whole}
 use Rattle.rv_control.proofs.Bounded.{length-unit}
 use Rattle.rv_forms.proofs.constants.unit_of.Goals as goal
 

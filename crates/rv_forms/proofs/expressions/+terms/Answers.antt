@@ -1,39 +1,23 @@
 use Rattle.std.proofs.Common.{◌≡◌, ◌∙◌, ℕ, ℤ, cond, true, ◌&&◌, List, [], length, ap, subst, sym, arith, rules, to_z, of_z, FitsSigned}
-use Rattle.std.specs.Prelude.{nat_abs, nat_le}
-use Rattle.std.specs.Int.{w128}
-use Rattle.std.proofs.lemmas.Bool.{and_parts}
-use Rattle.std.proofs.lemmas.Int.{to_z-of_z}
-use Rattle.std.proofs.lemmas.List.{length-map}
+use Rattle.std.proofs.{lemmas.Bool.and_parts, lemmas.Int.to_z-of_z, lemmas.List.length-map}
+use Rattle.std.specs.{Prelude.nat_abs, Prelude.nat_le, Int.w128}
 use Rattle.rv_base.specs.Limits.{heaviest}
 use Rattle.rv_rows.specs.Forms.{CanScale}
-use Rattle.rv_diagram.specs.Nodes.{Diagrams, value_of}
-use Rattle.rv_diagram.specs.Several.{ref_at}
-use Rattle.rv_terms.specs.declared.parted.Part.{Part}
-use Rattle.rv_terms.specs.Parts.{form_at, IsTerm}
-use Rattle.rv_agreement.specs.Agreement.{IsNamed}
-use Rattle.rv_agreement.specs.Trees.{FlatTree, Node, Binary, Scale, If, When, Item}
-use Rattle.rv_flat.specs.declared.parts.FlatExpr.{FlatExpr}
-use Rattle.rv_flat.specs.Facts.{is_light}
-use Rattle.rv_flat.specs.Inlined.{size, table_of}
-use Rattle.rv_flat.specs.Systems.{kept_of}
-use Rattle.rv_flat.specs.Tame.{IsOver}
+use Rattle.rv_diagram.specs.{Nodes.Diagrams, Nodes.value_of, Several.ref_at}
+use Rattle.rv_terms.specs.{declared.parted.Part.Part, Parts.form_at, Parts.IsTerm}
+use Rattle.rv_agreement.specs.{Agreement.IsNamed, Trees.FlatTree, Trees.Node, Trees.Binary, Trees.Scale, Trees.If, Trees.When, Trees.Item}
+use Rattle.rv_flat.specs.{declared.parts.FlatExpr.FlatExpr, Facts.is_light, Inlined.size, Inlined.table_of, Systems.kept_of, Tame.IsOver}
 use Rattle.rv_control.proofs.Weighed.{light_weight}
 use Rattle.rv_symbolic.specs.Growing.{Extends}
 use Rattle.rv_symbolic.proofs.Extending.{extends_refl, extends_trans, grows_extends, map_ok}
-use Rattle.rv_bits.specs.Reads.{tree_in}
-use Rattle.rv_bits.specs.Shown.{clock_bit}
-use Rattle.rv_bits.proofs.Keeping.{memory_item_at, both_ok, on_ok}
-use Rattle.rv_bits.proofs.Making.{any_ref}
-use Rattle.rv_bits.proofs.Trees.{tree_if, tree_when}
+use Rattle.rv_bits.specs.{Reads.tree_in, Shown.clock_bit}
+use Rattle.rv_bits.proofs.{Keeping.memory_item_at, Keeping.both_ok, Keeping.on_ok, Making.any_ref, Trees.tree_if, Trees.tree_when, Fitting.named_more}
 use Rattle.rv_forms.specs.Terms.{columns_of, weights_of, weight_in, parts_at, IsWithin, GivesTerm, ReadsAs, IsAfterAs, AreKnown, IsAfterRead}
-use Rattle.rv_forms.proofs.Bounds.{form_bounded, can_scale, light_parts}
-use Rattle.rv_forms.proofs.Flowing.{past_list}
-use Rattle.rv_forms.proofs.Kept.{width_first, own_width, within_kept, ready_kept, ready_shown, ready_known, known_set}
-use Rattle.rv_forms.proofs.Shapes.{over_more, tree_binary, tree_scale}
-use Rattle.rv_forms.proofs.Showing.{reads_when, reads_if, reads_binary, reads_scale, reads_after, none_after}
 use Rattle.rv_forms.proofs.Steps.{constant_step, flow_step, memory_step, input_step, tick_step, not_step, most_step, operator_step, zero_here, few_read}
 use Rattle.rv_forms.proofs.Steps.{low_kept, light_within, made_term, multiple_as, ok_with, on_map}
-use Rattle.rv_bits.proofs.Fitting.{named_more}
+use Rattle.rv_forms.proofs.{Bounds.form_bounded, Bounds.can_scale, Bounds.light_parts, Flowing.past_list, Kept.width_first, Kept.own_width, Kept.within_kept}
+use Rattle.rv_forms.proofs.{Kept.ready_kept, Kept.ready_shown, Kept.ready_known, Kept.known_set, Shapes.over_more, Shapes.tree_binary, Shapes.tree_scale}
+use Rattle.rv_forms.proofs.{Showing.reads_when, Showing.reads_if, Showing.reads_binary, Showing.reads_scale, Showing.reads_after, Showing.none_after}
 use Rattle.rv_forms.proofs.expressions.+terms.Goals as goal
 
 -- LEAVES

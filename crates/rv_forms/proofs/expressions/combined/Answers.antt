@@ -2,16 +2,12 @@ use Rattle.std.proofs.Common.{◌≡◌, ◌∙◌, ◌*◌, negsuc, ap, sym, su
 use Rattle.std.specs.Prelude.{nat_abs}
 use Rattle.rv_base.specs.Limits.{heaviest}
 use Rattle.rv_tree.specs.declared.tree.Op.{Op}
-use Rattle.rv_rows.specs.Forms.{CanAdd}
-use Rattle.rv_rows.specs.Arithmetic.{form_sum, form_times}
+use Rattle.rv_rows.specs.{Forms.CanAdd, Arithmetic.form_sum, Arithmetic.form_times}
 use Rattle.rv_diagram.specs.Nodes.{Diagrams}
 use Rattle.rv_terms.specs.Parts.{form_at, term_width, IsTerm, IsTermOf}
 use Rattle.rv_control.proofs.Bounded.{IsBounded, times_bounded}
-use Rattle.rv_forms.specs.Columns.{combined_form}
-use Rattle.rv_forms.specs.Terms.{GivesTerm}
-use Rattle.rv_forms.proofs.Bounds.{form_bounded, can_add}
-use Rattle.rv_forms.proofs.Kept.{width_first, own_width}
-use Rattle.rv_forms.proofs.Steps.{made_term, combined_other, ok_with}
+use Rattle.rv_forms.specs.{Columns.combined_form, Terms.GivesTerm}
+use Rattle.rv_forms.proofs.{Bounds.form_bounded, Bounds.can_add, Kept.width_first, Kept.own_width, Steps.made_term, Steps.combined_other, Steps.ok_with}
 use Rattle.rv_forms.proofs.expressions.combined.Goals as goal
 
 negative_term : (c : goal.After-negative-in-Minus-1)

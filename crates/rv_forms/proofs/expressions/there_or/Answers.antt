@@ -3,8 +3,7 @@ use Rattle.rv_diagram.specs.Nodes.{value_of}
 use Rattle.rv_terms.specs.Parts.{form_at, IsTerm}
 use Rattle.rv_bits.specs.Shown.{clock_bit}
 use Rattle.rv_forms.specs.Terms.{GivesTerm}
-use Rattle.rv_forms.proofs.Kept.{width_first}
-use Rattle.rv_forms.proofs.Steps.{same_width, given_term, made_term, ok_with}
+use Rattle.rv_forms.proofs.{Kept.width_first, Steps.same_width, Steps.given_term, Steps.made_term, Steps.ok_with}
 use Rattle.rv_forms.proofs.expressions.there_or.Goals as goal
 
 pub choose-requires-clause-no : goal.choose-requires-clause-no

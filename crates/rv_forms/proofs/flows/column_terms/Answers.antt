@@ -1,12 +1,9 @@
 use Rattle.std.proofs.Common.{◌≡◌, ◌+◌, ◌<◌, ℕ, List, length, get_or, length-append, ◌∷◌, [], ◌∙◌, ap, sym, refl, subst, arith}
 use Rattle.rv_types.specs.declared.typed.Kind.TheVariants.{Bool}
 use Rattle.rv_diagram.specs.declared.Triple.{Triple}
-use Rattle.rv_terms.specs.declared.parted.Term.{Term}
-use Rattle.rv_terms.specs.Parts.{IsTermOf}
-use Rattle.rv_agreement.specs.Trees.{kind_at}
-use Rattle.rv_agreement.specs.Valuations.{rank}
-use Rattle.rv_forms.specs.Columns.{kind_form}
-use Rattle.rv_forms.specs.Terms.{parts_at}
+use Rattle.rv_terms.specs.{declared.parted.Term.Term, Parts.IsTermOf}
+use Rattle.rv_agreement.specs.{Trees.kind_at, Valuations.rank}
+use Rattle.rv_forms.specs.{Columns.kind_form, Terms.parts_at}
 use Rattle.rv_forms.proofs.Ranks.{rank_zero, rank_next, rank_within, columns_more}
 use Rattle.rv_forms.proofs.flows.column_terms.Goals as goal
 

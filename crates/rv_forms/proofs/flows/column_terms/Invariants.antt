@@ -1,10 +1,8 @@
 use Rattle.std.proofs.Common.{◌≡◌, ◌+◌, ◌<◌, ℕ, List, length}
 use Rattle.rv_diagram.specs.declared.Triple.{Triple}
 use Rattle.rv_terms.specs.Parts.{IsTermOf}
-use Rattle.rv_agreement.specs.Trees.{kind_at}
-use Rattle.rv_agreement.specs.Valuations.{rank}
-use Rattle.rv_forms.specs.Columns.{kind_form}
-use Rattle.rv_forms.specs.Terms.{parts_at}
+use Rattle.rv_agreement.specs.{Trees.kind_at, Valuations.rank}
+use Rattle.rv_forms.specs.{Columns.kind_form, Terms.parts_at}
 use Rattle.rv_forms.proofs.flows.column_terms.Given as goal
 
 abbrev pub invariant-loop-kind : goal.invariant-loop-kind

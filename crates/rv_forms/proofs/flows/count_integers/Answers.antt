@@ -1,6 +1,5 @@
 use Rattle.std.proofs.Common.{◌≡◌, ◌<◌, length, get_or, ◌∙◌, ap, sym, arith}
-use Rattle.rv_types.specs.declared.typed.Kind.TheVariants.{Bool}
-use Rattle.rv_types.specs.Variables.{is_integer}
+use Rattle.rv_types.specs.{declared.typed.Kind.TheVariants.Bool, Variables.is_integer}
 use Rattle.rv_agreement.specs.Valuations.{rank}
 use Rattle.rv_forms.proofs.Ranks.{rank_zero, rank_next, rank_all, rank_most}
 use Rattle.rv_base.proofs.Truths.{bit_most}

@@ -1,7 +1,6 @@
 use Rattle.std.proofs.Common.{◌≡◌, ◌+◌, List, map, ◌∙◌, ap, subst, arith}
 use Rattle.rv_types.specs.declared.typed.Kind.{Kind}
-use Rattle.rv_agreement.specs.Trees.{memory_kinds}
-use Rattle.rv_agreement.specs.Valuations.{whole_count}
+use Rattle.rv_agreement.specs.{Trees.memory_kinds, Valuations.whole_count}
 use Rattle.rv_flat.specs.FlatInstants.{system_of}
 use Rattle.rv_flat.proofs.SystemRuns.{kept_kinds}
 use Rattle.rv_forms.specs.Columns.{AreColumnTerms}

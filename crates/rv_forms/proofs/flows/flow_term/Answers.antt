@@ -1,9 +1,7 @@
-use Rattle.std.proofs.Common.{length, ap, arith}
-use Rattle.std.proofs.lemmas.List.{length-map}
+use Rattle.std.proofs.{Common.length, Common.ap, Common.arith, lemmas.List.length-map}
 use Rattle.rv_types.specs.Variables.{is_integer}
 use Rattle.rv_flat.specs.Systems.{flow_item}
-use Rattle.rv_forms.proofs.Flowing.{flow_low, flow_kind_is, other_flow}
-use Rattle.rv_forms.proofs.Steps.{zero_here}
+use Rattle.rv_forms.proofs.{Flowing.flow_low, Flowing.flow_kind_is, Flowing.other_flow, Steps.zero_here}
 use Rattle.rv_symbolic.proofs.Extending.{map_ok}
 use Rattle.rv_forms.proofs.flows.flow_term.Goals as goal
 

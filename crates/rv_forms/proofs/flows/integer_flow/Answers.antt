@@ -3,15 +3,10 @@ use Rattle.rv_rows.specs.Arithmetic.{constant_form}
 use Rattle.rv_terms.specs.Parts.{form_at}
 use Rattle.rv_flat.specs.FlatInstants.{system_of}
 use Rattle.rv_control.proofs.Bounded.{zero_bounded}
-use Rattle.rv_bits.specs.Reads.{tree_in}
-use Rattle.rv_bits.specs.Shown.{clock_bit}
-use Rattle.rv_bits.proofs.Fitting.{over_fits}
+use Rattle.rv_bits.specs.{Reads.tree_in, Shown.clock_bit}
+use Rattle.rv_bits.proofs.{Fitting.over_fits, Keeping.on_ok}
 use Rattle.rv_forms.specs.Terms.{columns_of, weight_in, GivesTerm}
-use Rattle.rv_forms.proofs.Bounds.{term_within}
-use Rattle.rv_forms.proofs.Flowing.{flow_fits, flow_light, whole_flow}
-use Rattle.rv_forms.proofs.Kept.{ready_kept}
-use Rattle.rv_forms.proofs.Steps.{few_read, zero_here}
-use Rattle.rv_bits.proofs.Keeping.{on_ok}
+use Rattle.rv_forms.proofs.{Bounds.term_within, Flowing.flow_fits, Flowing.flow_light, Flowing.whole_flow, Kept.ready_kept, Steps.few_read, Steps.zero_here}
 use Rattle.rv_symbolic.proofs.Extending.{map_ok}
 use Rattle.rv_forms.proofs.flows.integer_flow.Goals as goal
 

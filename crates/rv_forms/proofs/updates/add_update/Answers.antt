@@ -1,11 +1,6 @@
-use Rattle.std.proofs.Common.{◌≡◌, ◌∙◌, length, sym, subst}
-use Rattle.std.proofs.lemmas.List.{length-map}
-use Rattle.rv_agreement.specs.Agreement.{IsNamed}
-use Rattle.rv_agreement.specs.Trees.{kind_at, memory_kinds}
-use Rattle.rv_flat.specs.FlatInstants.{system_of}
-use Rattle.rv_flat.specs.Inlined.{table_of}
-use Rattle.rv_flat.specs.Systems.{flow_item}
-use Rattle.rv_flat.specs.Tame.{IsOver}
+use Rattle.std.proofs.{Common.◌≡◌, Common.◌∙◌, Common.length, Common.sym, Common.subst, lemmas.List.length-map}
+use Rattle.rv_agreement.specs.{Agreement.IsNamed, Trees.kind_at, Trees.memory_kinds}
+use Rattle.rv_flat.specs.{FlatInstants.system_of, Inlined.table_of, Systems.flow_item, Tame.IsOver}
 use Rattle.rv_bits.proofs.Fitting.{over_fits}
 use Rattle.rv_forms.proofs.Flowing.{memory_low, table_named, table_fits, table_light}
 use Rattle.rv_forms.proofs.updates.add_update.Goals as goal

@@ -1,10 +1,6 @@
-use Rattle.std.proofs.Common.{◌≡◌, ◌∙◌, length, ap, refl, arith, List}
-use Rattle.std.proofs.lemmas.List.{length-map}
-use Rattle.rv_agreement.specs.Trees.{memory_kinds}
-use Rattle.rv_agreement.specs.Valuations.{rank}
-use Rattle.rv_flat.specs.declared.parts.FlatMemory.{FlatMemory}
-use Rattle.rv_flat.specs.FlatInstants.{system_of}
-use Rattle.rv_flat.specs.Systems.{kept_of}
+use Rattle.std.proofs.{Common.◌≡◌, Common.◌∙◌, Common.length, Common.ap, Common.refl, Common.arith, Common.List, lemmas.List.length-map}
+use Rattle.rv_agreement.specs.{Trees.memory_kinds, Valuations.rank}
+use Rattle.rv_flat.specs.{declared.parts.FlatMemory.FlatMemory, FlatInstants.system_of, Systems.kept_of}
 use Rattle.rv_forms.proofs.Flowing.{item_at, memory_low, memory_kind_is, updates_none, updates_more, updates_all}
 use Rattle.rv_forms.proofs.Ranks.{rank_zero, rank_all}
 use Rattle.rv_forms.proofs.updates.read_updates.Goals as goal

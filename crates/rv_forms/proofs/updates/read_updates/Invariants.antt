@@ -1,5 +1,4 @@
-use Rattle.rv_forms.specs.Columns.{AreUpdatesTo}
-use Rattle.rv_forms.specs.Terms.{IsReady}
+use Rattle.rv_forms.specs.{Columns.AreUpdatesTo, Terms.IsReady}
 use Rattle.rv_forms.proofs.updates.read_updates.Given as goal
 
 abbrev pub invariant-loop-number : goal.invariant-loop-number

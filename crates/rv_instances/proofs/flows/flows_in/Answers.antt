@@ -1,10 +1,7 @@
 use Rattle.std.proofs.Common.{length, List, subst}
 use Rattle.std.specs.List.{Contains}
-use Rattle.rv_instances.specs.declared.flows.Flow.{Flow}
-use Rattle.rv_instances.specs.Expanded.{program_of, main_of}
-use Rattle.rv_instances.specs.Flowing.{flow_count}
-use Rattle.rv_instances.proofs.ExpandedLaws.{of_nodes}
-use Rattle.rv_instances.proofs.FlowTable.{of_flows}
+use Rattle.rv_instances.specs.{declared.flows.Flow.Flow, Expanded.program_of, Expanded.main_of, Flowing.flow_count}
+use Rattle.rv_instances.proofs.{ExpandedLaws.of_nodes, FlowTable.of_flows}
 use Rattle.rv_instances.proofs.flows.flows_in.Goals as goal
 
 pub flows_of-requires-clause-nodes : goal.flows_of-requires-clause-nodes

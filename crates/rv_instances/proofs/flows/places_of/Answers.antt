@@ -1,9 +1,8 @@
 use Rattle.std.proofs.Common.{◌<◌, length, get_or, ◌∙◌, arith}
-use Rattle.std.proofs.lemmas.List.Elements.{Contains-get_or}
+use Rattle.std.proofs.{lemmas.List.Elements.Contains-get_or, lemmas.Option.get_or_from_slice_get}
 use Rattle.rv_instances.specs.Flowing.{place_at, flow_places}
 use Rattle.rv_instances.proofs.Placed.{placed_more, placed_at}
 use Rattle.rv_instances.proofs.flows.places_of.Goals as goal
-use Rattle.std.proofs.lemmas.Option.{get_or_from_slice_get}
 
 pub at-requires : goal.at-requires
 at-requires c = c.requires.numbers (get_or c.args.numbers.now c.loop-number.number-index 0)

@@ -1,11 +1,6 @@
 use Rattle.std.proofs.Common.{◌≡◌, suc, ◌+◌, ◌-◌, ◌<◌, length, sym, ◌∙◌, ap, arith}
-use Rattle.rv_instances.specs.declared.layout.Laid.{Laid}
-use Rattle.rv_instances.specs.Expanded.{program_of, main_of}
-use Rattle.rv_instances.specs.Flowing.{flow_count}
-use Rattle.rv_instances.specs.Layouts.{flows_before}
-use Rattle.rv_instances.proofs.CallsHere.{laid_read}
-use Rattle.rv_instances.proofs.ExpandedLaws.{main_at}
-use Rattle.rv_instances.proofs.LaidFlows.{laid_size, places_size}
+use Rattle.rv_instances.specs.{declared.layout.Laid.Laid, Expanded.program_of, Expanded.main_of, Flowing.flow_count, Layouts.flows_before}
+use Rattle.rv_instances.proofs.{CallsHere.laid_read, ExpandedLaws.main_at, LaidFlows.laid_size, LaidFlows.places_size}
 use Rattle.rv_instances.proofs.givers.flow_total.Goals as goal
 
 pub overflow_sub-last : goal.overflow_sub-last

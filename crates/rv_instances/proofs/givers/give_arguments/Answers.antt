@@ -1,15 +1,10 @@
 use Rattle.std.proofs.Common.{◌≡◌, ℕ, ◌+◌, ◌<◌, inl, inr, length, get_or, sym, ◌∙◌, ap, subst, arith}
-use Rattle.std.proofs.lemmas.Bool.{cases_eq}
-use Rattle.std.proofs.lemmas.List.{get_or_default}
+use Rattle.std.proofs.{lemmas.Bool.cases_eq, lemmas.List.get_or_default}
 use Rattle.rv_tree.specs.Tree.{Trees}
 use Rattle.rv_types.specs.Instances.{IsArgument}
-use Rattle.rv_instances.specs.declared.timed.ClockedCall.{ClockedCall}
 use Rattle.rv_instances.specs.Expanded.{ToldCall, program_of, main_of}
-use Rattle.rv_instances.specs.Giving.{IsGiven, first_of}
-use Rattle.rv_instances.specs.Layouts.{callee_or_main, node_at}
-use Rattle.rv_instances.proofs.CallsHere.{call_of}
-use Rattle.rv_instances.proofs.GivenFlows.{argument_there}
-use Rattle.rv_instances.proofs.ToldCalls.{element, listed_call}
+use Rattle.rv_instances.specs.{declared.timed.ClockedCall.ClockedCall, Giving.IsGiven, Giving.first_of, Layouts.callee_or_main, Layouts.node_at}
+use Rattle.rv_instances.proofs.{CallsHere.call_of, GivenFlows.argument_there, ToldCalls.element, ToldCalls.listed_call}
 use Rattle.rv_instances.proofs.givers.give_arguments.Goals as goal
 
 pub give_call-requires-clause-call : goal.give_call-requires-clause-call

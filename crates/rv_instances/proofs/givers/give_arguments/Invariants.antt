@@ -1,8 +1,6 @@
 use Rattle.std.proofs.Common.{ℕ, ◌+◌, ◌<◌, length, get_or}
-use Rattle.rv_instances.specs.declared.timed.ClockedCall.{ClockedCall}
-use Rattle.rv_instances.specs.Expanded.{program_of, main_of}
 use Rattle.rv_instances.specs.Giving.{AreGiven, IsGiven, KeepsGiven, first_of}
-use Rattle.rv_instances.specs.Layouts.{callee_or_main}
+use Rattle.rv_instances.specs.{declared.timed.ClockedCall.ClockedCall, Expanded.program_of, Expanded.main_of, Layouts.callee_or_main}
 use Rattle.rv_instances.proofs.givers.give_arguments.Given as goal
 
 abbrev pub invariant-loop-call : goal.invariant-loop-call

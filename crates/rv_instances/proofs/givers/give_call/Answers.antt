@@ -1,11 +1,7 @@
 use Rattle.std.proofs.Common.{◌≡◌, ℕ, ◌+◌, length, set, Some, ◌∙◌, ap, arith, below_more, unwrap_or}
-use Rattle.rv_instances.specs.declared.layout.Laid.{Laid}
-use Rattle.rv_instances.specs.Expanded.{program_of, main_of}
-use Rattle.rv_instances.specs.Giving.{IsGiven, first_of}
-use Rattle.rv_instances.specs.Layouts.{callee_or_main}
-use Rattle.rv_instances.proofs.CallsHere.{laid_read}
+use Rattle.rv_instances.specs.{declared.layout.Laid.Laid, Expanded.program_of, Expanded.main_of, Giving.IsGiven, Giving.first_of, Layouts.callee_or_main}
 use Rattle.rv_instances.proofs.GivenFlows.{set_given, callee_there, argument_placed, argument_stands}
-use Rattle.rv_instances.proofs.LaidFlows.{laid_size}
+use Rattle.rv_instances.proofs.{CallsHere.laid_read, LaidFlows.laid_size}
 use Rattle.rv_instances.proofs.givers.give_call.Goals as goal
 
 pub at-requires : goal.at-requires

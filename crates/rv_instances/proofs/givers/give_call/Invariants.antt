@@ -1,7 +1,6 @@
 use Rattle.std.proofs.Common.{◌≡◌, ℕ, ◌+◌, ◌<◌, length}
-use Rattle.rv_instances.specs.Expanded.{program_of, main_of}
 use Rattle.rv_instances.specs.Giving.{AreGiven, IsGiven, KeepsGiven, first_of}
-use Rattle.rv_instances.specs.Layouts.{callee_or_main}
+use Rattle.rv_instances.specs.{Expanded.program_of, Expanded.main_of, Layouts.callee_or_main}
 use Rattle.rv_instances.proofs.givers.give_call.Given as goal
 
 abbrev pub invariant-loop-number : goal.invariant-loop-number

@@ -1,7 +1,6 @@
 use Rattle.std.proofs.Common.{ℕ, [], get_or, below_more}
 use Rattle.rv_types.specs.Names.{texts}
-use Rattle.rv_instances.specs.Expanded.{program_of}
-use Rattle.rv_instances.specs.Giving.{IsGiven, number_at}
+use Rattle.rv_instances.specs.{Expanded.program_of, Giving.IsGiven, Giving.number_at}
 use Rattle.rv_instances.proofs.givers.give_equation.Goals as goal
 
 pub loop-number-preserved : goal.loop-number-preserved

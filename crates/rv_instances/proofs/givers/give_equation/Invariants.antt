@@ -1,7 +1,6 @@
 use Rattle.std.proofs.Common.{◌≡◌, ℕ, ◌<◌, [], length, get_or}
 use Rattle.rv_types.specs.Names.{texts}
-use Rattle.rv_instances.specs.Expanded.{program_of, main_of}
-use Rattle.rv_instances.specs.Giving.{AreGiven, IsGiven, KeepsGiven, number_at}
+use Rattle.rv_instances.specs.{Expanded.program_of, Expanded.main_of, Giving.AreGiven, Giving.IsGiven, Giving.KeepsGiven, Giving.number_at}
 use Rattle.rv_instances.proofs.givers.give_equation.Given as goal
 
 abbrev pub invariant-loop-number : goal.invariant-loop-number

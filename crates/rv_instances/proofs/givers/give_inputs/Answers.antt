@@ -1,11 +1,8 @@
 use Rattle.std.proofs.Common.{◌<◌, length, ap, arith, below_more}
 use Rattle.rv_tree.specs.Tree.{NodeTree}
 use Rattle.rv_types.specs.Instances.{main_instance, is_main}
-use Rattle.rv_instances.specs.Expanded.{program_of, main_of}
-use Rattle.rv_instances.specs.Giving.{IsGiven}
-use Rattle.rv_instances.specs.Layouts.{node_at}
-use Rattle.rv_instances.proofs.ExpandedLaws.{main_at, node_is}
-use Rattle.rv_instances.proofs.GivenFlows.{input_placed, input_few, input_more}
+use Rattle.rv_instances.specs.{Expanded.program_of, Expanded.main_of, Giving.IsGiven, Layouts.node_at}
+use Rattle.rv_instances.proofs.{ExpandedLaws.main_at, ExpandedLaws.node_is, GivenFlows.input_placed, GivenFlows.input_few, GivenFlows.input_more}
 use Rattle.rv_instances.proofs.givers.give_inputs.Goals as goal
 
 pub node-requires-clause-within : goal.node-requires-clause-within

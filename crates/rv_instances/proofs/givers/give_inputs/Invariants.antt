@@ -1,7 +1,5 @@
 use Rattle.std.proofs.Common.{◌≡◌, ℕ, ◌<◌, length}
-use Rattle.rv_instances.specs.Expanded.{program_of, main_of}
-use Rattle.rv_instances.specs.Giving.{AreGiven, IsGiven}
-use Rattle.rv_instances.specs.Layouts.{node_at}
+use Rattle.rv_instances.specs.{Expanded.program_of, Expanded.main_of, Giving.AreGiven, Giving.IsGiven, Layouts.node_at}
 use Rattle.rv_instances.proofs.givers.give_inputs.Given as goal
 
 abbrev pub invariant-loop-input : goal.invariant-loop-input

@@ -1,17 +1,9 @@
 use Rattle.std.proofs.Common.{◌≡◌, [], true, false, length, get_or, set, Some, sym, ◌∙◌, ap, subst, arith}
-use Rattle.rv_tree.specs.Tree.{NodeTree, node_tree}
-use Rattle.rv_tree.specs.Places.{is_flow, site_of}
-use Rattle.rv_types.specs.Clocks.{clock_at}
-use Rattle.rv_types.specs.Instances.{clock_of}
-use Rattle.rv_types.specs.Names.{texts}
-use Rattle.rv_types.specs.declared.typed.Clock.{Clock}
-use Rattle.rv_instances.specs.declared.layout.Laid.{Laid}
-use Rattle.rv_instances.specs.Expanded.{program_of, main_of}
-use Rattle.rv_instances.specs.Giving.{IsRightOf, number_at}
-use Rattle.rv_instances.specs.Layouts.{node_at}
-use Rattle.rv_instances.proofs.CallsHere.{laid_read}
+use Rattle.rv_tree.specs.{Tree.NodeTree, Tree.node_tree, Places.is_flow, Places.site_of}
+use Rattle.rv_types.specs.{Clocks.clock_at, Instances.clock_of, Names.texts, declared.typed.Clock.Clock}
+use Rattle.rv_instances.specs.{declared.layout.Laid.Laid, Expanded.program_of, Expanded.main_of, Giving.IsRightOf, Giving.number_at, Layouts.node_at}
 use Rattle.rv_instances.proofs.GivenFlows.{IsMore, set_given, left_placed, left_stands, left_is_flow, name_there, number_found}
-use Rattle.rv_instances.proofs.LaidFlows.{laid_size}
+use Rattle.rv_instances.proofs.{CallsHere.laid_read, LaidFlows.laid_size}
 use Rattle.rv_instances.proofs.givers.give_left.Goals as goal
 
 pub at-requires : goal.at-requires

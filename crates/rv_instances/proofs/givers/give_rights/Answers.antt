@@ -1,12 +1,8 @@
 use Rattle.std.proofs.Common.{◌≡◌, ℕ, ◌<◌, [], inl, inr, map, length, get_or, sym, ◌∙◌, ap, subst, arith}
-use Rattle.std.proofs.lemmas.Bool.{cases_eq}
-use Rattle.std.proofs.lemmas.List.{get_or_default}
-use Rattle.rv_tree.specs.declared.tree.Equation.{Equation}
-use Rattle.rv_tree.specs.Tree.{NodeTree, equation_tree}
+use Rattle.std.proofs.{lemmas.Bool.cases_eq, lemmas.List.get_or_default}
+use Rattle.rv_tree.specs.{declared.tree.Equation.Equation, Tree.NodeTree, Tree.equation_tree}
 use Rattle.rv_types.specs.Names.{texts}
-use Rattle.rv_instances.specs.Expanded.{program_of}
-use Rattle.rv_instances.specs.Giving.{IsGiven, IsGiving, number_at}
-use Rattle.rv_instances.specs.Layouts.{node_at}
+use Rattle.rv_instances.specs.{Expanded.program_of, Giving.IsGiven, Giving.IsGiving, Giving.number_at, Layouts.node_at}
 use Rattle.rv_instances.proofs.GivenFlows.{right_listed}
 use Rattle.rv_instances.proofs.givers.give_rights.Goals as goal
 

@@ -1,9 +1,7 @@
 use Rattle.std.proofs.Common.{ℕ, ◌<◌, [], length, get_or}
-use Rattle.rv_tree.specs.declared.tree.Equation.{Equation}
-use Rattle.rv_tree.specs.Tree.{equation_tree}
+use Rattle.rv_tree.specs.{declared.tree.Equation.Equation, Tree.equation_tree}
 use Rattle.rv_types.specs.Names.{texts}
-use Rattle.rv_instances.specs.Expanded.{program_of, main_of}
-use Rattle.rv_instances.specs.Giving.{AreGiven, IsGiven, KeepsGiven, IsGiving, number_at}
+use Rattle.rv_instances.specs.{Expanded.program_of, Expanded.main_of, Giving.AreGiven, Giving.IsGiven, Giving.KeepsGiven, Giving.IsGiving, Giving.number_at}
 use Rattle.rv_instances.proofs.givers.give_rights.Given as goal
 
 abbrev pub invariant-loop-equation : goal.invariant-loop-equation

@@ -1,14 +1,10 @@
 use Rattle.std.proofs.Common.{◌≡◌, ℕ, ◌+◌, inl, inr, map, sym, subst, arith, List, Some}
-use Rattle.std.specs.List.{Contains}
 use Rattle.std.proofs.lemmas.Bool.{cases_eq}
+use Rattle.std.specs.List.{Contains}
 use Rattle.rv_types.specs.Instances.{calls, IsRight}
-use Rattle.rv_instances.specs.declared.givers.Giver.{Giver}
-use Rattle.rv_instances.specs.Expanded.{program_of, main_of}
-use Rattle.rv_instances.specs.Givers.{AreGivers}
 use Rattle.rv_instances.specs.Giving.{IsGiven, first_of, number_at}
-use Rattle.rv_instances.specs.Layouts.{callee_or_main, node_at}
-use Rattle.rv_instances.proofs.AllGiven.{all_given, are_givers}
-use Rattle.rv_instances.proofs.Lists.{if_ok}
+use Rattle.rv_instances.specs.{declared.givers.Giver.Giver, Expanded.program_of, Expanded.main_of, Givers.AreGivers, Layouts.callee_or_main, Layouts.node_at}
+use Rattle.rv_instances.proofs.{AllGiven.all_given, AllGiven.are_givers, Lists.if_ok}
 use Rattle.rv_instances.proofs.givers.givers_of.Goals as goal
 
 pub loop-instance-preserved : goal.loop-instance-preserved

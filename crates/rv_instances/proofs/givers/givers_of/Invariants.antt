@@ -1,11 +1,9 @@
 use Rattle.std.proofs.Common.{◌≡◌, ℕ, ◌+◌, ◌<◌, length}
 use Rattle.std.specs.List.{Contains}
-use Rattle.rv_tree.specs.Places.{Identifier}
-use Rattle.rv_tree.specs.Tree.{Tree}
+use Rattle.rv_tree.specs.{Places.Identifier, Tree.Tree}
 use Rattle.rv_types.specs.Instances.{CallTree, calls, IsArgument, IsRight, Right, node_of}
-use Rattle.rv_instances.specs.Expanded.{program_of, main_of}
 use Rattle.rv_instances.specs.Giving.{AreGiven, IsGiven, first_of, number_at}
-use Rattle.rv_instances.specs.Layouts.{callee_or_main, node_at}
+use Rattle.rv_instances.specs.{Expanded.program_of, Expanded.main_of, Layouts.callee_or_main, Layouts.node_at}
 use Rattle.rv_instances.proofs.givers.givers_of.Given as goal
 
 abbrev pub invariant-loop-instance : goal.invariant-loop-instance

@@ -1,10 +1,8 @@
 use Rattle.std.proofs.Common.{◌≡◌, ◌<◌, ◌++◌, ◌∷◌, [], length, sym, ◌∙◌, ap, arith, take}
-use Rattle.rv_instances.specs.declared.answer.Instance.{Instance}
-use Rattle.rv_instances.specs.Layouts.{path_at}
-use Rattle.rv_instances.specs.Expanded.{no_instance}
+use Rattle.std.proofs.lemmas.Option.{get_or_from_slice_get}
+use Rattle.rv_instances.specs.{declared.answer.Instance.Instance, Layouts.path_at, Expanded.no_instance}
 use Rattle.rv_instances.proofs.Chained.{deep_enough, next_chain, next_told}
 use Rattle.rv_instances.proofs.layout.callees_of.Goals as goal
-use Rattle.std.proofs.lemmas.Option.{get_or_from_slice_get}
 
 pub tell_caller-requires : goal.tell_caller-requires
 tell_caller-requires c =

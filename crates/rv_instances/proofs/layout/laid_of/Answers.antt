@@ -1,9 +1,7 @@
 use Rattle.std.proofs.Common.{◌<◌, length, ap, arith}
-use Rattle.rv_tree.specs.Places.{flows}
-use Rattle.rv_tree.specs.Tree.{NodeTree, node_tree, program_tree}
+use Rattle.rv_tree.specs.{Places.flows, Tree.NodeTree, Tree.node_tree, Tree.program_tree}
 use Rattle.rv_types.specs.Instances.{name_at}
-use Rattle.rv_instances.proofs.ExpandedLaws.{node_few}
-use Rattle.rv_instances.proofs.LaidFlows.{inputs_among}
+use Rattle.rv_instances.proofs.{ExpandedLaws.node_few, LaidFlows.inputs_among}
 use Rattle.rv_instances.proofs.layout.laid_of.Goals as goal
 
 pub overflow_cast-inputs : goal.overflow_cast-inputs

@@ -1,8 +1,7 @@
 use Rattle.std.proofs.Common.{◌≡◌, ◌≤◌, ◌*◌, length}
 use Rattle.rv_tree.specs.Tree.{program_tree}
 use Rattle.rv_base.specs.Limits.{source_limit}
-use Rattle.rv_instances.specs.Flowing.{flow_count}
-use Rattle.rv_instances.specs.Layouts.{all_laid, flows_before}
+use Rattle.rv_instances.specs.{Flowing.flow_count, Layouts.all_laid, Layouts.flows_before}
 use Rattle.rv_instances.proofs.layout.laid_of.Given as goal
 
 abbrev pub invariant-loop-instance : goal.invariant-loop-instance

@@ -1,22 +1,13 @@
 use Rattle.std.proofs.Common.{◌≡◌, ◌++◌, ◌∷◌, [], inl, inr, length, get_or, set, sym, ◌∙◌, ap, subst, arith, unwrap_or, None as Nothing}
-use Rattle.std.proofs.lemmas.List.{length-set, get_or_default}
-use Rattle.std.proofs.lemmas.Bool.{cases_eq}
+use Rattle.std.proofs.{lemmas.List.length-set, lemmas.List.get_or_default, lemmas.Bool.cases_eq, lemmas.Option.get_or_from_slice_get}
 use Rattle.rv_tree.specs.Tree.{program_tree}
 use Rattle.rv_types.specs.Instances.{clock_of_args, name_at}
-use Rattle.rv_instances.specs.declared.timed.ClockedCall.{ClockedCall}
-use Rattle.rv_instances.specs.declared.layout.Laid.{Laid}
-use Rattle.rv_instances.specs.Callees.{callee_in}
-use Rattle.rv_instances.specs.Expanded.{IsCallOf}
-use Rattle.rv_instances.specs.Flowing.{flow_count}
 use Rattle.rv_instances.specs.Layouts.{path_at, flows_before, number_of, IsWithin, IsClockPlaced, callee_or_main, all_places}
-use Rattle.rv_instances.proofs.ArgumentClocks.{arguments_clock_known}
+use Rattle.rv_instances.specs.{declared.timed.ClockedCall.ClockedCall, declared.layout.Laid.Laid, Callees.callee_in, Expanded.IsCallOf, Flowing.flow_count}
 use Rattle.rv_instances.proofs.BaseClocks.{clock_within, callee_number, base_set, call_at}
 use Rattle.rv_instances.proofs.CallsHere.{call_of, listed_of, laid_read}
-use Rattle.rv_instances.proofs.ExpandedLaws.{node_in, instance_at}
-use Rattle.rv_instances.proofs.LaidFlows.{laid_size}
-use Rattle.rv_instances.proofs.ToldCalls.{element}
+use Rattle.rv_instances.proofs.{ArgumentClocks.arguments_clock_known, ExpandedLaws.node_in, ExpandedLaws.instance_at, LaidFlows.laid_size, ToldCalls.element}
 use Rattle.rv_instances.proofs.layout.set_bases.Goals as goal
-use Rattle.std.proofs.lemmas.Option.{get_or_from_slice_get}
 
 pub at-requires : goal.at-requires
 at-requires c =

@@ -1,8 +1,7 @@
 use Rattle.std.proofs.Common.{◌≡◌, ℕ, ◌<◌, ◌++◌, ◌∷◌, [], length, get_or}
 use Rattle.rv_tree.specs.Tree.{program_tree}
-use Rattle.rv_instances.specs.declared.timed.ClockedCall.{ClockedCall}
+use Rattle.rv_instances.specs.{declared.timed.ClockedCall.ClockedCall, Layouts.path_at, Layouts.IsBaseOf}
 use Rattle.rv_types.specs.Instances.{name_at}
-use Rattle.rv_instances.specs.Layouts.{path_at, IsBaseOf}
 use Rattle.rv_instances.proofs.layout.set_bases.Given as goal
 
 abbrev pub invariant-loop-call : goal.invariant-loop-call

@@ -1,10 +1,7 @@
 use Rattle.std.proofs.Common.{◌≡◌, ◌++◌, map, drop}
-use Rattle.rv_tree.specs.Delays.{delays_of_all}
-use Rattle.rv_tree.specs.Tree.{tree_of, trees, node_tree}
-use Rattle.rv_types.specs.Clocks.{meet, pace_of_all}
-use Rattle.rv_types.specs.Instances.{calls_in_all}
-use Rattle.rv_instances.specs.Expanded.{told, call_told}
-use Rattle.rv_instances.specs.Timed.{delay_listed, delay_told, operator_listed, operators_of_all}
+use Rattle.rv_tree.specs.{Delays.delays_of_all, Tree.tree_of, Tree.trees, Tree.node_tree}
+use Rattle.rv_types.specs.{Clocks.meet, Clocks.pace_of_all, Instances.calls_in_all}
+use Rattle.rv_instances.specs.{Expanded.told, Expanded.call_told, Timed.delay_listed, Timed.delay_told, Timed.operator_listed, Timed.operators_of_all}
 use Rattle.rv_instances.proofs.timed.+gather.Given as goal
 
 abbrev pub invariant-gather_all-loop-e : goal.invariant-gather_all-loop-e

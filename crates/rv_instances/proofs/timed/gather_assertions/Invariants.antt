@@ -1,9 +1,7 @@
 use Rattle.std.proofs.Common.{◌≡◌, ◌++◌, map, flat_map, drop}
-use Rattle.rv_tree.specs.Delays.{delays_in_assertions}
-use Rattle.rv_tree.specs.Tree.{AssertionTree, assertion_tree, node_tree}
+use Rattle.rv_tree.specs.{Delays.delays_in_assertions, Tree.AssertionTree, Tree.assertion_tree, Tree.node_tree}
 use Rattle.rv_types.specs.Instances.{calls_in_assertions}
-use Rattle.rv_instances.specs.Expanded.{told, call_told}
-use Rattle.rv_instances.specs.Timed.{delay_listed, delay_told, operator_listed, operators_in}
+use Rattle.rv_instances.specs.{Expanded.told, Expanded.call_told, Timed.delay_listed, Timed.delay_told, Timed.operator_listed, Timed.operators_in}
 use Rattle.rv_instances.proofs.timed.gather_assertions.Given as goal
 
 abbrev pub invariant-loop-assertion : goal.invariant-loop-assertion

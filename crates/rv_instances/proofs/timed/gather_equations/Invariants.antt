@@ -1,9 +1,7 @@
 use Rattle.std.proofs.Common.{◌≡◌, ◌++◌, map, flat_map, drop}
-use Rattle.rv_tree.specs.Delays.{delays_in_equations}
-use Rattle.rv_tree.specs.Tree.{EquationTree, equation_tree, node_tree}
+use Rattle.rv_tree.specs.{Delays.delays_in_equations, Tree.EquationTree, Tree.equation_tree, Tree.node_tree}
 use Rattle.rv_types.specs.Instances.{calls_in_equations}
-use Rattle.rv_instances.specs.Expanded.{told, call_told}
-use Rattle.rv_instances.specs.Timed.{delay_listed, delay_told, operator_listed, operators_in}
+use Rattle.rv_instances.specs.{Expanded.told, Expanded.call_told, Timed.delay_listed, Timed.delay_told, Timed.operator_listed, Timed.operators_in}
 use Rattle.rv_instances.proofs.timed.gather_equations.Given as goal
 
 abbrev pub invariant-loop-equation : goal.invariant-loop-equation

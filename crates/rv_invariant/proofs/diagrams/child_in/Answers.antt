@@ -1,6 +1,5 @@
 use Rattle.std.proofs.Common.{◌+◌, ◌∙◌, ap, sym, true, false}
-use Rattle.rv_invfile.specs.Ahead.{here}
-use Rattle.rv_invfile.specs.Texts.{natural}
+use Rattle.rv_invfile.specs.{Ahead.here, Texts.natural}
 use Rattle.rv_invariant.proofs.Bounds.{child-is}
 use Rattle.rv_invariant.proofs.diagrams.child_in.Goals as goal
 

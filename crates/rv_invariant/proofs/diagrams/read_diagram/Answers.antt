@@ -1,5 +1,4 @@
-use Rattle.std.proofs.Common.{refl}
-use Rattle.std.proofs.lemmas.Result.{err_from_is_err_and}
+use Rattle.std.proofs.{Common.refl, lemmas.Result.err_from_is_err_and}
 use Rattle.rv_invfile.specs.Ahead.{here}
 use Rattle.rv_invariant.specs.Pieces.{diagram, frozen_of}
 use Rattle.rv_invariant.proofs.Grouping.{fields-stop}

@@ -1,9 +1,6 @@
-use Rattle.std.proofs.Common.{◌+◌, ◌-◌, ◌*◌, ◌/◌, ◌∙◌, length, ap, sym}
-use Rattle.std.proofs.lemmas.Result.{err_from_is_err_and}
-use Rattle.rv_invfile.specs.Ahead.{here}
-use Rattle.rv_invfile.specs.Texts.{natural}
-use Rattle.rv_invariant.specs.Groups.{group_count, upto}
-use Rattle.rv_invariant.specs.Pieces.{frozen_of, is_below, is_node_field, is_root, triple_at}
+use Rattle.std.proofs.{Common.◌+◌, Common.◌-◌, Common.◌*◌, Common.◌/◌, Common.◌∙◌, Common.length, Common.ap, Common.sym, lemmas.Result.err_from_is_err_and}
+use Rattle.rv_invfile.specs.{Ahead.here, Texts.natural}
+use Rattle.rv_invariant.specs.{Groups.group_count, Groups.upto, Pieces.frozen_of, Pieces.is_below, Pieces.is_node_field, Pieces.is_root, Pieces.triple_at}
 use Rattle.rv_invariant.proofs.Grouping.{grouped-is, groups-stop, none-wrong, three}
 use Rattle.rv_invariant.proofs.diagrams.read_frozen.Goals as goal
 

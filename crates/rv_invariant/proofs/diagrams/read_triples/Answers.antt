@@ -1,10 +1,7 @@
-use Rattle.std.proofs.Common.{length, arith}
-use Rattle.std.proofs.lemmas.Result.{err_from_is_err_and}
+use Rattle.std.proofs.{Common.length, Common.arith, lemmas.Result.err_from_is_err_and}
 use Rattle.rv_invfile.specs.Ahead.{here}
-use Rattle.rv_invariant.specs.Groups.{upto}
-use Rattle.rv_invariant.specs.Pieces.{is_node_field, triple_at}
-use Rattle.rv_invariant.proofs.Grouping.{group-stops}
-use Rattle.rv_invariant.proofs.Looping.{all-read, pushed-length, pushed-read, pushed-right}
+use Rattle.rv_invariant.specs.{Groups.upto, Pieces.is_node_field, Pieces.triple_at}
+use Rattle.rv_invariant.proofs.{Grouping.group-stops, Looping.all-read, Looping.pushed-length, Looping.pushed-read, Looping.pushed-right}
 use Rattle.rv_invariant.proofs.diagrams.read_triples.Goals as goal
 
 pub returns-in_err-triple : goal.returns-in_err-triple

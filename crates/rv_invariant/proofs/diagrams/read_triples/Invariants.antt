@@ -1,8 +1,6 @@
 use Rattle.std.proofs.Common.{◌≡◌, length}
 use Rattle.rv_invfile.specs.Ahead.{here}
-use Rattle.rv_invariant.specs.Groups.{upto}
-use Rattle.rv_invariant.specs.Judging.{AreRight}
-use Rattle.rv_invariant.specs.Pieces.{is_node_field, triple_at}
+use Rattle.rv_invariant.specs.{Groups.upto, Judging.AreRight, Pieces.is_node_field, Pieces.triple_at}
 use Rattle.rv_invariant.proofs.diagrams.read_triples.Given as goal
 
 abbrev pub invariant-loop-index : goal.invariant-loop-index

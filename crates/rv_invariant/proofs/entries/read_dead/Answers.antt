@@ -1,18 +1,12 @@
-use Rattle.std.proofs.Common.{◌≡◌, ◌+◌, [], ◌∷◌, ◌∙◌, subst}
+use Rattle.std.proofs.{Common.◌≡◌, Common.◌+◌, Common.[], Common.◌∷◌, Common.◌∙◌, Common.subst, lemmas.Result.err_from_is_err_and}
 use Rattle.std.specs.Prelude.{codes, false, Ok, Err, ⊤}
-use Rattle.std.proofs.lemmas.Result.{err_from_is_err_and}
 use Rattle.rv_diagram.specs.declared.frozen.Frozen.{Frozen}
 use Rattle.rv_proofs.specs.declared.certificate.Entry.{Entry}
 use Rattle.rv_rows.specs.declared.farkas.Multipliers.{Multipliers}
-use Rattle.rv_invfile.specs.Readers.{Reads, run}
-use Rattle.rv_invfile.specs.Forms.{exactly}
-use Rattle.rv_invfile.specs.Parts.{bind}
+use Rattle.rv_invfile.specs.{Readers.Reads, Readers.run, Forms.exactly, Parts.bind}
 use Rattle.rv_invfile.proofs.Bound.{bind_ok, bind_err}
-use Rattle.rv_invariant.specs.Certificates.{dead_rule, dead_entry, whole_dead}
-use Rattle.rv_invariant.specs.Continues.{Then}
-use Rattle.rv_invariant.specs.Pieces.{a_diagram, a_proof}
-use Rattle.rv_invariant.proofs.Going.{dead-to-proof}
-use Rattle.rv_invariant.proofs.Choices.{continues-part}
+use Rattle.rv_invariant.specs.{Certificates.dead_rule, Certificates.dead_entry, Certificates.whole_dead, Continues.Then, Pieces.a_diagram, Pieces.a_proof}
+use Rattle.rv_invariant.proofs.{Going.dead-to-proof, Choices.continues-part}
 use Rattle.rv_invariant.proofs.entries.read_dead.Goals as goal
 
 pub returns-in_err-read_exactly : goal.returns-in_err-read_exactly

@@ -2,10 +2,8 @@ use Rattle.std.proofs.Common.{◌≡◌, ◌+◌, ◌-◌, ◌++◌, ◌∷◌, 
 use Rattle.std.proofs.lemmas.Result.{err_from_is_err_and}
 use Rattle.rv_proofs.specs.declared.certificate.Entry.{Entry}
 use Rattle.rv_invfile.specs.Readers.{run}
-use Rattle.rv_invariant.specs.Certificates.{entries_rule, entry_rule}
-use Rattle.rv_invariant.specs.Continues.{Then}
-use Rattle.rv_invariant.proofs.Going.{entries-none, entries-suc, entries-wait}
-use Rattle.rv_invariant.proofs.Choices.{continues-stop}
+use Rattle.rv_invariant.specs.{Certificates.entries_rule, Certificates.entry_rule, Continues.Then}
+use Rattle.rv_invariant.proofs.{Going.entries-none, Going.entries-suc, Going.entries-wait, Choices.continues-stop}
 use Rattle.rv_invariant.proofs.entries.read_entries.Goals as goal
 
 pub returns-in_err-entry : goal.returns-in_err-entry

@@ -1,8 +1,7 @@
 use Rattle.std.proofs.Common.{◌≡◌, ◌-◌, [], List, length}
 use Rattle.rv_proofs.specs.declared.certificate.Entry.{Entry}
 use Rattle.rv_invfile.specs.Readers.{run}
-use Rattle.rv_invariant.specs.Certificates.{entries_rule}
-use Rattle.rv_invariant.specs.Continues.{Then, AllWait}
+use Rattle.rv_invariant.specs.{Certificates.entries_rule, Continues.Then, Continues.AllWait}
 use Rattle.rv_invariant.proofs.entries.read_entries.Given as goal
 
 abbrev pub invariant-loop-done : goal.invariant-loop-done

@@ -1,10 +1,8 @@
 use Rattle.std.proofs.Common.{◌∙◌, length, refl, sym}
 use Rattle.rv_proofs.specs.declared.certificate.Entry.{Entry}
 use Rattle.rv_invfile.specs.Readers.{run}
-use Rattle.rv_invariant.specs.Certificates.{entry_rule, whole_go, whole_dead}
-use Rattle.rv_invariant.specs.Continues.{Then}
-use Rattle.rv_invariant.proofs.Going.{entry-go, entry-dead}
-use Rattle.rv_invariant.proofs.Choices.{continues-after}
+use Rattle.rv_invariant.specs.{Certificates.entry_rule, Certificates.whole_go, Certificates.whole_dead, Continues.Then}
+use Rattle.rv_invariant.proofs.{Going.entry-go, Going.entry-dead, Choices.continues-after}
 use Rattle.rv_invariant.proofs.entries.read_entry.Goals as goal
 
 pub returns-then-is_word : goal.returns-then-is_word

@@ -1,16 +1,13 @@
-use Rattle.std.proofs.Common.{◌≡◌, ◌+◌, List, length, refl, ◌∙◌, subst}
+use Rattle.std.proofs.{Common.◌≡◌, Common.◌+◌, Common.List, Common.length, Common.refl, Common.◌∙◌, Common.subst, lemmas.Result.err_from_is_err_and}
 use Rattle.std.specs.Prelude.{codes, false, Ok, Err, ℕ}
-use Rattle.std.proofs.lemmas.Result.{err_from_is_err_and}
 use Rattle.rv_diagram.specs.declared.frozen.Frozen.{Frozen}
 use Rattle.rv_proofs.specs.declared.certificate.Entry.{Entry}
 use Rattle.rv_rows.specs.declared.farkas.Multipliers.{Multipliers}
 use Rattle.rv_invfile.specs.Readers.{Reads, run}
 use Rattle.rv_invfile.proofs.Bound.{bind_ok, bind_err}
 use Rattle.rv_invariant.specs.Certificates.{a_target, go_rule, go_entry, known_at, reach_rule, whole_go}
-use Rattle.rv_invariant.specs.Continues.{Continues, Then}
-use Rattle.rv_invariant.specs.Pieces.{a_diagram}
-use Rattle.rv_invariant.proofs.Going.{go-to-reach}
-use Rattle.rv_invariant.proofs.Choices.{continues-part, continues-stop}
+use Rattle.rv_invariant.specs.{Continues.Continues, Continues.Then, Pieces.a_diagram}
+use Rattle.rv_invariant.proofs.{Going.go-to-reach, Choices.continues-part, Choices.continues-stop}
 use Rattle.rv_invariant.proofs.entries.read_go.Goals as goal
 
 pub returns-in_err-target : goal.returns-in_err-target

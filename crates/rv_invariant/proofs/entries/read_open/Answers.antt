@@ -1,12 +1,8 @@
 use Rattle.std.proofs.Common.{◌≡◌, ◌+◌, ◌-◌, ◌^◌, ◌++◌, ◌∷◌, [], zero, suc, List, length, arith, refl, sym, ap, ◌∙◌, append_assoc}
-use Rattle.std.proofs.lemmas.List.{append-nil, length_push}
-use Rattle.std.proofs.lemmas.Result.{err_from_is_err_and}
+use Rattle.std.proofs.{lemmas.List.append-nil, lemmas.List.length_push, lemmas.Result.err_from_is_err_and}
 use Rattle.rv_rows.specs.declared.farkas.Multipliers.{Multipliers}
-use Rattle.rv_invfile.specs.Rules.{Fields, Rule, done}
-use Rattle.rv_invfile.specs.Readers.{run}
-use Rattle.rv_invfile.specs.Parts.{turns}
-use Rattle.rv_invariant.specs.Continues.{Then}
-use Rattle.rv_invariant.specs.Pieces.{a_proof, by_form, multipliers_of}
+use Rattle.rv_invfile.specs.{Rules.Fields, Rules.Rule, Rules.done, Readers.run, Parts.turns}
+use Rattle.rv_invariant.specs.{Continues.Then, Pieces.a_proof, Pieces.by_form, Pieces.multipliers_of}
 use Rattle.rv_invariant.proofs.Choices.{turn_over, turn_more, turn_stops, run_none, sees_is, continues-part}
 use Rattle.rv_invariant.proofs.entries.read_open.Goals as goal
 

@@ -1,9 +1,7 @@
 use Rattle.std.proofs.Common.{◌≡◌, ◌-◌, ◌^◌, ◌++◌, [], List, length}
 use Rattle.rv_rows.specs.declared.farkas.Multipliers.{Multipliers}
-use Rattle.rv_invfile.specs.Readers.{run}
-use Rattle.rv_invfile.specs.Parts.{turns}
-use Rattle.rv_invariant.specs.Continues.{Then, AllWait}
-use Rattle.rv_invariant.specs.Pieces.{a_proof}
+use Rattle.rv_invfile.specs.{Readers.run, Parts.turns}
+use Rattle.rv_invariant.specs.{Continues.Then, Continues.AllWait, Pieces.a_proof}
 use Rattle.rv_invariant.proofs.entries.read_open.Given as goal
 
 abbrev pub invariant-loop-turn : goal.invariant-loop-turn

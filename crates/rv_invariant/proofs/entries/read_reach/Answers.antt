@@ -1,13 +1,9 @@
 use Rattle.std.proofs.Common.{◌^◌, List, refl, ap, ◌∙◌, subst}
 use Rattle.std.specs.Prelude.{Some, None}
 use Rattle.rv_rows.specs.declared.farkas.Multipliers.{Multipliers}
-use Rattle.rv_invfile.specs.Readers.{Reads, run}
-use Rattle.rv_invfile.specs.Parts.{times}
-use Rattle.rv_invariant.specs.Certificates.{reach_rule, known_at}
-use Rattle.rv_invariant.specs.Continues.{Then}
-use Rattle.rv_invariant.specs.Pieces.{a_proof}
-use Rattle.rv_invariant.proofs.Going.{known-is}
-use Rattle.rv_invariant.proofs.Choices.{continues-after, continues-read}
+use Rattle.rv_invfile.specs.{Readers.Reads, Readers.run, Parts.times}
+use Rattle.rv_invariant.specs.{Certificates.reach_rule, Certificates.known_at, Continues.Then, Pieces.a_proof}
+use Rattle.rv_invariant.proofs.{Going.known-is, Choices.continues-after, Choices.continues-read}
 use Rattle.rv_invariant.proofs.entries.read_reach.Goals as goal
 
 pub returns-in-Some : goal.returns-in-Some

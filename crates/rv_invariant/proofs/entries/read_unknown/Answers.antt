@@ -1,13 +1,9 @@
 use Rattle.std.proofs.Common.{◌^◌, [], List, length, refl, sym, ap, ◌∙◌}
+use Rattle.std.proofs.{lemmas.List.length-set, lemmas.Result.err_from_is_err_and}
 use Rattle.std.specs.Prelude.{Some, None, slice_set}
-use Rattle.std.proofs.lemmas.List.{length-set}
-use Rattle.std.proofs.lemmas.Result.{err_from_is_err_and}
 use Rattle.rv_rows.specs.declared.farkas.Multipliers.{Multipliers}
-use Rattle.rv_invfile.specs.Readers.{run}
-use Rattle.rv_invfile.specs.Parts.{turns}
-use Rattle.rv_invariant.specs.Certificates.{reach_rule, learn}
-use Rattle.rv_invariant.specs.Continues.{Then}
-use Rattle.rv_invariant.specs.Pieces.{a_proof}
+use Rattle.rv_invfile.specs.{Readers.run, Parts.turns}
+use Rattle.rv_invariant.specs.{Certificates.reach_rule, Certificates.learn, Continues.Then, Pieces.a_proof}
 use Rattle.rv_invariant.proofs.Choices.{continues-stop}
 use Rattle.rv_invariant.proofs.entries.read_unknown.Goals as goal
 

@@ -1,14 +1,8 @@
-use Rattle.std.proofs.Common.{◌≡◌, ◌^◌, ℕ, List, length, refl, subst}
+use Rattle.std.proofs.{Common.◌≡◌, Common.◌^◌, Common.ℕ, Common.List, Common.length, Common.refl, Common.subst, lemmas.Result.err_from_is_err_and}
 use Rattle.std.specs.Prelude.{codes, Ok, Err}
-use Rattle.std.proofs.lemmas.Result.{err_from_is_err_and}
 use Rattle.rv_rows.specs.declared.farkas.Multipliers.{Multipliers}
-use Rattle.rv_invfile.specs.Rules.{done}
-use Rattle.rv_invfile.specs.Readers.{Reads, run}
-use Rattle.rv_invfile.specs.Forms.{counts}
-use Rattle.rv_invfile.specs.Parts.{times}
-use Rattle.rv_invariant.specs.declared.fronts.Front.{Front}
-use Rattle.rv_invariant.specs.Certificates.{after_lists, after_proofs}
-use Rattle.rv_invariant.specs.Pieces.{a_proof}
+use Rattle.rv_invfile.specs.{Rules.done, Readers.Reads, Readers.run, Forms.counts, Parts.times}
+use Rattle.rv_invariant.specs.{declared.fronts.Front.Front, Certificates.after_lists, Certificates.after_proofs, Pieces.a_proof}
 use Rattle.rv_invariant.proofs.Choices.{chain-ok, chain-stops}
 use Rattle.rv_invariant.proofs.fronts.read_cases.Goals as goal
 

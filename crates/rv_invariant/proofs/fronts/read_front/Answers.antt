@@ -1,13 +1,9 @@
-use Rattle.std.proofs.Common.{◌≡◌, ℕ, length, refl, sym, subst, ◌≤◌}
+use Rattle.std.proofs.{Common.◌≡◌, Common.ℕ, Common.length, Common.refl, Common.sym, Common.subst, Common.◌≤◌, lemmas.Result.err_from_is_err_and}
 use Rattle.std.specs.Prelude.{codes, true, Ok, Err, Result, IfOk}
-use Rattle.std.proofs.lemmas.Result.{err_from_is_err_and}
 use Rattle.rv_diagram.specs.declared.frozen.Frozen.{Frozen}
-use Rattle.rv_invfile.specs.Readers.{run}
-use Rattle.rv_invfile.specs.declared.fault.FileFault.{FileFault}
-use Rattle.rv_invariant.specs.declared.fronts.Front.{Front}
-use Rattle.rv_invariant.specs.declared.fronts.Lists.{Lists}
+use Rattle.rv_invfile.specs.{Readers.run, declared.fault.FileFault.FileFault}
 use Rattle.rv_invariant.specs.Certificates.{after_control, after_lists, front_rule, row_lists}
-use Rattle.rv_invariant.specs.Pieces.{a_diagram}
+use Rattle.rv_invariant.specs.{declared.fronts.Front.Front, declared.fronts.Lists.Lists, Pieces.a_diagram}
 use Rattle.rv_invariant.proofs.Choices.{chain-ok, chain-stops, chain-last}
 use Rattle.rv_invariant.proofs.fronts.read_front.Goals as goal
 

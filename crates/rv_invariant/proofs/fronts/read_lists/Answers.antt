@@ -1,12 +1,8 @@
-use Rattle.std.proofs.Common.{◌≡◌, ℕ, List, length, refl, ap, ◌≤◌, arith}
+use Rattle.std.proofs.{Common.◌≡◌, Common.ℕ, Common.List, Common.length, Common.refl, Common.ap, Common.◌≤◌, Common.arith, lemmas.Result.err_from_is_err_and}
 use Rattle.std.specs.Prelude.{codes, Ok, Err, Result, IfOk}
-use Rattle.std.proofs.lemmas.Result.{err_from_is_err_and}
 use Rattle.rv_rows.specs.declared.linear.Row.{Row}
-use Rattle.rv_invfile.specs.Readers.{run}
-use Rattle.rv_invfile.specs.declared.fault.FileFault.{FileFault}
-use Rattle.rv_invariant.specs.declared.fronts.Lists.{Lists}
-use Rattle.rv_invariant.specs.Certificates.{after_entry, row_lists}
-use Rattle.rv_invariant.specs.Pieces.{a_list}
+use Rattle.rv_invfile.specs.{Readers.run, declared.fault.FileFault.FileFault}
+use Rattle.rv_invariant.specs.{declared.fronts.Lists.Lists, Certificates.after_entry, Certificates.row_lists, Pieces.a_list}
 use Rattle.rv_invariant.proofs.Choices.{chain-ok, chain-stops, chain-last}
 use Rattle.rv_invariant.proofs.fronts.read_lists.Goals as goal
 

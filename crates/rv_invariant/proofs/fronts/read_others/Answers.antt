@@ -1,14 +1,8 @@
-use Rattle.std.proofs.Common.{ℕ, List, refl}
+use Rattle.std.proofs.{Common.ℕ, Common.List, Common.refl, lemmas.Result.err_from_is_err_and}
 use Rattle.std.specs.Prelude.{codes}
-use Rattle.std.proofs.lemmas.Result.{err_from_is_err_and}
 use Rattle.rv_rows.specs.declared.linear.Row.{Row}
-use Rattle.rv_invfile.specs.Rules.{done}
-use Rattle.rv_invfile.specs.Readers.{run}
-use Rattle.rv_invfile.specs.Forms.{counts}
-use Rattle.rv_invfile.specs.Parts.{bind}
-use Rattle.rv_invariant.specs.declared.fronts.Lists.{Lists}
-use Rattle.rv_invariant.specs.Certificates.{after_entry}
-use Rattle.rv_invariant.specs.Pieces.{a_list}
+use Rattle.rv_invfile.specs.{Rules.done, Readers.run, Forms.counts, Parts.bind}
+use Rattle.rv_invariant.specs.{declared.fronts.Lists.Lists, Certificates.after_entry, Pieces.a_list}
 use Rattle.rv_invariant.proofs.Choices.{chain-ok, chain-stops}
 use Rattle.rv_invariant.proofs.fronts.read_others.Goals as goal
 

@@ -1,7 +1,6 @@
 use Rattle.std.proofs.Common.{take, subst, arith}
 use Rattle.std.specs.Prelude.{flat_map}
-use Rattle.rv_invariant.specs.Pieces.{triple_texts}
-use Rattle.rv_invariant.specs.Writes.{Extends}
+use Rattle.rv_invariant.specs.{Pieces.triple_texts, Writes.Extends}
 use Rattle.rv_invariant.proofs.Adding.{extends-none, extends-then, flat-more, flat-taken, held-more}
 use Rattle.rv_invariant.proofs.lines.add_nodes.Goals as goal
 

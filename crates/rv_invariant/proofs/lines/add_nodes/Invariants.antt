@@ -1,8 +1,7 @@
 use Rattle.std.proofs.Common.{◌<◌, ◌^◌, ℕ, take}
 use Rattle.std.specs.Prelude.{flat_map}
 use Rattle.rv_diagram.specs.Nodes.{node_at}
-use Rattle.rv_invariant.specs.Pieces.{triple_texts}
-use Rattle.rv_invariant.specs.Writes.{Extends}
+use Rattle.rv_invariant.specs.{Pieces.triple_texts, Writes.Extends}
 use Rattle.rv_invariant.proofs.lines.add_nodes.Given as goal
 
 abbrev pub invariant-loop-index : goal.invariant-loop-index

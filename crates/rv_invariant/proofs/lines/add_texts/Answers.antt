@@ -1,6 +1,5 @@
 use Rattle.std.proofs.Common.{◌∷◌, [], ◌++◌, List, ℕ, take, ap, sym, ◌∙◌, subst, arith}
-use Rattle.std.proofs.lemmas.List.{take_more, take_all}
-use Rattle.std.proofs.lemmas.Option.{slice_get_within, get_or_from_slice_get}
+use Rattle.std.proofs.{lemmas.List.take_more, lemmas.List.take_all, lemmas.Option.slice_get_within, lemmas.Option.get_or_from_slice_get}
 use Rattle.rv_invariant.specs.Writes.{Extends}
 use Rattle.rv_invariant.proofs.Adding.{extends-none, extends-then, pushed}
 use Rattle.rv_invariant.proofs.lines.add_texts.Goals as goal

@@ -1,8 +1,5 @@
-use Rattle.std.proofs.Common.{◌∷◌, [], ℤ, FitsSigned, rules, subst}
-use Rattle.std.specs.Prelude.{OnOk, decimal}
-use Rattle.std.specs.Fmt.{signed_decimal}
-use Rattle.std.specs.Int.{w128}
-use Rattle.std.proofs.lemmas.Int.{to_z-of_z}
+use Rattle.std.proofs.{Common.◌∷◌, Common.[], Common.ℤ, Common.FitsSigned, Common.rules, Common.subst, lemmas.Int.to_z-of_z}
+use Rattle.std.specs.{Prelude.OnOk, Prelude.decimal, Fmt.signed_decimal, Int.w128}
 use Rattle.rv_invariant.specs.Writes.{Extends}
 use Rattle.rv_invariant.proofs.Adding.{extends-last}
 use Rattle.rv_invariant.proofs.lines.add_weight.Goals as goal

@@ -1,7 +1,6 @@
 use Rattle.std.proofs.Common.{take}
 use Rattle.std.specs.Prelude.{flat_map}
-use Rattle.rv_invariant.specs.Pieces.{weight_texts}
-use Rattle.rv_invariant.specs.Writes.{Extends}
+use Rattle.rv_invariant.specs.{Pieces.weight_texts, Writes.Extends}
 use Rattle.rv_invariant.proofs.lines.add_weights.Given as goal
 
 abbrev pub invariant-loop-index : goal.invariant-loop-index

@@ -1,7 +1,5 @@
-use Rattle.std.proofs.Common.{◌∷◌, [], List, ℕ, ap, ◌∙◌, subst}
-use Rattle.std.specs.Fmt.{signed_decimal}
-use Rattle.std.specs.Int.{w128}
-use Rattle.std.proofs.lemmas.Int.{to_z-of_z}
+use Rattle.std.proofs.{Common.◌∷◌, Common.[], Common.List, Common.ℕ, Common.ap, Common.◌∙◌, Common.subst, lemmas.Int.to_z-of_z}
+use Rattle.std.specs.{Fmt.signed_decimal, Int.w128}
 use Rattle.rv_invariant.specs.Writes.{Extends}
 use Rattle.rv_invariant.proofs.Adding.{pushed}
 use Rattle.rv_invariant.proofs.lines.add_whole.Goals as goal

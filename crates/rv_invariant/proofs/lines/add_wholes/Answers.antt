@@ -1,7 +1,6 @@
 use Rattle.std.proofs.Common.{◌∷◌, [], ℤ, FitsSigned, map, take, rules, subst, arith}
-use Rattle.std.specs.Int.{w128}
 use Rattle.std.proofs.lemmas.Int.{to_z-of_z}
-use Rattle.std.specs.Fmt.{signed_decimal}
+use Rattle.std.specs.{Int.w128, Fmt.signed_decimal}
 use Rattle.rv_invariant.specs.Writes.{Extends}
 use Rattle.rv_invariant.proofs.Adding.{extends-none, extends-then, map-more, map-taken}
 use Rattle.rv_invariant.proofs.lines.add_wholes.Goals as goal

@@ -1,7 +1,6 @@
 use Rattle.std.proofs.Common.{◌∷◌, [], ◌<◌, ◌^◌, rules}
 use Rattle.std.specs.Prelude.{Some, decimal}
-use Rattle.rv_invariant.specs.Certificates.{IsHeld}
-use Rattle.rv_invariant.specs.Pieces.{diagram_record}
+use Rattle.rv_invariant.specs.{Certificates.IsHeld, Pieces.diagram_record}
 use Rattle.rv_invariant.proofs.Adding.{put-made, settled}
 use Rattle.rv_invariant.proofs.lines.write_diagram.Goals as goal
 

@@ -1,7 +1,6 @@
 use Rattle.std.proofs.Common.{◌+◌, ◌++◌, ◌∷◌, [], ℕ, length, map, take, ap, subst, arith}
 use Rattle.std.specs.Prelude.{Some, decimal}
-use Rattle.rv_invfile.specs.Rules.{Fields}
-use Rattle.rv_invfile.specs.Writes.{Adds}
+use Rattle.rv_invfile.specs.{Rules.Fields, Writes.Adds}
 use Rattle.rv_invfile.proofs.Adding.{adds-then}
 use Rattle.rv_invariant.specs.Pieces.{row_record}
 use Rattle.rv_invariant.proofs.Adding.{adds-same, map-more, map-taken}

@@ -1,10 +1,6 @@
-use Rattle.std.proofs.Common.{◌∷◌, [], ℤ, FitsSigned, rules, subst}
-use Rattle.std.specs.Int.{w128}
-use Rattle.std.proofs.lemmas.Int.{to_z-of_z}
-use Rattle.std.specs.Prelude.{Some, codes}
-use Rattle.std.specs.Fmt.{signed_decimal}
-use Rattle.rv_invariant.specs.Pieces.{by_record}
-use Rattle.rv_invariant.specs.Writes.{HasFields}
+use Rattle.std.proofs.{Common.◌∷◌, Common.[], Common.ℤ, Common.FitsSigned, Common.rules, Common.subst, lemmas.Int.to_z-of_z}
+use Rattle.std.specs.{Int.w128, Prelude.Some, Prelude.codes, Fmt.signed_decimal}
+use Rattle.rv_invariant.specs.{Pieces.by_record, Writes.HasFields}
 use Rattle.rv_invariant.proofs.Adding.{put-made}
 use Rattle.rv_invariant.proofs.lines.write_proof.Goals as goal
 

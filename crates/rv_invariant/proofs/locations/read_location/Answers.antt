@@ -1,16 +1,12 @@
 use Rattle.std.proofs.Common.{◌≡◌, [], List, length, refl, sym, ap, ◌∙◌, subst}
+use Rattle.std.proofs.{lemmas.List.length-set, lemmas.Result.err_from_is_err_and}
 use Rattle.std.specs.Prelude.{Some, Ok, Err, slice_set}
-use Rattle.std.proofs.lemmas.List.{length-set}
-use Rattle.std.proofs.lemmas.Result.{err_from_is_err_and}
-use Rattle.rv_proofs.specs.declared.certificate.Entry.{Entry}
-use Rattle.rv_proofs.specs.declared.certificate.Location.{Location}
+use Rattle.rv_proofs.specs.{declared.certificate.Entry.Entry, declared.certificate.Location.Location}
 use Rattle.rv_invfile.specs.Readers.{Reads, run}
 use Rattle.rv_invfile.proofs.Bound.{bind_ok, bind_err}
-use Rattle.rv_invariant.specs.declared.fronts.Front.{Front}
 use Rattle.rv_invariant.specs.Certificates.{after_front, entries_rule, front_rule, high_of, known_at, learn, location_of, location_rule, low_of}
-use Rattle.rv_invariant.specs.Continues.{Then}
-use Rattle.rv_invariant.proofs.Going.{known-is}
-use Rattle.rv_invariant.proofs.Choices.{continues-part, continues-stop}
+use Rattle.rv_invariant.specs.{declared.fronts.Front.Front, Continues.Then}
+use Rattle.rv_invariant.proofs.{Going.known-is, Choices.continues-part, Choices.continues-stop}
 use Rattle.rv_invariant.proofs.locations.read_location.Goals as goal
 
 pub returns-in_err-front : goal.returns-in_err-front

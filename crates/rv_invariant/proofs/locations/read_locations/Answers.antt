@@ -1,14 +1,10 @@
 use Rattle.std.proofs.Common.{◌≡◌, ◌+◌, ◌-◌, ◌++◌, ◌∷◌, [], suc, length, arith, sym, ap, ◌∙◌, subst}
+use Rattle.std.proofs.{lemmas.List.length-replicate, lemmas.List.length_push, lemmas.Result.err_from_is_err_and}
 use Rattle.std.specs.Prelude.{replicate, None, Ok, Err}
-use Rattle.std.proofs.lemmas.List.{length-replicate, length_push}
-use Rattle.std.proofs.lemmas.Result.{err_from_is_err_and}
-use Rattle.rv_proofs.specs.declared.certificate.Certificate.{Certificate}
-use Rattle.rv_proofs.specs.declared.certificate.Location.{Location}
+use Rattle.rv_proofs.specs.{declared.certificate.Certificate.Certificate, declared.certificate.Location.Location}
 use Rattle.rv_invfile.specs.Readers.{run}
-use Rattle.rv_invariant.specs.Certificates.{location_rule, locations_rule}
-use Rattle.rv_invariant.specs.Continues.{Continues, Then}
-use Rattle.rv_invariant.proofs.Going.{begun, over, over-stops, locations-suc, locations-wait}
-use Rattle.rv_invariant.proofs.Choices.{stops-with-next}
+use Rattle.rv_invariant.specs.{Certificates.location_rule, Certificates.locations_rule, Continues.Continues, Continues.Then}
+use Rattle.rv_invariant.proofs.{Going.begun, Going.over, Going.over-stops, Going.locations-suc, Going.locations-wait, Choices.stops-with-next}
 use Rattle.rv_invariant.proofs.locations.read_locations.Goals as goal
 
 pub loop-index-init : goal.loop-index-init

@@ -1,10 +1,7 @@
-use Rattle.std.proofs.Common.{◌+◌, ◌-◌, ◌*◌, ◌/◌, ◌∙◌, length, ap, sym}
+use Rattle.std.proofs.{Common.◌+◌, Common.◌-◌, Common.◌*◌, Common.◌/◌, Common.◌∙◌, Common.length, Common.ap, Common.sym, lemmas.Result.err_from_is_err_and}
 use Rattle.std.specs.Prelude.{codes, pos}
-use Rattle.std.proofs.lemmas.Result.{err_from_is_err_and}
-use Rattle.rv_invfile.specs.Ahead.{here}
-use Rattle.rv_invfile.specs.Texts.{is_natural, natural}
-use Rattle.rv_invariant.specs.Groups.{upto}
-use Rattle.rv_invariant.specs.Pieces.{is_divisor, is_pair_field, multipliers_of, weight_at}
+use Rattle.rv_invfile.specs.{Ahead.here, Texts.is_natural, Texts.natural}
+use Rattle.rv_invariant.specs.{Groups.upto, Pieces.is_divisor, Pieces.is_pair_field, Pieces.multipliers_of, Pieces.weight_at}
 use Rattle.rv_invariant.proofs.Grouping.{grouped-is, groups-stop, none-wrong, two}
 use Rattle.rv_invariant.proofs.multipliers.read_pairs.Goals as goal
 

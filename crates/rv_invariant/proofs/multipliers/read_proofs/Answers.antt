@@ -1,8 +1,6 @@
-use Rattle.std.proofs.Common.{◌+◌, ◌-◌, ◌^◌, List}
-use Rattle.std.proofs.lemmas.Result.{err_from_is_err_and}
+use Rattle.std.proofs.{Common.◌+◌, Common.◌-◌, Common.◌^◌, Common.List, lemmas.Result.err_from_is_err_and}
 use Rattle.rv_rows.specs.declared.farkas.Multipliers.{Multipliers}
-use Rattle.rv_invfile.specs.Readers.{run}
-use Rattle.rv_invfile.specs.Parts.{times}
+use Rattle.rv_invfile.specs.{Readers.run, Parts.times}
 use Rattle.rv_invariant.specs.Pieces.{a_proof}
 use Rattle.rv_invfile.proofs.Loops.{times_at, times_past, goes_on, leaves, ends}
 use Rattle.rv_invariant.proofs.multipliers.read_proofs.Goals as goal

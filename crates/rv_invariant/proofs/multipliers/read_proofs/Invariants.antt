@@ -1,7 +1,5 @@
 use Rattle.std.proofs.Common.{◌≡◌, ◌-◌, ◌^◌}
-use Rattle.rv_invfile.specs.Readers.{run}
-use Rattle.rv_invfile.specs.Parts.{times}
-use Rattle.rv_invfile.specs.Fronts.{with_front}
+use Rattle.rv_invfile.specs.{Readers.run, Parts.times, Fronts.with_front}
 use Rattle.rv_invariant.specs.Pieces.{a_proof}
 use Rattle.rv_invariant.proofs.multipliers.read_proofs.Given as goal
 

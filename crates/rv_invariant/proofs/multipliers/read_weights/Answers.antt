@@ -2,11 +2,8 @@ use Rattle.std.proofs.Common.{◌≡◌, ◌+◌, ◌<◌, ◌∙◌, ℕ, true,
 use Rattle.std.proofs.lemmas.Result.{err_from_is_err_and}
 use Rattle.rv_invfile.specs.Ahead.{here}
 use Rattle.rv_rows.specs.declared.farkas.Weight.{Weight}
-use Rattle.rv_invariant.specs.Groups.{upto}
-use Rattle.rv_invariant.specs.Judging.{AreRight}
-use Rattle.rv_invariant.specs.Pieces.{is_pair_field, least_at, weight_at}
-use Rattle.rv_invariant.proofs.Grouping.{group-stops}
-use Rattle.rv_invariant.proofs.Looping.{all-read, pushed-length, pushed-read, pushed-right}
+use Rattle.rv_invariant.specs.{Groups.upto, Judging.AreRight, Pieces.is_pair_field, Pieces.least_at, Pieces.weight_at}
+use Rattle.rv_invariant.proofs.{Grouping.group-stops, Looping.all-read, Looping.pushed-length, Looping.pushed-read, Looping.pushed-right}
 use Rattle.rv_invariant.proofs.multipliers.read_weights.Goals as goal
 
 pub returns-in_err-weight : goal.returns-in_err-weight

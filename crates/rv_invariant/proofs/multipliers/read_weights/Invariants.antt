@@ -1,8 +1,6 @@
 use Rattle.std.proofs.Common.{◌≡◌, length}
 use Rattle.rv_invfile.specs.Ahead.{here}
-use Rattle.rv_invariant.specs.Groups.{upto}
-use Rattle.rv_invariant.specs.Judging.{AreRight}
-use Rattle.rv_invariant.specs.Pieces.{is_pair_field, least_at, weight_at}
+use Rattle.rv_invariant.specs.{Groups.upto, Judging.AreRight, Pieces.is_pair_field, Pieces.least_at, Pieces.weight_at}
 use Rattle.rv_invariant.proofs.multipliers.read_weights.Given as goal
 
 abbrev pub invariant-loop-index : goal.invariant-loop-index

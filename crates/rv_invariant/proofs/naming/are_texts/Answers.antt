@@ -1,10 +1,6 @@
-use Rattle.std.proofs.Common.{ℕ, List, ◌∷◌, arith, sym, ap, ◌∙◌, below_more}
-use Rattle.std.proofs.lemmas.List.{map-id}
-use Rattle.rv_invfile.specs.Ahead.{here}
-use Rattle.rv_invfile.specs.Forms.{word_of}
-use Rattle.rv_invfile.specs.Texts.{same_fields}
-use Rattle.rv_invfile.proofs.Decimals.{bytes-same}
-use Rattle.rv_invfile.proofs.SameFields.{later-differ, later-same, text-at}
+use Rattle.std.proofs.{Common.ℕ, Common.List, Common.◌∷◌, Common.arith, Common.sym, Common.ap, Common.◌∙◌, Common.below_more, lemmas.List.map-id}
+use Rattle.rv_invfile.specs.{Ahead.here, Forms.word_of, Texts.same_fields}
+use Rattle.rv_invfile.proofs.{Decimals.bytes-same, SameFields.later-differ, SameFields.later-same, SameFields.text-at}
 use Rattle.rv_meaning.proofs.Rows.{no_flag}
 use Rattle.rv_invariant.proofs.naming.are_texts.Goals as goal
 

@@ -1,6 +1,5 @@
 use Rattle.std.proofs.Common.{true, refl, sym, ◌∙◌, length}
-use Rattle.rv_invfile.specs.Forms.{listed}
-use Rattle.rv_invfile.specs.Ahead.{here}
+use Rattle.rv_invfile.specs.{Forms.listed, Ahead.here}
 use Rattle.rv_invfile.proofs.OneRecord.{took_right, right, plain_kind, no_bad}
 use Rattle.rv_invariant.proofs.naming.read_texts.Goals as goal
 

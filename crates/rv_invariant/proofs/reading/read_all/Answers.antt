@@ -1,12 +1,10 @@
-use Rattle.std.proofs.Common.{[], ℕ, refl, ap, subst, arith}
+use Rattle.std.proofs.{Common.[], Common.ℕ, Common.refl, Common.ap, Common.subst, Common.arith, lemmas.Result.err_from_is_err_and}
 use Rattle.std.specs.Prelude.{None, replicate}
-use Rattle.std.proofs.lemmas.Result.{err_from_is_err_and}
 use Rattle.rv_proofs.specs.declared.certificate.Certificate.{Certificate}
 use Rattle.rv_invfile.specs.Readers.{Reads, run}
 use Rattle.rv_invariant.specs.declared.counts.Shape.{Shape}
 use Rattle.rv_invariant.specs.Certificates.{all_locations, certificate_rule, head_rule, locations_rule}
-use Rattle.rv_invariant.proofs.Counting.{shape-memories}
-use Rattle.rv_invariant.proofs.Choices.{chain-ok, chain-stops, chain-last}
+use Rattle.rv_invariant.proofs.{Counting.shape-memories, Choices.chain-ok, Choices.chain-stops, Choices.chain-last}
 use Rattle.rv_invariant.proofs.reading.read_all.Goals as goal
 
 pub read_locations-requires : goal.read_locations-requires

@@ -1,12 +1,8 @@
 use Rattle.std.proofs.Common.{List, refl}
 use Rattle.std.specs.Prelude.{Result, Ok, Err, IfOk, IfErr}
-use Rattle.rv_invfile.specs.declared.fault.FileFault.{FileFault}
 use Rattle.rv_invfile.specs.Rules.{Fields, Rule, IsDocument}
-use Rattle.rv_invfile.specs.Readers.{Gives, whole}
-use Rattle.rv_invfile.specs.Tells.{Explains}
-use Rattle.rv_invfile.specs.Csv.{records_of}
-use Rattle.rv_invfile.proofs.OnlyFault.{fault-found}
-use Rattle.rv_invfile.proofs.Answered.{document_read, fault_read, document_found}
+use Rattle.rv_invfile.specs.{declared.fault.FileFault.FileFault, Readers.Gives, Readers.whole, Tells.Explains, Csv.records_of}
+use Rattle.rv_invfile.proofs.{OnlyFault.fault-found, Answered.document_read, Answered.fault_read, Answered.document_found}
 use Rattle.rv_invariant.specs.Certificates.{certificate_rule}
 use Rattle.rv_invariant.proofs.reading.read_certificate.Goals as goal
 

@@ -1,10 +1,6 @@
-use Rattle.std.proofs.Common.{◌≡◌, ℕ, List, refl, ◌∙◌, subst}
+use Rattle.std.proofs.{Common.◌≡◌, Common.ℕ, Common.List, Common.refl, Common.◌∙◌, Common.subst, lemmas.Result.err_from_is_err_and}
 use Rattle.std.specs.Prelude.{codes, Ok, Err, ⊤}
-use Rattle.std.proofs.lemmas.Result.{err_from_is_err_and}
-use Rattle.rv_invfile.specs.Rules.{Rule}
-use Rattle.rv_invfile.specs.Readers.{Reads, run}
-use Rattle.rv_invfile.specs.Forms.{counts, exactly, names}
-use Rattle.rv_invfile.specs.Parts.{bind}
+use Rattle.rv_invfile.specs.{Rules.Rule, Readers.Reads, Readers.run, Forms.counts, Forms.exactly, Forms.names, Parts.bind}
 use Rattle.rv_flat.specs.declared.flat.Flat.{Flat}
 use Rattle.rv_invariant.specs.Certificates.{bits_rule, columns_rule, first_record, head_rule}
 use Rattle.rv_invariant.proofs.Choices.{chain-ok, chain-stops, chain-last}

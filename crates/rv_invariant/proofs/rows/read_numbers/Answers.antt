@@ -1,12 +1,9 @@
 use Rattle.std.proofs.Common.{◌≡◌, ◌+◌, ◌++◌, ◌∷◌, [], ◌^◌, ◌∙◌, length, sym, arith, ap}
-use Rattle.std.specs.Int.{w128}
 use Rattle.std.proofs.lemmas.Int.{to_z-of_z}
-use Rattle.rv_invfile.specs.Ahead.{here}
-use Rattle.rv_invfile.specs.Texts.{whole}
-use Rattle.rv_invariant.specs.Groups.{upto}
-use Rattle.rv_invariant.specs.Pieces.{coefficient_at, is_within}
-use Rattle.rv_invariant.proofs.Looping.{pushed-length, pushed-read}
-use Rattle.rv_invariant.proofs.Rowing.{all-right, fits-within, number-wrong, numbers-more}
+use Rattle.std.specs.Int.{w128}
+use Rattle.rv_invfile.specs.{Ahead.here, Texts.whole}
+use Rattle.rv_invariant.specs.{Groups.upto, Pieces.coefficient_at, Pieces.is_within}
+use Rattle.rv_invariant.proofs.{Looping.pushed-length, Looping.pushed-read, Rowing.all-right, Rowing.fits-within, Rowing.number-wrong, Rowing.numbers-more}
 use Rattle.rv_invariant.proofs.rows.read_numbers.Goals as goal
 
 pub returns-in_default-whole_within : goal.returns-in_default-whole_within

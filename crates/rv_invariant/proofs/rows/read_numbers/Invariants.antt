@@ -1,7 +1,6 @@
 use Rattle.std.proofs.Common.{◌≡◌, ◌+◌, ◌<◌, ℕ, true, length}
 use Rattle.rv_invfile.specs.Ahead.{here}
-use Rattle.rv_invariant.specs.Groups.{upto}
-use Rattle.rv_invariant.specs.Pieces.{coefficient_at, is_row_field}
+use Rattle.rv_invariant.specs.{Groups.upto, Pieces.coefficient_at, Pieces.is_row_field}
 use Rattle.rv_invariant.proofs.rows.read_numbers.Given as goal
 
 abbrev pub invariant-loop-index : goal.invariant-loop-index

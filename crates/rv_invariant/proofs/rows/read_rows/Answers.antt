@@ -1,9 +1,7 @@
 use Rattle.std.proofs.Common.{◌+◌, ◌-◌, List, length, arith, ap, ◌∙◌}
-use Rattle.std.proofs.lemmas.List.{length_push}
-use Rattle.std.proofs.lemmas.Result.{err_from_is_err_and}
+use Rattle.std.proofs.{lemmas.List.length_push, lemmas.Result.err_from_is_err_and}
 use Rattle.rv_rows.specs.declared.linear.Row.{Row}
-use Rattle.rv_invfile.specs.Readers.{run}
-use Rattle.rv_invfile.specs.Parts.{times}
+use Rattle.rv_invfile.specs.{Readers.run, Parts.times}
 use Rattle.rv_invariant.specs.Pieces.{a_row}
 use Rattle.rv_invfile.proofs.Loops.{times_at, times_past, goes_on, leaves, ends}
 use Rattle.rv_invariant.proofs.rows.read_rows.Goals as goal

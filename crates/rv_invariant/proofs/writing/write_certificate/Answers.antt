@@ -2,14 +2,9 @@ use Rattle.std.proofs.Common.{◌≡◌, [], List, ℕ, ap, sym, ◌∙◌, subs
 use Rattle.std.specs.Prelude.{IfOk, Result, Ok, Err}
 use Rattle.rv_flat.specs.declared.flat.Flat.{Flat}
 use Rattle.rv_proofs.specs.declared.certificate.Certificate.{Certificate}
-use Rattle.rv_invfile.specs.Csv.{records_of}
-use Rattle.rv_invfile.specs.Rules.{IsDocument}
-use Rattle.rv_invfile.specs.Writes.{lines, wide}
+use Rattle.rv_invfile.specs.{Csv.records_of, Rules.IsDocument, Writes.lines, Writes.wide}
 use Rattle.rv_invariant.specs.Certificates.{certificate_records, certificate_rule}
-use Rattle.rv_invariant.proofs.Adding.{held-fits}
-use Rattle.rv_invariant.proofs.Lined.{certificate-wide}
-use Rattle.rv_invariant.proofs.Located.{document-exists}
-use Rattle.rv_invariant.proofs.Sounding.{records-back}
+use Rattle.rv_invariant.proofs.{Adding.held-fits, Lined.certificate-wide, Located.document-exists, Sounding.records-back}
 use Rattle.rv_base.proofs.Lists.{same_text}
 use Rattle.rv_invariant.proofs.writing.write_certificate.Goals as goal
 

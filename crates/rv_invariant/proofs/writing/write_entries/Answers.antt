@@ -1,9 +1,8 @@
 use Rattle.std.proofs.Common.{◌+◌, ◌++◌, ◌∷◌, [], ℕ, length, take, ap, subst, arith}
-use Rattle.std.specs.Prelude.{Some, codes, decimal, flat_map}
 use Rattle.std.proofs.lemmas.Option.{slice_get_within}
+use Rattle.std.specs.Prelude.{Some, codes, decimal, flat_map}
 use Rattle.rv_proofs.specs.declared.certificate.Entry.{Entry}
-use Rattle.rv_invfile.specs.Rules.{Fields}
-use Rattle.rv_invfile.specs.Writes.{Adds}
+use Rattle.rv_invfile.specs.{Rules.Fields, Writes.Adds}
 use Rattle.rv_invfile.proofs.Adding.{adds-then}
 use Rattle.rv_invariant.specs.Certificates.{IsHeld, entry_records}
 use Rattle.rv_invariant.proofs.Adding.{adds-same, each-more, flat-more, flat-taken}

@@ -1,11 +1,9 @@
 use Rattle.std.proofs.Common.{◌≡◌, ◌∷◌, ◌++◌, [], List, map, ap, ◌∙◌, subst, append_assoc}
 use Rattle.std.specs.Prelude.{Some, OnOk, codes}
 use Rattle.rv_proofs.specs.declared.certificate.Location.{Location}
-use Rattle.rv_invfile.specs.Rules.{Fields}
-use Rattle.rv_invfile.specs.Writes.{Adds}
+use Rattle.rv_invfile.specs.{Rules.Fields, Writes.Adds}
 use Rattle.rv_invfile.proofs.Adding.{then-last}
-use Rattle.rv_invariant.specs.Certificates.{cases_records, rows_of}
-use Rattle.rv_invariant.specs.Pieces.{by_record, diagram_record, list_records}
+use Rattle.rv_invariant.specs.{Certificates.cases_records, Certificates.rows_of, Pieces.by_record, Pieces.diagram_record, Pieces.list_records}
 use Rattle.rv_invariant.proofs.writing.write_location.Goals as goal
 
 -- the lists of rows, one after the other

@@ -1,9 +1,7 @@
-use Rattle.std.proofs.Common.{◌+◌, ◌++◌, take, arith}
+use Rattle.std.proofs.{Common.◌+◌, Common.◌++◌, Common.take, Common.arith, lemmas.Option.slice_get_within}
 use Rattle.std.specs.Prelude.{Some, flat_map}
-use Rattle.std.proofs.lemmas.Option.{slice_get_within}
 use Rattle.rv_invfile.proofs.Adding.{adds-none, adds-then}
-use Rattle.rv_invariant.specs.Certificates.{location_records}
-use Rattle.rv_invariant.specs.Writes.{HasHeld}
+use Rattle.rv_invariant.specs.{Certificates.location_records, Writes.HasHeld}
 use Rattle.rv_invariant.proofs.Adding.{adds-same, each-more, flat-more, flat-taken}
 use Rattle.rv_invariant.proofs.writing.write_locations.Goals as goal
 

@@ -2,8 +2,7 @@ use Rattle.std.proofs.Common.{◌≡◌, ◌<◌, ℕ, take}
 use Rattle.std.specs.Prelude.{Some, flat_map, slice_get}
 use Rattle.rv_proofs.specs.declared.certificate.Location.{Location}
 use Rattle.rv_invfile.specs.Writes.{Adds}
-use Rattle.rv_invariant.specs.Certificates.{location_records}
-use Rattle.rv_invariant.specs.Writes.{HasHeld}
+use Rattle.rv_invariant.specs.{Certificates.location_records, Writes.HasHeld}
 use Rattle.rv_invariant.proofs.writing.write_locations.Given as goal
 
 abbrev pub invariant-loop-index : goal.invariant-loop-index

@@ -1,10 +1,8 @@
 use Rattle.std.proofs.Common.{◌∷◌, [], ◌∙◌, List, ℕ, subst}
 use Rattle.std.specs.Prelude.{Some, OnOk, codes}
-use Rattle.rv_invfile.specs.Rules.{Fields}
-use Rattle.rv_invfile.specs.Writes.{Adds}
+use Rattle.rv_invfile.specs.{Rules.Fields, Writes.Adds}
 use Rattle.rv_invfile.proofs.Adding.{then-last}
-use Rattle.rv_invariant.specs.Certificates.{first_record}
-use Rattle.rv_invariant.specs.Naming.{bit_texts, column_texts}
+use Rattle.rv_invariant.specs.{Certificates.first_record, Naming.bit_texts, Naming.column_texts}
 use Rattle.rv_invariant.proofs.writing.write_names.Goals as goal
 
 pub returns : goal.returns

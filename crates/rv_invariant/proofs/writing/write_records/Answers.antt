@@ -1,7 +1,6 @@
 use Rattle.std.proofs.Common.{◌∷◌, ◌++◌, [], ℕ, length, subst}
 use Rattle.std.specs.Prelude.{Some, codes, decimal, flat_map}
-use Rattle.rv_invfile.specs.Rules.{Fields}
-use Rattle.rv_invfile.specs.Writes.{Adds}
+use Rattle.rv_invfile.specs.{Rules.Fields, Writes.Adds}
 use Rattle.rv_invfile.proofs.Adding.{then-last}
 use Rattle.rv_invariant.specs.Certificates.{last_record, location_records, name_records}
 use Rattle.rv_invariant.proofs.writing.write_records.Goals as goal

@@ -1,6 +1,5 @@
 use Rattle.rv_invfile.specs.Traces.{trace_rule}
-use Rattle.rv_invfile.proofs.Begins.{awaited-begins}
-use Rattle.rv_invfile.proofs.ReadBack.{trace-alive}
+use Rattle.rv_invfile.proofs.{Begins.awaited-begins, ReadBack.trace-alive}
 use Rattle.rv_invfile.proofs.laws.awaited_records.Goals as goal
 
 pub returns : goal.returns

@@ -1,8 +1,5 @@
-use Rattle.std.proofs.Common.{◌≡◌, sym, ◌∙◌, subst}
-use Rattle.std.specs.Prelude.{decimal, Ok, Err, Result}
-use Rattle.std.specs.Str.{IsUtf8}
-use Rattle.std.proofs.lemmas.Fmt.{IsAscii-decimal, parse-decimal}
-use Rattle.std.proofs.lemmas.Str.{IsUtf8-from_ascii}
+use Rattle.std.proofs.{Common.◌≡◌, Common.sym, Common.◌∙◌, Common.subst, lemmas.Fmt.IsAscii-decimal, lemmas.Fmt.parse-decimal, lemmas.Str.IsUtf8-from_ascii}
+use Rattle.std.specs.{Prelude.decimal, Prelude.Ok, Prelude.Err, Prelude.Result, Str.IsUtf8}
 use Rattle.rv_invfile.proofs.numbers.parsed.Goals as goal
 
 refused : {X E : Type 0} {r : Result X E} {x : X} {e : E} → r ≡ Ok x → r ≡ Err e → ⊥

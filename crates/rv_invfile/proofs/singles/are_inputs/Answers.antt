@@ -1,9 +1,7 @@
 use Rattle.std.proofs.Common.{arith, sym, ap, ◌∙◌, below_more}
-use Rattle.rv_invfile.specs.Ahead.{here}
-use Rattle.rv_invfile.specs.Forms.{word_of}
+use Rattle.rv_invfile.specs.{Ahead.here, Forms.word_of}
 use Rattle.rv_flat.specs.declared.parts.FlatInput.{FlatInput}
-use Rattle.rv_invfile.proofs.Decimals.{bytes-same}
-use Rattle.rv_invfile.proofs.SameFields.{later-differ, later-same, text-at}
+use Rattle.rv_invfile.proofs.{Decimals.bytes-same, SameFields.later-differ, SameFields.later-same, SameFields.text-at}
 use Rattle.rv_meaning.proofs.Rows.{no_flag}
 use Rattle.rv_invfile.proofs.singles.are_inputs.Goals as goal
 

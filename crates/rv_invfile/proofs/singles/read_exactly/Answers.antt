@@ -1,6 +1,5 @@
 use Rattle.std.proofs.Common.{map, true, refl, sym, ◌∙◌, length}
-use Rattle.rv_invfile.specs.Forms.{fixed}
-use Rattle.rv_invfile.specs.Ahead.{here}
+use Rattle.rv_invfile.specs.{Forms.fixed, Ahead.here}
 use Rattle.rv_invfile.proofs.OneRecord.{took_right, right, plain_kind, no_bad}
 use Rattle.rv_invfile.proofs.singles.read_exactly.Goals as goal
 

@@ -1,8 +1,7 @@
 use Rattle.std.proofs.Common.{◌≡◌, ◌∙◌, ◌+◌, ◌++◌, ◌∷◌, [], map, drop, ap}
 use Rattle.csv.specs.Records.{fields_of}
 use Rattle.rv_flat.specs.declared.parts.FlatInput.{FlatInput}
-use Rattle.rv_invfile.specs.Texts.{value_text}
-use Rattle.rv_invfile.specs.Traces.{input_kinds, value_texts}
+use Rattle.rv_invfile.specs.{Texts.value_text, Traces.input_kinds, Traces.value_texts}
 use Rattle.rv_invfile.proofs.Adding.{texts-more}
 use Rattle.rv_invfile.proofs.trace_writing.add_values.Goals as goal
 

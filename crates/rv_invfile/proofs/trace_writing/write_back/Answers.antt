@@ -1,8 +1,7 @@
 use Rattle.std.proofs.Common.{◌∷◌, [], List, length, map, subst}
 use Rattle.std.specs.Prelude.{Some, codes, decimal}
 use Rattle.rv_flat.specs.declared.parts.FlatInput.{FlatInput}
-use Rattle.rv_invfile.specs.Traces.{last_record, instant_record}
-use Rattle.rv_invfile.specs.Writes.{Adds}
+use Rattle.rv_invfile.specs.{Traces.last_record, Traces.instant_record, Writes.Adds}
 use Rattle.rv_invfile.proofs.Adding.{then-last, adds-then}
 use Rattle.rv_invfile.proofs.trace_writing.write_back.Goals as goal
 

@@ -1,8 +1,6 @@
 use Rattle.std.proofs.Common.{◌∷◌, [], ℕ, length, ap, ◌∙◌, subst}
 use Rattle.std.specs.Prelude.{Some, codes, decimal}
-use Rattle.rv_invfile.specs.Rules.{Fields}
-use Rattle.rv_invfile.specs.Traces.{first_record, start_records}
-use Rattle.rv_invfile.specs.Writes.{Adds}
+use Rattle.rv_invfile.specs.{Rules.Fields, Traces.first_record, Traces.start_records, Writes.Adds}
 use Rattle.rv_invfile.proofs.Adding.{then-last, adds-then}
 use Rattle.rv_invfile.proofs.trace_writing.write_front.Goals as goal
 

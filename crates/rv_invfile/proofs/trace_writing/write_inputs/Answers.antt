@@ -2,8 +2,7 @@ use Rattle.std.proofs.Common.{◌∷◌, [], map, subst}
 use Rattle.std.specs.Prelude.{Some, OnOk, codes}
 use Rattle.csv.specs.Records.{fields_of, partial_of}
 use Rattle.rv_flat.specs.declared.parts.FlatInput.{FlatInput}
-use Rattle.rv_invfile.specs.Rules.{Fields}
-use Rattle.rv_invfile.specs.Writes.{Adds}
+use Rattle.rv_invfile.specs.{Rules.Fields, Writes.Adds}
 use Rattle.rv_invfile.proofs.Adding.{row-is}
 use Rattle.rv_invfile.proofs.trace_writing.write_inputs.Goals as goal
 

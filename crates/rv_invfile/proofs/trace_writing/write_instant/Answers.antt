@@ -1,9 +1,7 @@
 use Rattle.std.proofs.Common.{◌∷◌, [], subst}
 use Rattle.std.specs.Prelude.{Some, OnOk, codes}
 use Rattle.csv.specs.Records.{fields_of, partial_of}
-use Rattle.rv_invfile.specs.Rules.{Fields}
-use Rattle.rv_invfile.specs.Traces.{input_kinds, value_texts}
-use Rattle.rv_invfile.specs.Writes.{Adds}
+use Rattle.rv_invfile.specs.{Rules.Fields, Traces.input_kinds, Traces.value_texts, Writes.Adds}
 use Rattle.rv_invfile.proofs.Adding.{row-is}
 use Rattle.rv_invfile.proofs.trace_writing.write_instant.Goals as goal
 

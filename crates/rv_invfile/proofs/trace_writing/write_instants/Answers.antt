@@ -1,10 +1,7 @@
-use Rattle.std.proofs.Common.{◌∙◌, ◌++◌, ◌∷◌, [], List, map, refl, subst}
-use Rattle.std.proofs.lemmas.List.{length-map}
+use Rattle.std.proofs.{Common.◌∙◌, Common.◌++◌, Common.◌∷◌, Common.[], Common.List, Common.map, Common.refl, Common.subst, lemmas.List.length-map}
 use Rattle.std.specs.Prelude.{Some}
 use Rattle.rv_flat.specs.declared.parts.FlatInput.{FlatInput}
-use Rattle.rv_invfile.specs.Rules.{Fields}
-use Rattle.rv_invfile.specs.Traces.{HaveKinds, input_kinds, instant_record}
-use Rattle.rv_invfile.specs.Writes.{Adds}
+use Rattle.rv_invfile.specs.{Rules.Fields, Traces.HaveKinds, Traces.input_kinds, Traces.instant_record, Writes.Adds}
 use Rattle.rv_invfile.proofs.Adding.{adds-none, adds-then, all-at, each-more, each-none, kinds-length}
 use Rattle.rv_invfile.proofs.trace_writing.write_instants.Goals as goal
 

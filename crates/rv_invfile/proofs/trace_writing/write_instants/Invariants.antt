@@ -1,8 +1,6 @@
 use Rattle.std.proofs.Common.{◌≡◌, ◌++◌, List, drop, map}
 use Rattle.std.specs.Prelude.{Some}
-use Rattle.rv_invfile.specs.Rules.{Fields}
-use Rattle.rv_invfile.specs.Traces.{instant_record}
-use Rattle.rv_invfile.specs.Writes.{Adds}
+use Rattle.rv_invfile.specs.{Rules.Fields, Traces.instant_record, Writes.Adds}
 use Rattle.rv_invfile.proofs.trace_writing.write_instants.Given as goal
 
 abbrev pub invariant-loop-values : goal.invariant-loop-values

@@ -1,10 +1,8 @@
-use Rattle.std.proofs.Common.{◌∙◌, List, map, subst}
-use Rattle.std.proofs.lemmas.List.{length-map}
+use Rattle.std.proofs.{Common.◌∙◌, Common.List, Common.map, Common.subst, lemmas.List.length-map}
 use Rattle.std.specs.Prelude.{Some, OnOk}
 use Rattle.rv_base.specs.declared.value.Value.{Value}
 use Rattle.rv_flat.specs.declared.parts.FlatMemory.{FlatMemory}
-use Rattle.rv_invfile.specs.Traces.{front_records, back_records}
-use Rattle.rv_invfile.specs.Writes.{Adds}
+use Rattle.rv_invfile.specs.{Traces.front_records, Traces.back_records, Writes.Adds}
 use Rattle.rv_invfile.proofs.Adding.{kinds-length, then-last}
 use Rattle.rv_invfile.proofs.trace_writing.write_records.Goals as goal
 

@@ -1,9 +1,6 @@
 use Rattle.std.proofs.Common.{◌++◌, ◌∷◌, [], List, refl, ap, ◌∙◌, subst, arith}
 use Rattle.std.specs.Prelude.{Some, codes}
-use Rattle.rv_invfile.specs.Rules.{Fields}
-use Rattle.rv_invfile.specs.Texts.{dotted}
-use Rattle.rv_invfile.specs.Traces.{start_record, start_records}
-use Rattle.rv_invfile.specs.Writes.{Adds}
+use Rattle.rv_invfile.specs.{Rules.Fields, Texts.dotted, Traces.start_record, Traces.start_records, Writes.Adds}
 use Rattle.rv_invfile.proofs.Adding.{adds-then, adds-none, starts-more, starts-none}
 use Rattle.rv_invfile.proofs.trace_writing.write_starts.Goals as goal
 

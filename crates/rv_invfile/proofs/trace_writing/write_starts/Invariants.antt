@@ -1,8 +1,6 @@
 use Rattle.std.proofs.Common.{◌≡◌, ◌++◌, List, drop}
 use Rattle.std.specs.Prelude.{Some}
-use Rattle.rv_invfile.specs.Rules.{Fields}
-use Rattle.rv_invfile.specs.Traces.{start_records}
-use Rattle.rv_invfile.specs.Writes.{Adds}
+use Rattle.rv_invfile.specs.{Rules.Fields, Traces.start_records, Writes.Adds}
 use Rattle.rv_invfile.proofs.trace_writing.write_starts.Given as goal
 
 abbrev pub invariant-loop-index : goal.invariant-loop-index

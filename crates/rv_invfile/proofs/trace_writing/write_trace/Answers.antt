@@ -1,13 +1,9 @@
 use Rattle.std.proofs.Common.{◌≡◌, ◌∙◌, [], List, ℕ, ap, sym, subst}
 use Rattle.std.specs.Prelude.{IfOk, Result, Ok, Err}
-use Rattle.rv_invfile.specs.Csv.{records_of}
-use Rattle.rv_invfile.specs.Rules.{Fields, IsDocument}
-use Rattle.rv_invfile.specs.Traces.{trace_records, trace_rule}
-use Rattle.rv_invfile.specs.Writes.{lines, wide}
+use Rattle.rv_invfile.specs.{Csv.records_of, Rules.Fields, Rules.IsDocument, Traces.trace_records, Traces.trace_rule, Writes.lines, Writes.wide}
 use Rattle.rv_base.specs.declared.value.Trace.{Trace}
 use Rattle.rv_flat.specs.declared.flat.Flat.{Flat}
-use Rattle.rv_invfile.proofs.ReadBack.{trace-document}
-use Rattle.rv_invfile.proofs.Sound.{trace-wide, trace-read}
+use Rattle.rv_invfile.proofs.{ReadBack.trace-document, Sound.trace-wide, Sound.trace-read}
 use Rattle.rv_base.proofs.Lists.{same_text}
 use Rattle.rv_invfile.proofs.trace_writing.write_trace.Goals as goal
 

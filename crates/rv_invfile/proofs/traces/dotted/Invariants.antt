@@ -1,6 +1,5 @@
 use Rattle.std.proofs.Common.{◌≡◌, take}
-use Rattle.std.specs.Prelude.{flat_map}
-use Rattle.std.specs.String.{string_bytes}
+use Rattle.std.specs.{Prelude.flat_map, String.string_bytes}
 use Rattle.rv_invfile.proofs.Joined.{pointed}
 use Rattle.rv_invfile.proofs.traces.dotted.Given as goal
 

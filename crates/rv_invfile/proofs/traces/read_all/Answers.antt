@@ -1,15 +1,9 @@
-use Rattle.std.proofs.Common.{◌≡◌, sym, ◌∙◌, subst, List, ℕ}
+use Rattle.std.proofs.{Common.◌≡◌, Common.sym, Common.◌∙◌, Common.subst, Common.List, Common.ℕ, lemmas.Result.err_from_is_err_and}
 use Rattle.std.specs.Prelude.{Err, Ok, codes}
-use Rattle.std.proofs.lemmas.Result.{err_from_is_err_and}
-use Rattle.rv_base.specs.declared.value.Value.{Value}
-use Rattle.rv_base.specs.declared.value.Trace.{Trace}
+use Rattle.rv_base.specs.{declared.value.Value.Value, declared.value.Trace.Trace}
 use Rattle.rv_flat.specs.declared.parts.FlatMemory.{FlatMemory}
-use Rattle.rv_invfile.specs.Readers.{Reads, run}
-use Rattle.rv_invfile.specs.Parts.{each}
-use Rattle.rv_invfile.specs.Forms.{names, counts}
-use Rattle.rv_invfile.specs.Traces.{start, trace_end}
-use Rattle.rv_invfile.proofs.Bound.{part_stops, bind_ok}
-use Rattle.rv_invfile.proofs.Instants.{to_starts}
+use Rattle.rv_invfile.specs.{Readers.Reads, Readers.run, Parts.each, Forms.names, Forms.counts, Traces.start, Traces.trace_end}
+use Rattle.rv_invfile.proofs.{Bound.part_stops, Bound.bind_ok, Instants.to_starts}
 use Rattle.rv_invfile.proofs.traces.read_all.Goals as goal
 
 pub returns-in_err-starts : goal.returns-in_err-starts

@@ -1,16 +1,9 @@
-use Rattle.std.proofs.Common.{◌≡◌, sym, ◌∙◌, subst, List, map}
+use Rattle.std.proofs.{Common.◌≡◌, Common.sym, Common.◌∙◌, Common.subst, Common.List, Common.map, lemmas.Result.err_from_is_err_and}
 use Rattle.std.specs.Prelude.{Err, Ok, ⊤, codes}
-use Rattle.std.proofs.lemmas.Result.{err_from_is_err_and}
-use Rattle.rv_base.specs.declared.value.Value.{Value}
-use Rattle.rv_base.specs.declared.value.Trace.{Trace}
+use Rattle.rv_base.specs.{declared.value.Value.Value, declared.value.Trace.Trace}
 use Rattle.rv_flat.specs.declared.parts.FlatInput.{FlatInput}
-use Rattle.rv_invfile.specs.Readers.{Reads, run}
-use Rattle.rv_invfile.specs.Parts.{times}
-use Rattle.rv_invfile.specs.Forms.{exactly, lists}
-use Rattle.rv_invfile.specs.Rules.{done}
-use Rattle.rv_invfile.specs.Traces.{instant, last_record}
-use Rattle.rv_invfile.proofs.Bound.{part_stops, bind_ok}
-use Rattle.rv_invfile.proofs.Instants.{to_instants, to_last, last_part}
+use Rattle.rv_invfile.specs.{Readers.Reads, Readers.run, Parts.times, Forms.exactly, Forms.lists, Rules.done, Traces.instant, Traces.last_record}
+use Rattle.rv_invfile.proofs.{Bound.part_stops, Bound.bind_ok, Instants.to_instants, Instants.to_last, Instants.last_part}
 use Rattle.rv_invfile.proofs.traces.read_end.Goals as goal
 
 pub returns-in_err-instants : goal.returns-in_err-instants

@@ -1,9 +1,6 @@
-use Rattle.std.proofs.Common.{◌+◌, ◌-◌, List}
-use Rattle.std.proofs.lemmas.Result.{err_from_is_err_and}
+use Rattle.std.proofs.{Common.◌+◌, Common.◌-◌, Common.List, lemmas.Result.err_from_is_err_and}
 use Rattle.rv_base.specs.declared.value.Value.{Value}
-use Rattle.rv_invfile.specs.Readers.{run}
-use Rattle.rv_invfile.specs.Parts.{times}
-use Rattle.rv_invfile.specs.Traces.{instant}
+use Rattle.rv_invfile.specs.{Readers.run, Parts.times, Traces.instant}
 use Rattle.rv_invfile.proofs.Loops.{times_at, times_past, goes_on, leaves, ends}
 use Rattle.rv_invfile.proofs.traces.read_instants.Goals as goal
 

@@ -1,8 +1,5 @@
 use Rattle.std.proofs.Common.{◌≡◌, ◌-◌}
-use Rattle.rv_invfile.specs.Readers.{run}
-use Rattle.rv_invfile.specs.Parts.{times}
-use Rattle.rv_invfile.specs.Fronts.{with_front}
-use Rattle.rv_invfile.specs.Traces.{instant}
+use Rattle.rv_invfile.specs.{Readers.run, Parts.times, Fronts.with_front, Traces.instant}
 use Rattle.rv_invfile.proofs.traces.read_instants.Given as goal
 
 abbrev pub invariant-loop-done : goal.invariant-loop-done

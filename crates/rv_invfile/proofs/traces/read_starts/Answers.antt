@@ -1,9 +1,6 @@
-use Rattle.std.proofs.Common.{◌+◌, List, drop}
-use Rattle.std.proofs.lemmas.Result.{err_from_is_err_and}
+use Rattle.std.proofs.{Common.◌+◌, Common.List, Common.drop, lemmas.Result.err_from_is_err_and}
 use Rattle.rv_base.specs.declared.value.Value.{Value}
-use Rattle.rv_invfile.specs.Readers.{run}
-use Rattle.rv_invfile.specs.Parts.{each}
-use Rattle.rv_invfile.specs.Traces.{start}
+use Rattle.rv_invfile.specs.{Readers.run, Parts.each, Traces.start}
 use Rattle.rv_invfile.proofs.Loops.{each_at, each_past, goes_on, leaves, ends}
 use Rattle.rv_invfile.proofs.traces.read_starts.Goals as goal
 

@@ -1,8 +1,5 @@
 use Rattle.std.proofs.Common.{◌≡◌, drop}
-use Rattle.rv_invfile.specs.Readers.{run}
-use Rattle.rv_invfile.specs.Parts.{each}
-use Rattle.rv_invfile.specs.Fronts.{with_front}
-use Rattle.rv_invfile.specs.Traces.{start}
+use Rattle.rv_invfile.specs.{Readers.run, Parts.each, Fronts.with_front, Traces.start}
 use Rattle.rv_invfile.proofs.traces.read_starts.Given as goal
 
 abbrev pub invariant-loop-memory : goal.invariant-loop-memory

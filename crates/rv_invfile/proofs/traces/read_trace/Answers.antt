@@ -1,18 +1,11 @@
 use Rattle.std.proofs.Common.{◌≡◌, List, refl, sym, ap, ◌∙◌, subst}
 use Rattle.std.specs.Prelude.{Result, Ok, Err, IfOk, IfErr}
-use Rattle.rv_invfile.specs.declared.fault.FileFault.{FileFault}
-use Rattle.rv_invfile.specs.Rules.{Fields, Rule, IsDocument}
-use Rattle.rv_invfile.specs.Readers.{Gives, whole}
-use Rattle.rv_invfile.specs.Tells.{Explains}
-use Rattle.rv_invfile.specs.Csv.{records_of}
-use Rattle.rv_invfile.specs.Traces.{trace_rule, trace_records, Fits}
+use Rattle.rv_invfile.specs.{declared.fault.FileFault.FileFault, Rules.Fields, Rules.Rule, Rules.IsDocument, Readers.Gives, Readers.whole, Tells.Explains}
+use Rattle.rv_invfile.specs.{Csv.records_of, Traces.trace_rule, Traces.trace_records, Traces.Fits}
 use Rattle.rv_base.specs.declared.value.Trace.{Trace}
 use Rattle.rv_flat.specs.declared.flat.Flat.{Flat}
-use Rattle.rv_invfile.proofs.Written.{trace-written}
-use Rattle.rv_invfile.proofs.ReadBack.{trace-document}
-use Rattle.rv_invfile.proofs.Sound.{trace-read}
-use Rattle.rv_invfile.proofs.OnlyFault.{fault-found}
 use Rattle.rv_invfile.proofs.Answered.{document_read, fault_read, document_found}
+use Rattle.rv_invfile.proofs.{Written.trace-written, ReadBack.trace-document, Sound.trace-read, OnlyFault.fault-found}
 use Rattle.rv_invfile.proofs.traces.read_trace.Goals as goal
 
 is-document : {A : Type 0} (rule : Rule A) (rs : List Fields) (r : Result A FileFault) → Gives (whole rule rs) r → IfOk r (λ a. IsDocument rule rs a)

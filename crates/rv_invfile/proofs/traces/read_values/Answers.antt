@@ -1,8 +1,6 @@
 use Rattle.std.proofs.Common.{◌+◌, arith, sym, ap, ◌∙◌, length, below_more}
 use Rattle.std.specs.Prelude.{is_some}
-use Rattle.rv_invfile.specs.Ahead.{here}
-use Rattle.rv_invfile.specs.Texts.{value_of}
-use Rattle.rv_invfile.specs.Traces.{given, read_values, input_kinds, tail_of}
+use Rattle.rv_invfile.specs.{Ahead.here, Texts.value_of, Traces.given, Traces.read_values, Traces.input_kinds, Traces.tail_of}
 use Rattle.rv_invfile.proofs.Instants.{one-bad, none-bad, field-allowed, values-more, values-end}
 use Rattle.rv_invfile.proofs.traces.read_values.Goals as goal
 

@@ -1,6 +1,5 @@
 use Rattle.std.proofs.Common.{◌≡◌, ◌+◌, ◌<◌, ◌++◌, ℕ, true, drop}
-use Rattle.rv_invfile.specs.Ahead.{here}
-use Rattle.rv_invfile.specs.Traces.{given, read_values, input_kinds, tail_of}
+use Rattle.rv_invfile.specs.{Ahead.here, Traces.given, Traces.read_values, Traces.input_kinds, Traces.tail_of}
 use Rattle.rv_invfile.proofs.traces.read_values.Given as goal
 
 abbrev pub invariant-loop-index : goal.invariant-loop-index

@@ -1,5 +1,4 @@
-use Rattle.rv_made_order.proofs.Settled.{typed_of, settled}
-use Rattle.rv_made_order.proofs.Accepted.{accepted}
+use Rattle.rv_made_order.proofs.{Settled.typed_of, Settled.settled, Accepted.accepted}
 use Rattle.rv_made_order.proofs.laws.made_programs_are_accepted.Goals as goal
 
 pub returns-clause-settled : goal.returns-clause-settled

@@ -1,5 +1,4 @@
-use Rattle.rv_made_safe.proofs.Control.{control}
-use Rattle.rv_made_safe.proofs.Chain.{safe}
+use Rattle.rv_made_safe.proofs.{Control.control, Chain.safe}
 use Rattle.rv_made_safe.proofs.laws.made_programs_are_safe.Goals as goal
 
 pub returns-clause-safe : goal.returns-clause-safe

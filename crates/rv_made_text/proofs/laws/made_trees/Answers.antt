@@ -1,11 +1,6 @@
 use Rattle.std.proofs.Common.{sym, subst}
-use Rattle.rv_syntax.specs.Nesting.{Outside, IsShallowText}
-use Rattle.rv_syntax.specs.ProgramText.{IsProgram}
-use Rattle.rv_made_text.proofs.Lexed.{made-tokens}
-use Rattle.rv_made_text.proofs.Trees.{offsets_of, plain_program}
-use Rattle.rv_made_text.proofs.Derived.{made-derived}
-use Rattle.rv_made_text.proofs.Nested.{made-shallow}
-use Rattle.rv_made_text.proofs.Sited.{made-sited}
+use Rattle.rv_syntax.specs.{Nesting.Outside, Nesting.IsShallowText, ProgramText.IsProgram}
+use Rattle.rv_made_text.proofs.{Lexed.made-tokens, Trees.offsets_of, Trees.plain_program, Derived.made-derived, Nested.made-shallow, Sited.made-sited}
 use Rattle.rv_made_text.proofs.laws.made_trees.Goals as goal
 
 pub returns : goal.returns

@@ -1,6 +1,5 @@
 use Rattle.std.proofs.Common.{◌≡◌, ◌++◌}
-use Rattle.std.specs.Prelude.{codes}
-use Rattle.std.specs.String.{string_bytes}
+use Rattle.std.specs.{Prelude.codes, String.string_bytes}
 use Rattle.rv_make.specs.Made.{declared_links}
 use Rattle.rv_make.proofs.making.add_declarations.Given as goal
 

@@ -1,6 +1,5 @@
 use Rattle.std.proofs.Common.{◌++◌}
-use Rattle.std.specs.Prelude.{codes}
-use Rattle.std.specs.String.{string_bytes}
+use Rattle.std.specs.{Prelude.codes, String.string_bytes}
 use Rattle.rv_make.specs.Made.{line, link_name, declared_links, link_equations}
 use Rattle.rv_make.proofs.Joined.{appended_seven}
 use Rattle.rv_make.proofs.making.add_main_node.Goals as goal

@@ -1,16 +1,11 @@
 use Rattle.std.proofs.Common.{◌≡◌, ℕ, ◌+◌, ◌≤◌, ◌++◌, ◌∷◌, [], List, Option, length, map, sym, ◌∙◌, ap, arith, inl, inr, get_or, Some, below_more, nat_eq}
-use Rattle.std.proofs.Common.{length-append}
-use Rattle.std.proofs.Common.{None as Nothing}
+use Rattle.std.proofs.Common.{length-append, None as Nothing}
+use Rattle.std.proofs.{lemmas.Bool.cases_order, lemmas.List.length-map, lemmas.List.get_or-map, lemmas.List.get_or_past, lemmas.Option.slice_get_past}
 use Rattle.std.specs.HashMap as hash
 use Rattle.std.specs.Option.{option_map}
-use Rattle.std.proofs.lemmas.Bool.{cases_order}
-use Rattle.std.proofs.lemmas.List.{length-map, get_or-map, get_or_past}
-use Rattle.std.proofs.lemmas.Option.{slice_get_past}
-use Rattle.rv_tree.specs.Tree.{NodeTree, node_tree}
-use Rattle.rv_tree.specs.Places.{index_of}
+use Rattle.rv_tree.specs.{Tree.NodeTree, Tree.node_tree, Places.index_of}
 use Rattle.rv_types.specs.Instances.{no_node}
-use Rattle.rv_meaning.specs.Callings.{first_callee, callee_in}
-use Rattle.rv_meaning.specs.Leading.{callee_at, callee_in_node, node_texts}
+use Rattle.rv_meaning.specs.{Callings.first_callee, Callings.callee_in, Leading.callee_at, Leading.callee_in_node, Leading.node_texts}
 use Rattle.rv_meaning.proofs.Entering.{called_in_node, others_stay, last_is}
 use Rattle.rv_meaning.proofs.calls.callees_of.Goals as goal
 

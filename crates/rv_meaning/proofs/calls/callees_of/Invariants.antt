@@ -1,7 +1,6 @@
 use Rattle.std.proofs.Common.{◌≡◌, ℕ, ◌<◌, length, map}
 use Rattle.rv_tree.specs.Tree.{node_tree}
-use Rattle.rv_meaning.specs.Callings.{callee_in}
-use Rattle.rv_meaning.specs.Leading.{callee_at}
+use Rattle.rv_meaning.specs.{Callings.callee_in, Leading.callee_at}
 use Rattle.rv_meaning.proofs.calls.callees_of.Given as goal
 
 abbrev pub invariant-loop-node : goal.invariant-loop-node

@@ -1,6 +1,5 @@
 use Rattle.std.proofs.Common.{◌≡◌, drop}
-use Rattle.rv_meaning.specs.Callings.{callee_in}
-use Rattle.rv_meaning.specs.Leading.{led_by}
+use Rattle.rv_meaning.specs.{Callings.callee_in, Leading.led_by}
 use Rattle.rv_meaning.proofs.calls.node_at.Given as goal
 
 abbrev pub invariant-loop-site : goal.invariant-loop-site

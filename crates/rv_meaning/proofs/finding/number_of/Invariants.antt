@@ -1,6 +1,5 @@
 use Rattle.std.proofs.Common.{◌≡◌, ◌+◌, map, drop}
-use Rattle.rv_tree.specs.Tree.{node_tree}
-use Rattle.rv_tree.specs.Places.{index_of}
+use Rattle.rv_tree.specs.{Tree.node_tree, Places.index_of}
 use Rattle.rv_meaning.specs.Leading.{node_texts}
 use Rattle.rv_meaning.proofs.finding.number_of.Given as goal
 

@@ -1,7 +1,5 @@
-use Rattle.std.proofs.Common.{◌≡◌, ℕ, ◌+◌, List, length, sym, ◌∙◌, ap, arith}
-use Rattle.std.proofs.lemmas.List.{length-map}
-use Rattle.rv_tree.specs.declared.tree.Decl.{Decl}
-use Rattle.rv_tree.specs.Places.{Identifier, names, index_of}
+use Rattle.std.proofs.{Common.◌≡◌, Common.ℕ, Common.◌+◌, Common.List, Common.length, Common.sym, Common.◌∙◌, Common.ap, Common.arith, lemmas.List.length-map}
+use Rattle.rv_tree.specs.{declared.tree.Decl.Decl, Places.Identifier, Places.names, Places.index_of}
 use Rattle.rv_meaning.proofs.Searches.{index_most, index_one, index_two, index_three}
 use Rattle.rv_meaning.proofs.kinds.flow_site.Goals as goal
 

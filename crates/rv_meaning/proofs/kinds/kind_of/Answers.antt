@@ -1,13 +1,8 @@
-use Rattle.std.proofs.Common.{◌≡◌, ◌++◌, ◌∷◌, [], refl, sym, ◌∙◌, ap, subst, Option, Some, IfSome, IfNone}
-use Rattle.std.proofs.Common.{None as Nothing}
-use Rattle.rv_tree.specs.Tree.{program_tree}
-use Rattle.rv_tree.specs.Places.{Sites}
-use Rattle.rv_types.specs.declared.typed.Kind.{Kind}
-use Rattle.rv_types.specs.Instances.{name_at}
-use Rattle.rv_meaning.specs.Accessors.{IsKindAt}
-use Rattle.rv_meaning.specs.Telling.{kind_at_end}
-use Rattle.rv_meaning.proofs.KindsAt.{found, nothing}
-use Rattle.rv_meaning.proofs.Leads.{is_node, settled, main_node}
+use Rattle.std.proofs.Common.{◌≡◌, ◌++◌, ◌∷◌, [], refl, sym, ◌∙◌, ap, subst, Option, Some, IfSome, IfNone, None as Nothing}
+use Rattle.rv_tree.specs.{Tree.program_tree, Places.Sites}
+use Rattle.rv_types.specs.{declared.typed.Kind.Kind, Instances.name_at}
+use Rattle.rv_meaning.specs.{Accessors.IsKindAt, Telling.kind_at_end}
+use Rattle.rv_meaning.proofs.{KindsAt.found, KindsAt.nothing, Leads.is_node, Leads.settled, Leads.main_node}
 use Rattle.rv_meaning.proofs.kinds.kind_of.Goals as goal
 
 -- what holds of an answer by the answer that it is

@@ -1,5 +1,4 @@
-use Rattle.std.proofs.Common.{◌∙◌, ap, reverse, Some, slice_get}
-use Rattle.std.proofs.Common.{None as Nothing}
+use Rattle.std.proofs.Common.{◌∙◌, ap, reverse, Some, slice_get, None as Nothing}
 use Rattle.rv_tree.specs.Tree.{program_tree}
 use Rattle.rv_types.specs.declared.typed.Kind.{Kind}
 use Rattle.rv_meaning.specs.Telling.{constant_told}

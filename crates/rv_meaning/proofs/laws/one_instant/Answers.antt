@@ -1,9 +1,7 @@
 use Rattle.std.proofs.Common.{ap, get_or}
 use Rattle.std.specs.FinMap.{empty}
-use Rattle.rv_meaning.proofs.Agree.{same}
-use Rattle.rv_meaning.proofs.Extend.{a_solution}
-use Rattle.rv_meaning.proofs.Defined.{are_defined}
 use Rattle.rv_meaning.proofs.OneInstant.{at_state, at_state_is_local, alone, solution_of_instant, instant_of_solution}
+use Rattle.rv_meaning.proofs.{Agree.same, Extend.a_solution, Defined.are_defined}
 use Rattle.rv_meaning.proofs.laws.one_instant.Goals as goal
 
 pub returns : goal.returns

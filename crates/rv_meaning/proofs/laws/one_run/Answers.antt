@@ -1,6 +1,4 @@
-use Rattle.rv_meaning.proofs.Agree.{same}
-use Rattle.rv_meaning.proofs.Defined.{are_defined}
-use Rattle.rv_meaning.proofs.Sources.{wanted, wanted_is_local, solution_of_run}
+use Rattle.rv_meaning.proofs.{Agree.same, Defined.are_defined, Sources.wanted, Sources.wanted_is_local, Sources.solution_of_run}
 use Rattle.rv_meaning.proofs.laws.one_run.Goals as goal
 
 pub returns : goal.returns

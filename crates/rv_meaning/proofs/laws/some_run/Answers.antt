@@ -1,6 +1,4 @@
-use Rattle.rv_meaning.proofs.Extend.{a_solution}
-use Rattle.rv_meaning.proofs.Defined.{are_defined}
-use Rattle.rv_meaning.proofs.Sources.{wanted, wanted_is_local, run_of_solution}
+use Rattle.rv_meaning.proofs.{Extend.a_solution, Defined.are_defined, Sources.wanted, Sources.wanted_is_local, Sources.run_of_solution}
 use Rattle.rv_meaning.proofs.laws.some_run.Goals as goal
 
 pub returns : goal.returns

@@ -1,6 +1,5 @@
 use Rattle.rv_meaning.specs.Runs.{cells}
-use Rattle.rv_meaning.proofs.Brought.{state_at, is_state_at}
-use Rattle.rv_meaning.proofs.Steps.{start_state, next_state}
+use Rattle.rv_meaning.proofs.{Brought.state_at, Brought.is_state_at, Steps.start_state, Steps.next_state}
 use Rattle.rv_meaning.proofs.laws.states_of_run.Goals as goal
 
 pub returns-clause-start : goal.returns-clause-start

@@ -1,5 +1,4 @@
-use Rattle.rv_meaning.proofs.Acceptable.{formed}
-use Rattle.rv_meaning.proofs.TypedFlows.{typed_instant, typed_next}
+use Rattle.rv_meaning.proofs.{Acceptable.formed, TypedFlows.typed_instant, TypedFlows.typed_next}
 use Rattle.rv_meaning.proofs.laws.typed_instants.Goals as goal
 
 pub returns-clause-flows : goal.returns-clause-flows

@@ -1,6 +1,5 @@
 use Rattle.std.proofs.Common.{◌≡◌, ◌++◌, map, drop}
-use Rattle.rv_tree.specs.Tree.{tree_of, trees}
-use Rattle.rv_tree.specs.Delays.{delays_of_all}
+use Rattle.rv_tree.specs.{Tree.tree_of, Tree.trees, Delays.delays_of_all}
 use Rattle.rv_meaning.specs.Remembered.{sites_by}
 use Rattle.rv_meaning.proofs.memory_list.+gather.Given as goal
 

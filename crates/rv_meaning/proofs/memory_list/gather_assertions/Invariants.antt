@@ -1,6 +1,5 @@
 use Rattle.std.proofs.Common.{◌≡◌, ◌++◌, map, drop}
-use Rattle.rv_tree.specs.Tree.{assertion_tree}
-use Rattle.rv_tree.specs.Delays.{delays_in_assertions}
+use Rattle.rv_tree.specs.{Tree.assertion_tree, Delays.delays_in_assertions}
 use Rattle.rv_meaning.specs.Remembered.{sites_by}
 use Rattle.rv_meaning.proofs.memory_list.gather_assertions.Given as goal
 

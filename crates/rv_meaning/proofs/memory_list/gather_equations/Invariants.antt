@@ -1,6 +1,5 @@
 use Rattle.std.proofs.Common.{◌≡◌, ◌++◌, map, drop}
-use Rattle.rv_tree.specs.Tree.{equation_tree}
-use Rattle.rv_tree.specs.Delays.{delays_in_equations}
+use Rattle.rv_tree.specs.{Tree.equation_tree, Delays.delays_in_equations}
 use Rattle.rv_meaning.specs.Remembered.{sites_by}
 use Rattle.rv_meaning.proofs.memory_list.gather_equations.Given as goal
 

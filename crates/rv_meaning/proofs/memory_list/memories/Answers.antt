@@ -1,15 +1,10 @@
 use Rattle.std.proofs.Common.{◌≡◌, List, length, map, sym, ◌∙◌, ap, subst, arith, get_or, []}
 use Rattle.std.proofs.lemmas.List.{length-map}
 use Rattle.std.specs.List.{Contains, flat_map}
-use Rattle.rv_tree.specs.Places.{Sites}
-use Rattle.rv_tree.specs.Tree.{node_tree, program_tree}
-use Rattle.rv_types.specs.Instances.{name_at, no_node}
-use Rattle.rv_types.specs.Lists.{sites_of}
-use Rattle.rv_meaning.specs.Callings.{callee_in}
-use Rattle.rv_meaning.specs.Leading.{callee_at}
-use Rattle.rv_meaning.specs.Remembered.{AreSites, places_at}
-use Rattle.rv_meaning.proofs.Leads.{is_node, settled, main_node}
-use Rattle.rv_meaning.proofs.MemoryPlaces.{are_memory_places}
+use Rattle.rv_tree.specs.{Places.Sites, Tree.node_tree, Tree.program_tree}
+use Rattle.rv_types.specs.{Instances.name_at, Instances.no_node, Lists.sites_of}
+use Rattle.rv_meaning.specs.{Callings.callee_in, Leading.callee_at, Remembered.AreSites, Remembered.places_at}
+use Rattle.rv_meaning.proofs.{Leads.is_node, Leads.settled, Leads.main_node, MemoryPlaces.are_memory_places}
 use Rattle.rv_meaning.proofs.memory_list.memories.Goals as goal
 
 pub callees_of-requires : goal.callees_of-requires

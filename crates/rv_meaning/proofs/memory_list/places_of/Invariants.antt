@@ -1,8 +1,7 @@
 use Rattle.std.proofs.Common.{◌≡◌, ◌++◌, drop}
 use Rattle.std.specs.List.{flat_map}
 use Rattle.rv_types.specs.Lists.{sites_of}
-use Rattle.rv_meaning.specs.Callings.{callee_in}
-use Rattle.rv_meaning.specs.Remembered.{places_at}
+use Rattle.rv_meaning.specs.{Callings.callee_in, Remembered.places_at}
 use Rattle.rv_meaning.proofs.memory_list.places_of.Given as goal
 
 abbrev pub invariant-loop-path : goal.invariant-loop-path

@@ -1,10 +1,7 @@
-use Rattle.std.proofs.Common.{List, ℕ, sym, ◌∙◌, subst}
-use Rattle.std.proofs.lemmas.List.Filters.{dedup_is}
-use Rattle.std.proofs.lemmas.List.Kept.{Contains-dedup_nat, Contains-from_dedup}
-use Rattle.std.proofs.lemmas.List.Sorted.{Contains-permutation, IsPermutation-sym}
+use Rattle.std.proofs.{Common.List, Common.ℕ, Common.sym, Common.◌∙◌, Common.subst, lemmas.List.Filters.dedup_is, lemmas.List.Kept.Contains-dedup_nat}
+use Rattle.std.proofs.{lemmas.List.Kept.Contains-from_dedup, lemmas.List.Sorted.Contains-permutation, lemmas.List.Sorted.IsPermutation-sym}
 use Rattle.std.specs.List.{Contains}
-use Rattle.rv_tree.specs.Delays.{node_delays}
-use Rattle.rv_tree.specs.Tree.{node_tree}
+use Rattle.rv_tree.specs.{Delays.node_delays, Tree.node_tree}
 use Rattle.rv_meaning.specs.Remembered.{AreSites}
 use Rattle.rv_meaning.proofs.SitesRead.{sites_are}
 use Rattle.rv_meaning.proofs.memory_list.sites_of_node.Goals as goal

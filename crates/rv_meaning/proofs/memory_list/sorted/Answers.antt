@@ -1,6 +1,4 @@
-use Rattle.std.proofs.Common.{◌∙◌, rules}
-use Rattle.std.proofs.lemmas.List.Filters.{dedup_is}
-use Rattle.std.proofs.lemmas.List.Sorted.{answers_always, ranks_by}
+use Rattle.std.proofs.{Common.◌∙◌, Common.rules, lemmas.List.Filters.dedup_is, lemmas.List.Sorted.answers_always, lemmas.List.Sorted.ranks_by}
 use Rattle.std.specs.Ordering.{is_lt}
 use Rattle.rv_base.specs.declared.value.Place.{Place}
 use Rattle.rv_meaning.proofs.Sorting.{same, order, order_total, are_sorted}

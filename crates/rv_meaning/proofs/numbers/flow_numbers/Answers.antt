@@ -1,11 +1,7 @@
-use Rattle.std.proofs.Common.{◌≡◌, ℕ, ◌+◌, List, [], ◌++◌, length, sym, ◌∙◌, ap, arith, length-append}
-use Rattle.std.proofs.Common.{None as Nothing}
-use Rattle.std.specs.HashMap.{get}
-use Rattle.std.specs.Map.{lookup}
+use Rattle.std.proofs.Common.{◌≡◌, ℕ, ◌+◌, List, [], ◌++◌, length, sym, ◌∙◌, ap, arith, length-append, None as Nothing}
 use Rattle.std.proofs.lemmas.List.{length-map}
-use Rattle.rv_tree.specs.declared.tree.Decl.{Decl}
-use Rattle.rv_tree.specs.Places.{Identifier, is_same, names, flows}
-use Rattle.rv_tree.specs.Tree.{node_tree}
+use Rattle.std.specs.{HashMap.get, Map.lookup}
+use Rattle.rv_tree.specs.{declared.tree.Decl.Decl, Places.Identifier, Places.is_same, Places.names, Places.flows, Tree.node_tree}
 use Rattle.rv_meaning.specs.Numbers.{entered}
 use Rattle.rv_meaning.proofs.Entering.{entered_both, are_numbers}
 use Rattle.rv_meaning.proofs.numbers.flow_numbers.Goals as goal

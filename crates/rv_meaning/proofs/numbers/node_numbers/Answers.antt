@@ -1,9 +1,7 @@
-use Rattle.std.proofs.Common.{◌≡◌, map, drop, length, sym, ◌∙◌, ap, arith}
-use Rattle.std.proofs.Common.{None as Nothing}
+use Rattle.std.proofs.Common.{◌≡◌, map, drop, length, sym, ◌∙◌, ap, arith, None as Nothing}
 use Rattle.std.proofs.lemmas.List.{length-map}
 use Rattle.rv_tree.specs.Tree.{NodeTree, node_tree}
-use Rattle.rv_meaning.specs.Leading.{node_texts}
-use Rattle.rv_meaning.specs.Numbers.{entered}
+use Rattle.rv_meaning.specs.{Leading.node_texts, Numbers.entered}
 use Rattle.rv_meaning.proofs.Entering.{are_numbers}
 use Rattle.rv_meaning.proofs.numbers.node_numbers.Goals as goal
 

@@ -1,10 +1,7 @@
-use Rattle.std.proofs.Common.{◌≡◌, ℕ, ◌≤◌, List, length, drop, map}
-use Rattle.std.proofs.Common.{None as Nothing}
+use Rattle.std.proofs.Common.{◌≡◌, ℕ, ◌≤◌, List, length, drop, map, None as Nothing}
 use Rattle.std.specs.HashMap.{get}
-use Rattle.rv_tree.specs.Places.{is_same}
-use Rattle.rv_tree.specs.Tree.{node_tree}
-use Rattle.rv_meaning.specs.Leading.{node_texts}
-use Rattle.rv_meaning.specs.Numbers.{entered}
+use Rattle.rv_tree.specs.{Places.is_same, Tree.node_tree}
+use Rattle.rv_meaning.specs.{Leading.node_texts, Numbers.entered}
 use Rattle.rv_meaning.proofs.numbers.node_numbers.Given as goal
 
 abbrev pub invariant-loop-left : goal.invariant-loop-left

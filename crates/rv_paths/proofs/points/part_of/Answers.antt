@@ -1,8 +1,6 @@
 use Rattle.std.proofs.Common.{◌≡◌, ◌∙◌, ◌+◌, ◌++◌, ◌∷◌, [], ℤ, List, FitsSigned, rules, length, ap, sym, subst}
+use Rattle.std.proofs.{lemmas.Int.to_z-of_z, lemmas.List.length_push, lemmas.List.Elements.All-push}
 use Rattle.std.specs.Int.{w128}
-use Rattle.std.proofs.lemmas.Int.{to_z-of_z}
-use Rattle.std.proofs.lemmas.List.{length_push}
-use Rattle.std.proofs.lemmas.List.Elements.{All-push}
 use Rattle.rv_poly.specs.Whole.{IsInReplay}
 use Rattle.rv_paths.proofs.Lists.{number_replay}
 use Rattle.rv_paths.proofs.points.part_of.Goals as goal

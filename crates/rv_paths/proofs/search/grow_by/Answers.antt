@@ -1,5 +1,4 @@
-use Rattle.std.proofs.Common.{Option, IfSome, subst}
-use Rattle.std.proofs.lemmas.List.Elements.{All-push}
+use Rattle.std.proofs.{Common.Option, Common.IfSome, Common.subst, lemmas.List.Elements.All-push}
 use Rattle.rv_proofs.specs.Ranges.{IsControlSet}
 use Rattle.rv_paths.specs.declared.tree.Node.{Node}
 use Rattle.rv_paths.proofs.search.grow_by.Goals as goal

@@ -1,6 +1,5 @@
 use Rattle.std.proofs.Common.{◌≡◌}
-use Rattle.rv_proofs.specs.Systems.{System}
-use Rattle.rv_proofs.specs.Ranges.{IsControlSet}
+use Rattle.rv_proofs.specs.{Systems.System, Ranges.IsControlSet}
 use Rattle.rv_symbolic.specs.Represented.{IsRelationOf}
 use Rattle.rv_paths.specs.Searching.{AreNodes, IsPlanOf}
 use Rattle.rv_paths.proofs.search.search.Given as goal

@@ -1,6 +1,5 @@
 use Rattle.std.proofs.Common.{◌≡◌, ◌<◌, ap, ◌∙◌, sym, arith, length, get_or, subst, All}
-use Rattle.rv_rows.specs.declared.linear.Row.{Row}
-use Rattle.rv_rows.specs.Tight.{Fits}
+use Rattle.rv_rows.specs.{declared.linear.Row.Row, Tight.Fits}
 use Rattle.rv_poly.specs.Elimination.{IsRowPaired}
 use Rattle.rv_poly.proofs.EliminateLemmas.{paired-none, paired-more, paired-few}
 use Rattle.rv_poly.proofs.eliminate.add_all_pairs.Goals as goal

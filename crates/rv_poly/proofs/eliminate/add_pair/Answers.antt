@@ -1,6 +1,5 @@
-use Rattle.std.proofs.Common.{◌<ℤ◌, pos, FitsSigned, arith, rules, inl}
+use Rattle.std.proofs.{Common.◌<ℤ◌, Common.pos, Common.FitsSigned, Common.arith, Common.rules, Common.inl, lemmas.Int.ints}
 use Rattle.std.specs.Int.{w128}
-use Rattle.std.proofs.lemmas.Int.{ints}
 use Rattle.rv_rows.specs.Rows.{coefficient}
 use Rattle.rv_poly.proofs.eliminate.add_pair.Goals as goal
 

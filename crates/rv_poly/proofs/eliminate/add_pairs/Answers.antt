@@ -1,6 +1,5 @@
 use Rattle.std.proofs.Common.{◌≡◌, ◌<◌, ap, ◌∙◌, sym, arith, length, get_or, subst}
-use Rattle.rv_rows.specs.declared.linear.Row.{Row}
-use Rattle.rv_rows.specs.Tight.{Fits}
+use Rattle.rv_rows.specs.{declared.linear.Row.Row, Tight.Fits}
 use Rattle.rv_poly.specs.Elimination.{IsPairTaken}
 use Rattle.rv_poly.proofs.EliminateLemmas.{pairs-none, pairs-more, pairs-few}
 use Rattle.rv_poly.proofs.eliminate.add_pairs.Goals as goal

@@ -1,7 +1,6 @@
 use Rattle.std.proofs.Common.{◌≡◌, ℕ, ◌≤◌, ◌^◌, ◌+ℤ◌, ◌-ℤ◌, ◌*ℤ◌, pos, FitsSigned, rules}
-use Rattle.std.specs.Int.{w128}
-use Rattle.std.specs.Int.RustNames.{unsigned_abs}
 use Rattle.std.proofs.lemmas.Int.{to_z-of_z}
+use Rattle.std.specs.{Int.w128, Int.RustNames.unsigned_abs}
 use Rattle.rv_rows.specs.Forms.{number}
 use Rattle.rv_poly.proofs.EliminateLemmas.{number_within, product_small, opposite_fits, opposite_small, combined-made}
 use Rattle.rv_poly.proofs.eliminate.combine.Goals as goal

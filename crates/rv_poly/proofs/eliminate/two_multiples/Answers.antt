@@ -1,8 +1,6 @@
 use Rattle.std.proofs.Common.{◌≡◌, ℕ, ◌<◌, ◌≤◌, ◌^◌, ◌+ℤ◌, ◌*ℤ◌, pos, FitsSigned, rules, arith, length, ◌∙◌, ap, sym, ◌++◌, ◌∷◌, []}
-use Rattle.std.specs.Int.{w128}
-use Rattle.std.specs.Int.RustNames.{unsigned_abs}
-use Rattle.std.proofs.lemmas.Int.{to_z-of_z}
-use Rattle.std.proofs.lemmas.Option.{get_or_from_slice_get}
+use Rattle.std.proofs.{lemmas.Int.to_z-of_z, lemmas.Option.get_or_from_slice_get}
+use Rattle.std.specs.{Int.w128, Int.RustNames.unsigned_abs}
 use Rattle.rv_rows.specs.Forms.{number}
 use Rattle.rv_rows.proofs.FormLemmas.{pushed, length-pushed}
 use Rattle.rv_poly.proofs.EliminateLemmas.{number_within, product_small, multiples-all}

@@ -1,6 +1,5 @@
 use Rattle.std.proofs.Common.{◌≤◌, ◌^◌}
-use Rattle.std.specs.List.{AllWithin}
-use Rattle.std.specs.Int.RustNames.{unsigned_abs}
+use Rattle.std.specs.{List.AllWithin, Int.RustNames.unsigned_abs}
 use Rattle.rv_poly.proofs.image.are_small.Given as goal
 
 abbrev pub invariant-loop-number : goal.invariant-loop-number

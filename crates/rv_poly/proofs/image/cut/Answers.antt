@@ -1,6 +1,5 @@
-use Rattle.std.proofs.Common.{◌≡◌, FitsSigned, rules, arith, length}
+use Rattle.std.proofs.{Common.◌≡◌, Common.FitsSigned, Common.rules, Common.arith, Common.length, lemmas.Int.to_z-of_z}
 use Rattle.std.specs.Int.{w128}
-use Rattle.std.proofs.lemmas.Int.{to_z-of_z}
 use Rattle.rv_poly.proofs.ImageLemmas.{cut-fits}
 use Rattle.rv_poly.proofs.image.cut.Goals as goal
 

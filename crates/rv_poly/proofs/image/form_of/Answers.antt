@@ -1,6 +1,5 @@
-use Rattle.std.proofs.Common.{FitsSigned, rules}
+use Rattle.std.proofs.{Common.FitsSigned, Common.rules, lemmas.Int.to_z-of_z}
 use Rattle.std.specs.Int.{w128}
-use Rattle.std.proofs.lemmas.Int.{to_z-of_z}
 use Rattle.rv_poly.proofs.ImageLemmas.{opposite-fits}
 use Rattle.rv_poly.proofs.image.form_of.Goals as goal
 

@@ -1,7 +1,6 @@
 use Rattle.std.proofs.Common.{length}
 use Rattle.rv_poly.specs.Images.{IsImage, ShowsAfter}
-use Rattle.rv_poly.proofs.ClosingLemmas.{made-poly, made-few, made-width, made-contains}
-use Rattle.rv_poly.proofs.ImageLemmas.{moved-image}
+use Rattle.rv_poly.proofs.{ClosingLemmas.made-poly, ClosingLemmas.made-few, ClosingLemmas.made-width, ClosingLemmas.made-contains, ImageLemmas.moved-image}
 use Rattle.rv_poly.proofs.image.updated_rows.Goals as goal
 
 pub image_rows-requires-clause-widths : goal.image_rows-requires-clause-widths

@@ -1,6 +1,5 @@
 use Rattle.std.proofs.Common.{◌≡◌, ◌<◌, ◌++◌, ◌∷◌, [], ap, ◌∙◌, sym, arith, length, get_or, subst}
-use Rattle.rv_rows.specs.declared.linear.Row.{Row}
-use Rattle.rv_rows.specs.Multipliers.{ShowsAtOnce}
+use Rattle.rv_rows.specs.{declared.linear.Row.Row, Multipliers.ShowsAtOnce}
 use Rattle.rv_poly.proofs.IncludeLemmas.{proofs-more, proofs-points}
 use Rattle.rv_poly.proofs.include.proofs_of.Goals as goal
 

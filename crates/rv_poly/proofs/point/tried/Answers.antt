@@ -1,5 +1,4 @@
-use Rattle.std.proofs.Common.{◌≡◌, length, arith}
-use Rattle.std.proofs.lemmas.Int.{to_z-of_z}
+use Rattle.std.proofs.{Common.◌≡◌, Common.length, Common.arith, lemmas.Int.to_z-of_z}
 use Rattle.rv_poly.proofs.GuideLemmas.{trail-none}
 use Rattle.rv_poly.proofs.point.tried.Goals as goal
 

@@ -1,7 +1,5 @@
-use Rattle.std.proofs.Common.{◌<◌, ◌≤◌, ◌^◌, ℤ, ◌-ℤ◌, FitsSigned, arith, subst}
-use Rattle.std.specs.Int.{w128}
-use Rattle.std.specs.Int.RustNames.{unsigned_abs}
-use Rattle.std.proofs.lemmas.Int.{to_z-of_z}
+use Rattle.std.proofs.{Common.◌<◌, Common.◌≤◌, Common.◌^◌, Common.ℤ, Common.◌-ℤ◌, Common.FitsSigned, Common.arith, Common.subst, lemmas.Int.to_z-of_z}
+use Rattle.std.specs.{Int.w128, Int.RustNames.unsigned_abs}
 use Rattle.rv_poly.specs.Whole.{IsSpanCut}
 use Rattle.rv_poly.proofs.WholeLemmas.{le-itself, far-not-zero, rest-small, rest-fits, rest-same}
 use Rattle.rv_poly.proofs.spans.cut_after.Goals as goal

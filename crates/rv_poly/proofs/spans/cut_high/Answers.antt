@@ -1,6 +1,5 @@
-use Rattle.std.proofs.Common.{FitsSigned, rules, arith}
+use Rattle.std.proofs.{Common.FitsSigned, Common.rules, Common.arith, lemmas.Int.to_z-of_z, lemmas.Int.ints}
 use Rattle.std.specs.Int.{w128}
-use Rattle.std.proofs.lemmas.Int.{to_z-of_z, ints}
 use Rattle.rv_poly.proofs.WholeLemmas.{high-cut, high-kept}
 use Rattle.rv_poly.proofs.spans.cut_high.Goals as goal
 

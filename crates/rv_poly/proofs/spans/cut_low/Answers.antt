@@ -1,7 +1,5 @@
-use Rattle.std.proofs.Common.{◌-ℤ◌, pos, FitsSigned, rules, arith, ◌<◌}
-use Rattle.std.specs.Int.{w128}
-use Rattle.std.specs.Int.RustNames.{unsigned_abs}
-use Rattle.std.proofs.lemmas.Int.{to_z-of_z, ints}
+use Rattle.std.proofs.{Common.◌-ℤ◌, Common.pos, Common.FitsSigned, Common.rules, Common.arith, Common.◌<◌, lemmas.Int.to_z-of_z, lemmas.Int.ints}
+use Rattle.std.specs.{Int.w128, Int.RustNames.unsigned_abs}
 use Rattle.rv_poly.proofs.WholeLemmas.{low-cut, low-kept, quotient-fits}
 use Rattle.rv_poly.proofs.spans.cut_low.Goals as goal
 

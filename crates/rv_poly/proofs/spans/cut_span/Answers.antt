@@ -1,5 +1,4 @@
-use Rattle.std.proofs.Common.{pos, ◌≤ℤ◌, ◌<ℤ◌, arith, rules}
-use Rattle.std.proofs.lemmas.Int.{to_z-of_z, ints}
+use Rattle.std.proofs.{Common.pos, Common.◌≤ℤ◌, Common.◌<ℤ◌, Common.arith, Common.rules, lemmas.Int.to_z-of_z, lemmas.Int.ints}
 use Rattle.rv_poly.proofs.WholeLemmas.{below-zero}
 use Rattle.rv_poly.proofs.spans.cut_span.Goals as goal
 

@@ -1,7 +1,6 @@
 use Rattle.std.proofs.Common.{◌≡◌, ℤ, pos, FitsSigned, rules, sym, ◌∙◌, subst}
+use Rattle.std.proofs.{lemmas.Bool.false≢true, lemmas.Int.to_z-of_z}
 use Rattle.std.specs.Int.{w128}
-use Rattle.std.proofs.lemmas.Bool.{false≢true}
-use Rattle.std.proofs.lemmas.Int.{to_z-of_z}
 use Rattle.rv_rows.specs.Rows.{coefficient}
 use Rattle.rv_poly.specs.Whole.{IsSpanCut}
 use Rattle.rv_poly.proofs.WholeLemmas.{narrowed-same, narrowed-cut, rest-zero}

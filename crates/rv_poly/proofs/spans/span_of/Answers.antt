@@ -1,6 +1,5 @@
 use Rattle.std.proofs.Common.{◌≡◌, ◌<◌, ap, ◌∙◌, sym, arith, length, get_or, subst}
-use Rattle.rv_rows.specs.declared.linear.Row.{Row}
-use Rattle.rv_rows.specs.Tight.{Fits}
+use Rattle.rv_rows.specs.{declared.linear.Row.Row, Tight.Fits}
 use Rattle.rv_poly.specs.Whole.{IsNarrowed}
 use Rattle.rv_poly.proofs.WholeLemmas.{span-none, span-more}
 use Rattle.rv_poly.proofs.spans.span_of.Goals as goal

@@ -1,6 +1,5 @@
-use Rattle.std.proofs.Common.{◌≡◌, ◌++◌, ◌∷◌, [], FitsSigned, rules, sym}
+use Rattle.std.proofs.{Common.◌≡◌, Common.◌++◌, Common.◌∷◌, Common.[], Common.FitsSigned, Common.rules, Common.sym, lemmas.Int.to_z-of_z}
 use Rattle.std.specs.Int.{w128}
-use Rattle.std.proofs.lemmas.Int.{to_z-of_z}
 use Rattle.rv_poly.specs.Whole.{IsInReplay}
 use Rattle.rv_poly.proofs.GuideLemmas.{guide-columns, trail-more}
 use Rattle.rv_poly.proofs.trails.advance.Goals as goal

@@ -1,5 +1,4 @@
-use Rattle.std.proofs.Common.{◌<◌, length, arith}
-use Rattle.std.proofs.lemmas.Int.{to_z-of_z}
+use Rattle.std.proofs.{Common.◌<◌, Common.length, Common.arith, lemmas.Int.to_z-of_z}
 use Rattle.rv_poly.proofs.trails.fill.Goals as goal
 
 pub advance-requires : goal.advance-requires

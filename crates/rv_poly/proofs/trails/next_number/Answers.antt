@@ -1,6 +1,5 @@
-use Rattle.std.proofs.Common.{◌≤ℤ◌, FitsSigned, arith, rules}
+use Rattle.std.proofs.{Common.◌≤ℤ◌, Common.FitsSigned, Common.arith, Common.rules, lemmas.Int.to_z-of_z, lemmas.Int.ints}
 use Rattle.std.specs.Int.{w128}
-use Rattle.std.proofs.lemmas.Int.{to_z-of_z, ints}
 use Rattle.rv_poly.proofs.GuideLemmas.{between-replay}
 use Rattle.rv_poly.proofs.trails.next_number.Goals as goal
 

@@ -1,5 +1,4 @@
-use Rattle.std.proofs.Common.{◌≡◌, ℕ, ◌<◌}
-use Rattle.std.proofs.lemmas.Int.{to_z-of_z}
+use Rattle.std.proofs.{Common.◌≡◌, Common.ℕ, Common.◌<◌, lemmas.Int.to_z-of_z}
 use Rattle.rv_rows.specs.Forms.{number}
 use Rattle.rv_poly.specs.Closing.{unit_number}
 use Rattle.rv_poly.proofs.UnitLemmas.{side-small, unit-added}

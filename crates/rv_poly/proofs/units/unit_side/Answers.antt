@@ -1,6 +1,5 @@
-use Rattle.std.proofs.Common.{◌≡◌, ℕ, ◌<◌, FitsSigned, rules, ◌++◌, ◌∷◌, []}
+use Rattle.std.proofs.{Common.◌≡◌, Common.ℕ, Common.◌<◌, Common.FitsSigned, Common.rules, Common.◌++◌, Common.◌∷◌, Common.[], lemmas.Int.to_z-of_z}
 use Rattle.std.specs.Int.{w128}
-use Rattle.std.proofs.lemmas.Int.{to_z-of_z}
 use Rattle.rv_rows.specs.Forms.{number}
 use Rattle.rv_rows.proofs.FormLemmas.{pushed, length-pushed}
 use Rattle.rv_poly.specs.Closing.{unit_number}

@@ -1,6 +1,5 @@
-use Rattle.std.proofs.Common.{true, false, subst}
+use Rattle.std.proofs.{Common.true, Common.false, Common.subst, lemmas.Int.to_z-of_z}
 use Rattle.std.specs.Int.{w128}
-use Rattle.std.proofs.lemmas.Int.{to_z-of_z}
 use Rattle.rv_tree.specs.Tree.{program_tree}
 use Rattle.rv_types.specs.Instances.{name_at}
 use Rattle.rv_probe.specs.Probes.{IsCutProbe, NeverFalsifies}

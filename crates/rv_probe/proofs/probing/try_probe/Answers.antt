@@ -1,10 +1,8 @@
-use Rattle.std.proofs.Common.{sym, ◌∙◌, ap, subst}
+use Rattle.std.proofs.{Common.sym, Common.◌∙◌, Common.ap, Common.subst, lemmas.Int.to_z-of_z}
 use Rattle.std.specs.Int.{w128}
-use Rattle.std.proofs.lemmas.Int.{to_z-of_z}
 use Rattle.rv_tree.specs.Tree.{program_tree}
 use Rattle.rv_types.specs.Instances.{name_at}
-use Rattle.rv_replay.specs.Replays.{IsFalsifiedAt}
-use Rattle.rv_replay.specs.Traces.{IsTrace}
+use Rattle.rv_replay.specs.{Replays.IsFalsifiedAt, Traces.IsTrace}
 use Rattle.rv_probe.specs.Probes.{probe_of}
 use Rattle.rv_probe.proofs.Found.{cut_probe, whole_trace}
 use Rattle.rv_probe.proofs.probing.try_probe.Goals as goal

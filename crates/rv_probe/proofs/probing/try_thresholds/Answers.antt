@@ -1,8 +1,6 @@
 use Rattle.std.proofs.Common.{ℕ, ◌<◌, Bool, length, get_or, SFits, ◌∙◌, ap, subst, arith, rules, below_more}
-use Rattle.std.specs.Prelude.{pos}
-use Rattle.std.specs.Int.{w128}
-use Rattle.std.proofs.lemmas.Int.{to_z-of_z}
-use Rattle.std.proofs.lemmas.List.{get_or_default}
+use Rattle.std.proofs.{lemmas.Int.to_z-of_z, lemmas.List.get_or_default}
+use Rattle.std.specs.{Prelude.pos, Int.w128}
 use Rattle.rv_tree.specs.Tree.{program_tree}
 use Rattle.rv_types.specs.Instances.{name_at}
 use Rattle.rv_probe.specs.Probes.{NeverFalsifies}

@@ -1,5 +1,4 @@
-use Rattle.std.proofs.Common.{arith}
-use Rattle.std.proofs.lemmas.Int.{to_z-of_z}
+use Rattle.std.proofs.{Common.arith, lemmas.Int.to_z-of_z}
 use mir.Syntax.{w128}
 use Rattle.rv_probe.proofs.Made.{made}
 use Rattle.rv_probe.proofs.traces.probe_trace.Goals as goal

@@ -1,9 +1,7 @@
 use Rattle.std.proofs.Common.{drop}
 use Rattle.std.specs.Prelude.{Result}
 use Rattle.rv_flat.specs.Steps.{IsState}
-use Rattle.rv_replay.specs.declared.replayed.Replayed.{Replayed}
-use Rattle.rv_replay.specs.declared.replayed.ReplayFault.{ReplayFault}
-use Rattle.rv_replay.specs.Playing.{IsPlayed}
+use Rattle.rv_replay.specs.{declared.replayed.Replayed.Replayed, declared.replayed.ReplayFault.ReplayFault, Playing.IsPlayed}
 use Rattle.rv_replay.proofs.playing.play.Given as goal
 
 abbrev pub invariant-loop-number : goal.invariant-loop-number

@@ -2,12 +2,9 @@ use Rattle.std.specs.Prelude.{◌≡◌, Result, Ok, Err}
 use Rattle.rv_tree.specs.Tree.{program_tree}
 use Rattle.rv_types.specs.Instances.{name_at}
 use Rattle.rv_replay.specs.declared.replayed.Replayed.TheVariants.{Falsified, AssertionFails, NeverFalse}
-use Rattle.rv_replay.specs.declared.replayed.ReplayFault.TheVariants.{Outgrown, Memory}
-use Rattle.rv_replay.specs.declared.replayed.Replayed.{Replayed}
-use Rattle.rv_replay.specs.declared.replayed.ReplayFault.{ReplayFault}
-use Rattle.rv_replay.specs.Replays.{IsReplay, IsUnlessMemory}
-use Rattle.rv_replay.proofs.FlatTraces.{flat_trace}
-use Rattle.rv_replay.proofs.Sources.{Laws, observed, says, tells}
+use Rattle.rv_replay.specs.{declared.replayed.ReplayFault.TheVariants.Outgrown, declared.replayed.ReplayFault.TheVariants.Memory}
+use Rattle.rv_replay.specs.{declared.replayed.Replayed.Replayed, declared.replayed.ReplayFault.ReplayFault, Replays.IsReplay, Replays.IsUnlessMemory}
+use Rattle.rv_replay.proofs.{FlatTraces.flat_trace, Sources.Laws, Sources.observed, Sources.says, Sources.tells}
 use Rattle.rv_replay.proofs.replaying.replay_flat.Goals as goal
 
 pub play-requires-clause-program : goal.play-requires-clause-program

@@ -1,9 +1,7 @@
 use Rattle.std.proofs.Common.{◌≡◌, ◌≢◌, ◌<◌, ◌||◌, ◌+◌, ◌++◌, ◌∷◌, [], Bool, List, ℤ, take, subst, sym, refl, ap, ◌∙◌, Option, None, ◌⊎◌, arith}
 use Rattle.std.proofs.lemmas.Option.{get_or_from_slice_get}
-use Rattle.rv_rows.specs.declared.linear.Row.{Row}
-use Rattle.rv_rows.specs.Rows.{row_at}
-use Rattle.rv_rise.specs.Shown.{CanMove}
-use Rattle.rv_rise.specs.Limits.{AreLoosened, HasChanged, room_of}
+use Rattle.rv_rows.specs.{declared.linear.Row.Row, Rows.row_at}
+use Rattle.rv_rise.specs.{Shown.CanMove, Limits.AreLoosened, Limits.HasChanged, Limits.room_of}
 use Rattle.rv_rise.proofs.Loosening.{loosened_more, loosened_room, changed_more, match_true, match_false}
 use Rattle.std.specs.List.{Contains}
 use Rattle.rv_seek.specs.Least.{bounded}

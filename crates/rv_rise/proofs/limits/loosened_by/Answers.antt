@@ -1,9 +1,7 @@
-use Rattle.std.proofs.Common.{Option, ℤ, None, Some, rules, FitsSigned, subst, sym}
+use Rattle.std.proofs.{Common.Option, Common.ℤ, Common.None, Common.Some, Common.rules, Common.FitsSigned, Common.subst, Common.sym, lemmas.Int.to_z-of_z}
 use Rattle.std.specs.Int.{w128}
-use Rattle.std.proofs.lemmas.Int.{to_z-of_z}
 use Rattle.rv_rise.specs.Limits.{IsLoosened}
-use Rattle.rv_rise.proofs.Loosening.{limit_none}
-use Rattle.rv_rise.proofs.Keeping.{limit_still}
+use Rattle.rv_rise.proofs.{Loosening.limit_none, Keeping.limit_still}
 use Rattle.rv_rise.proofs.limits.loosened_by.Goals as goal
 
 pub returns-in-None : goal.returns-in-None

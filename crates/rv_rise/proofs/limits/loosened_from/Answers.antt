@@ -1,6 +1,5 @@
-use Rattle.std.proofs.Common.{rules, FitsSigned}
+use Rattle.std.proofs.{Common.rules, Common.FitsSigned, lemmas.Int.to_z-of_z}
 use Rattle.std.specs.Int.{w128}
-use Rattle.std.proofs.lemmas.Int.{to_z-of_z}
 use Rattle.rv_rise.proofs.Loosening.{limit_risen, limit_gone}
 use Rattle.rv_rise.proofs.limits.loosened_from.Goals as goal
 

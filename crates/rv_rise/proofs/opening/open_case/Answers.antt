@@ -1,11 +1,7 @@
 use Rattle.std.proofs.Common.{List, ◌++◌, ◌^◌, length, drop, sym, ap, ◌∙◌, subst, arith}
-use Rattle.std.specs.Prelude.{All, IfSome, IfNone}
-use Rattle.std.specs.List.{Contains}
-use Rattle.std.proofs.lemmas.List.{length-append, drop_all, drop-append-le}
-use Rattle.std.proofs.lemmas.List.Elements.{Contains-append_right}
-use Rattle.rv_rows.specs.declared.linear.Row.{Row}
-use Rattle.rv_rows.specs.Rows.{row_at, RowWithin}
-use Rattle.rv_rows.specs.Multipliers.{AreShutAtOnce}
+use Rattle.std.proofs.{lemmas.List.length-append, lemmas.List.drop_all, lemmas.List.drop-append-le, lemmas.List.Elements.Contains-append_right}
+use Rattle.std.specs.{Prelude.All, Prelude.IfSome, Prelude.IfNone, List.Contains}
+use Rattle.rv_rows.specs.{declared.linear.Row.Row, Rows.row_at, Rows.RowWithin, Multipliers.AreShutAtOnce}
 use Rattle.rv_seek.specs.Least.{bounded}
 use Rattle.rv_rise.specs.Opening.{IsOpened}
 use Rattle.rv_rise.proofs.opening.open_case.Goals as goal

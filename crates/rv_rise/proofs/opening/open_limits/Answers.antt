@@ -1,6 +1,5 @@
 use Rattle.std.proofs.Common.{List, subst}
-use Rattle.rv_rows.specs.declared.linear.Row.{Row}
-use Rattle.rv_rows.specs.Multipliers.{AreShutAtOnce}
+use Rattle.rv_rows.specs.{declared.linear.Row.Row, Multipliers.AreShutAtOnce}
 use Rattle.rv_rise.specs.Opening.{IsOpened}
 use Rattle.rv_rise.proofs.Loosening.{match_true, match_false}
 use Rattle.rv_rise.proofs.opening.open_limits.Goals as goal

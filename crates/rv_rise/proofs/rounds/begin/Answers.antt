@@ -1,10 +1,7 @@
-use Rattle.std.proofs.Common.{List, ℤ, Option, sym, ap, ◌∙◌, subst}
-use Rattle.std.proofs.lemmas.Option.{none-some}
+use Rattle.std.proofs.{Common.List, Common.ℤ, Common.Option, Common.sym, Common.ap, Common.◌∙◌, Common.subst, lemmas.Option.none-some}
 use Rattle.rv_rows.specs.declared.linear.Row.{Row}
-use Rattle.rv_rise.specs.Limits.{limit_at}
-use Rattle.rv_rise.specs.Rounds.{IsSetting, claim_in}
-use Rattle.rv_rise.proofs.Imagining.{none_images}
-use Rattle.rv_rise.proofs.Rounding.{setting_first, rising_of}
+use Rattle.rv_rise.specs.{Limits.limit_at, Rounds.IsSetting, Rounds.claim_in}
+use Rattle.rv_rise.proofs.{Imagining.none_images, Rounding.setting_first, Rounding.rising_of}
 use Rattle.rv_rise.proofs.rounds.begin.Goals as goal
 
 pub first_claim-requires : goal.first_claim-requires

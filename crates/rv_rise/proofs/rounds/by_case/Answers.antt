@@ -1,8 +1,7 @@
 use Rattle.std.proofs.Common.{Bool, ◌++◌, refl, sym, subst}
 use Rattle.rv_proofs.specs.Scopes.{IsIn}
 use Rattle.rv_rise.specs.Rounds.{HasGrown}
-use Rattle.rv_rise.proofs.Fitting.{premises_fit, can_move}
-use Rattle.rv_rise.proofs.Stepping.{grown_open, grown_shut}
+use Rattle.rv_rise.proofs.{Fitting.premises_fit, Fitting.can_move, Stepping.grown_open, Stepping.grown_shut}
 use Rattle.rv_rise.proofs.rounds.by_case.Goals as goal
 
 pub open_case-requires-clause-within : goal.open_case-requires-clause-within

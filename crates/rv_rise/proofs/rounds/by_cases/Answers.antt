@@ -1,16 +1,9 @@
 use Rattle.std.proofs.Common.{◌≡◌, ◌∙◌, ◌+◌, ◌||◌, Bool, ℕ, List, arith, refl, sym, subst, length}
 use Rattle.rv_proofs.specs.Scopes.{IsIn}
-use Rattle.rv_rows.specs.declared.linear.Row.{Row}
-use Rattle.rv_rise.specs.Limits.{AreOwn}
-use Rattle.rv_rise.specs.Rounds.{IsSetting, IsInCases, HasGrown}
-use Rattle.rv_rise.proofs.Giving.{given_there}
-use Rattle.rv_rise.proofs.Composing.{grown_none, grown_both, grown_within, more_cases}
-use Rattle.rv_rise.proofs.Rounding.{cases_in}
-use Rattle.rv_rise.proofs.Imagining.{image_there, set_images}
-use Rattle.rv_rows.specs.Multipliers.{AreShutAtOnce}
-use Rattle.rv_rise.proofs.Fitting.{given_fit}
-use Rattle.rv_rise.proofs.Loosening.{match_true, match_false}
-use Rattle.rv_rise.proofs.Stepping.{grown_all_shut}
+use Rattle.rv_rows.specs.{declared.linear.Row.Row, Multipliers.AreShutAtOnce}
+use Rattle.rv_rise.specs.{Limits.AreOwn, Rounds.IsSetting, Rounds.IsInCases, Rounds.HasGrown}
+use Rattle.rv_rise.proofs.{Giving.given_there, Composing.grown_none, Composing.grown_both, Composing.grown_within, Composing.more_cases, Rounding.cases_in}
+use Rattle.rv_rise.proofs.{Imagining.image_there, Imagining.set_images, Fitting.given_fit, Loosening.match_true, Loosening.match_false, Stepping.grown_all_shut}
 use Rattle.rv_rise.proofs.rounds.by_cases.Goals as goal
 
 pub loop-place-init : goal.loop-place-init

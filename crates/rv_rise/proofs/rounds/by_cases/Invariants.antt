@@ -1,10 +1,7 @@
 use Rattle.std.proofs.Common.{◌≡◌}
-use Rattle.rv_proofs.specs.Systems.{System}
-use Rattle.rv_proofs.specs.RowClaims.{RowClaim}
-use Rattle.rv_proofs.specs.Cases.{AreCases}
+use Rattle.rv_proofs.specs.{Systems.System, RowClaims.RowClaim, Cases.AreCases}
 use Rattle.rv_cases.specs.declared.asking.Questions.{Questions}
-use Rattle.rv_rise.specs.Imaging.{AreImages}
-use Rattle.rv_rise.specs.Rounds.{IsGivenIn, IsSetting, IsKeptRisen, HasGrown, IsInCases}
+use Rattle.rv_rise.specs.{Imaging.AreImages, Rounds.IsGivenIn, Rounds.IsSetting, Rounds.IsKeptRisen, Rounds.HasGrown, Rounds.IsInCases}
 use Rattle.rv_rise.proofs.rounds.by_cases.Given as goal
 
 abbrev pub invariant-loop-place : goal.invariant-loop-place

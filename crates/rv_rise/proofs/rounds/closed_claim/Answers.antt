@@ -1,10 +1,7 @@
 use Rattle.std.proofs.Common.{◌≡◌, ◌∙◌, true, false, sym, subst, length}
-use Rattle.rv_rise.specs.declared.risen.Risen.{Risen}
+use Rattle.rv_rise.specs.{declared.risen.Risen.Risen, Rounds.claim_in}
 use Rattle.rv_proofs.specs.RowClaims.{IsRowClosed}
-use Rattle.rv_rise.specs.Rounds.{claim_in}
-use Rattle.rv_rise.proofs.Giving.{given_there}
-use Rattle.rv_rise.proofs.Imagining.{none_images}
-use Rattle.rv_rise.proofs.Rounding.{least_of, round_smaller}
+use Rattle.rv_rise.proofs.{Giving.given_there, Imagining.none_images, Rounding.least_of, Rounding.round_smaller}
 use Rattle.rv_rise.proofs.rounds.closed_claim.Goals as goal
 
 pub begin-requires : goal.begin-requires

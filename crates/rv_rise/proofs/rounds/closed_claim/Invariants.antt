@@ -1,8 +1,6 @@
 use Rattle.std.proofs.Common.{◌≡◌, ◌+◌, cond, false, length}
-use Rattle.rv_proofs.specs.Systems.{System}
-use Rattle.rv_proofs.specs.RowClaims.{IsRowClosed}
-use Rattle.rv_rise.specs.Imaging.{AreImages}
-use Rattle.rv_rise.specs.Rounds.{IsGivenIn, IsStart, IsRising, AreOthers, claim_in, left_of}
+use Rattle.rv_proofs.specs.{Systems.System, RowClaims.IsRowClosed}
+use Rattle.rv_rise.specs.{Imaging.AreImages, Rounds.IsGivenIn, Rounds.IsStart, Rounds.IsRising, Rounds.AreOthers, Rounds.claim_in, Rounds.left_of}
 use Rattle.rv_rise.proofs.rounds.closed_claim.Given as goal
 
 abbrev pub invariant-loop-more : goal.invariant-loop-more

@@ -2,8 +2,7 @@ use Rattle.std.proofs.Common.{sym, ap, ◌∙◌, subst}
 use Rattle.rv_diagram.specs.declared.frozen.Frozen.{Frozen}
 use Rattle.rv_proofs.specs.Ranges.{IsControlSet}
 use Rattle.rv_walk.specs.Ends.{has}
-use Rattle.rv_rise.proofs.Giving.{given_there}
-use Rattle.rv_rise.proofs.Imagining.{none_images, same_set}
+use Rattle.rv_rise.proofs.{Giving.given_there, Imagining.none_images, Imagining.same_set}
 use Rattle.rv_rise.proofs.rounds.others_after.Goals as goal
 
 pub others_of-requires : goal.others_of-requires

@@ -1,7 +1,6 @@
 use Rattle.std.proofs.Common.{Bool, length}
 use Rattle.rv_rise.specs.Rounds.{HasGrown, IsInCases, claim_in}
-use Rattle.rv_rise.proofs.Listing.{own_rows}
-use Rattle.rv_rise.proofs.Rounding.{setting_others, round_of}
+use Rattle.rv_rise.proofs.{Listing.own_rows, Rounding.setting_others, Rounding.round_of}
 use Rattle.rv_symbolic.proofs.Extending.{map_ok}
 use Rattle.rv_rise.proofs.rounds.round.Goals as goal
 

@@ -1,7 +1,6 @@
 use Rattle.std.proofs.Common.{◌∙◌, ◌++◌, ◌∷◌, [], List, Option, ℤ, FitsSigned, rules, ap, sym}
+use Rattle.std.proofs.{lemmas.Int.to_z-of_z, lemmas.List.append-nil}
 use Rattle.std.specs.Int.{w128}
-use Rattle.std.proofs.lemmas.Int.{to_z-of_z}
-use Rattle.std.proofs.lemmas.List.{append-nil}
 use Rattle.rv_rows.specs.declared.linear.Row.{Row}
 use Rattle.rv_rise.specs.Sides.{rows_with}
 use Rattle.rv_rise.proofs.Listing.{rows_with-one, rows_with-none}

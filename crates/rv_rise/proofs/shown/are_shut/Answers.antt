@@ -1,9 +1,6 @@
-use Rattle.std.proofs.Common.{List, ℤ, Option, Some, None, rules, FitsSigned, subst}
-use Rattle.std.specs.Prelude.{MatchBool}
-use Rattle.std.specs.Int.{w128}
-use Rattle.std.proofs.lemmas.Int.{to_z-of_z}
-use Rattle.rv_rows.specs.declared.linear.Row.{Row}
-use Rattle.rv_rows.specs.Multipliers.{AreShutAtOnce}
+use Rattle.std.proofs.{Common.List, Common.ℤ, Common.Option, Common.Some, Common.None, Common.rules, Common.FitsSigned, Common.subst, lemmas.Int.to_z-of_z}
+use Rattle.std.specs.{Prelude.MatchBool, Int.w128}
+use Rattle.rv_rows.specs.{declared.linear.Row.Row, Multipliers.AreShutAtOnce}
 use Rattle.rv_rise.specs.Shown.{IsLeastShown}
 use Rattle.rv_rise.proofs.Showing.{shut_decided, never_shut}
 use Rattle.rv_rise.proofs.shown.are_shut.Goals as goal

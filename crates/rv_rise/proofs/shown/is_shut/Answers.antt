@@ -1,8 +1,7 @@
 use Rattle.std.proofs.Common.{List, ℤ, ◌+◌, Option, Some, None, rules, FitsSigned, length, subst}
-use Rattle.std.specs.Int.{w128}
 use Rattle.std.proofs.lemmas.Int.{to_z-of_z}
-use Rattle.rv_seek.specs.declared.least.Best.{Best}
-use Rattle.rv_seek.specs.Least.{IsLeastAmong}
+use Rattle.std.specs.Int.{w128}
+use Rattle.rv_seek.specs.{declared.least.Best.Best, Least.IsLeastAmong}
 use Rattle.rv_rise.proofs.Showing.{among_decided, among_none}
 use Rattle.rv_rise.proofs.shown.is_shut.Goals as goal
 

@@ -1,6 +1,5 @@
-use Rattle.std.proofs.Common.{rules, FitsSigned, Some}
+use Rattle.std.proofs.{Common.rules, Common.FitsSigned, Common.Some, lemmas.Int.to_z-of_z}
 use Rattle.std.specs.Int.{w128}
-use Rattle.std.proofs.lemmas.Int.{to_z-of_z}
 use Rattle.rv_seek.specs.Least.{IsAlone}
 use Rattle.rv_rise.proofs.Showing.{alone_shows}
 use Rattle.rv_rise.proofs.shown.kept_alone.Goals as goal

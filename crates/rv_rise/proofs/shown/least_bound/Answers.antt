@@ -1,6 +1,5 @@
-use Rattle.std.proofs.Common.{rules, FitsSigned}
+use Rattle.std.proofs.{Common.rules, Common.FitsSigned, lemmas.Int.to_z-of_z}
 use Rattle.std.specs.Int.{w128}
-use Rattle.std.proofs.lemmas.Int.{to_z-of_z}
 use Rattle.rv_rise.proofs.Showing.{least_some, least_none}
 use Rattle.rv_rise.proofs.shown.least_bound.Goals as goal
 

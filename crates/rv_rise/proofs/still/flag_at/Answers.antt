@@ -1,5 +1,4 @@
-use Rattle.std.proofs.Common.{Option, Bool, false, unwrap_or, ap, ◌∙◌}
-use Rattle.std.proofs.lemmas.Option.{unwrap_or-slice_get}
+use Rattle.std.proofs.{Common.Option, Common.Bool, Common.false, Common.unwrap_or, Common.ap, Common.◌∙◌, lemmas.Option.unwrap_or-slice_get}
 use Rattle.rv_rise.proofs.still.flag_at.Goals as goal
 
 pub returns-in-None : goal.returns-in-None

@@ -1,6 +1,5 @@
-use Rattle.std.proofs.Common.{rules, FitsSigned}
+use Rattle.std.proofs.{Common.rules, Common.FitsSigned, lemmas.Int.to_z-of_z}
 use Rattle.std.specs.Int.{w128}
-use Rattle.std.proofs.lemmas.Int.{to_z-of_z}
 use Rattle.rv_rise.proofs.table.add_side.Goals as goal
 
 pub returns : goal.returns

@@ -1,6 +1,5 @@
-use Rattle.std.proofs.Common.{◌≡◌, ◌∙◌, refl, arith, rules, FitsSigned}
+use Rattle.std.proofs.{Common.◌≡◌, Common.◌∙◌, Common.refl, Common.arith, Common.rules, Common.FitsSigned, lemmas.Int.to_z-of_z}
 use Rattle.std.specs.Int.{w128}
-use Rattle.std.proofs.lemmas.Int.{to_z-of_z}
 use Rattle.rv_rise.proofs.Tabling.{pattern_of}
 use Rattle.rv_rise.proofs.table.side_with.Goals as goal
 

@@ -1,6 +1,5 @@
-use Rattle.std.proofs.Common.{rules, FitsSigned, arith, length, take, ◌≡◌, ◌<◌}
+use Rattle.std.proofs.{Common.rules, Common.FitsSigned, Common.arith, Common.length, Common.take, Common.◌≡◌, Common.◌<◌, lemmas.Int.to_z-of_z}
 use Rattle.std.specs.Int.{w128}
-use Rattle.std.proofs.lemmas.Int.{to_z-of_z}
 use Rattle.rv_rise.proofs.Rising.{above_more, above_all}
 use Rattle.rv_rise.proofs.thresholds.least_above.Goals as goal
 

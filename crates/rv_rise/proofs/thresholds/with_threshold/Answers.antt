@@ -1,7 +1,6 @@
 use Rattle.std.proofs.Common.{rules, FitsSigned, ◌<ℤ◌, ℤ, subst, sym, ◌∙◌}
+use Rattle.std.proofs.{lemmas.Int.to_z-of_z, lemmas.Option.same_Some, lemmas.Option.none-some}
 use Rattle.std.specs.Int.{w128}
-use Rattle.std.proofs.lemmas.Int.{to_z-of_z}
-use Rattle.std.proofs.lemmas.Option.{same_Some, none-some}
 use Rattle.rv_rise.specs.Orders.{IsLeastAbove}
 use Rattle.rv_rise.proofs.Rising.{skips, keeps, takes}
 use Rattle.rv_rise.proofs.thresholds.with_threshold.Goals as goal

@@ -1,6 +1,5 @@
 use Rattle.std.proofs.Common.{◌≡◌, ◌<◌, ℕ, ◌*ℤ◌}
-use Rattle.rv_rows.specs.Rows.{coefficient}
-use Rattle.rv_rows.specs.Multipliers.{weighted}
+use Rattle.rv_rows.specs.{Rows.coefficient, Multipliers.weighted}
 use Rattle.rv_rows.proofs.farkas.same_sides.Given as goal
 
 abbrev pub invariant-loop-column : goal.invariant-loop-column

@@ -1,6 +1,5 @@
-use Rattle.std.proofs.Common.{◌^◌, pos, get_or, refl, FitsSigned, rules, to_z}
+use Rattle.std.proofs.{Common.◌^◌, Common.pos, Common.get_or, Common.refl, Common.FitsSigned, Common.rules, Common.to_z, lemmas.Int.to_z-of_z}
 use Rattle.std.specs.Int.{w128}
-use Rattle.std.proofs.lemmas.Int.{to_z-of_z}
 use Rattle.rv_rows.proofs.RowLemmas.{step_room, step_kept, bound_within}
 use Rattle.rv_rows.proofs.farkas.weighted_bound.Goals as goal
 

@@ -1,7 +1,6 @@
 use Rattle.std.proofs.Common.{◌≡◌, ◌≤◌, ◌*◌, ◌^◌, ◌+ℤ◌, drop}
 use Rattle.std.specs.Int.RustNames.{unsigned_abs}
-use Rattle.rv_rows.specs.Rows.{coefficient}
-use Rattle.rv_rows.specs.Multipliers.{weighted}
+use Rattle.rv_rows.specs.{Rows.coefficient, Multipliers.weighted}
 use Rattle.rv_rows.proofs.farkas.weighted_coefficient.Given as goal
 
 abbrev pub invariant-loop-weight : goal.invariant-loop-weight

@@ -1,10 +1,8 @@
 use Rattle.std.proofs.Common.{◌≡◌, ◌+ℤ◌, pos, FitsSigned, rules, ◌∙◌, ap, sym, ◌++◌, ◌∷◌, []}
+use Rattle.std.proofs.{lemmas.Int.to_z-of_z, lemmas.Option.get_or_from_slice_get}
 use Rattle.std.specs.Int.{w128}
-use Rattle.std.proofs.lemmas.Int.{to_z-of_z}
-use Rattle.std.proofs.lemmas.Option.{get_or_from_slice_get}
 use Rattle.rv_rows.specs.Forms.{number}
-use Rattle.rv_rows.proofs.IntLemmas.{fits_below}
-use Rattle.rv_rows.proofs.FormLemmas.{pushed, length-pushed}
+use Rattle.rv_rows.proofs.{IntLemmas.fits_below, FormLemmas.pushed, FormLemmas.length-pushed}
 use Rattle.rv_rows.proofs.forms.add_columns.Goals as goal
 
 pub loop-column-preserved : goal.loop-column-preserved

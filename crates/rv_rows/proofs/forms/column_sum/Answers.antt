@@ -1,6 +1,5 @@
-use Rattle.std.proofs.Common.{◌<◌, length, rules, arith, FitsSigned, to_z}
+use Rattle.std.proofs.{Common.◌<◌, Common.length, Common.rules, Common.arith, Common.FitsSigned, Common.to_z, lemmas.Int.to_z-of_z}
 use Rattle.std.specs.Int.{w128}
-use Rattle.std.proofs.lemmas.Int.{to_z-of_z}
 use Rattle.rv_rows.specs.Forms.{number}
 use Rattle.rv_rows.proofs.FormLemmas.{form-room, form-kept}
 use Rattle.rv_rows.proofs.forms.column_sum.Goals as goal

@@ -1,6 +1,5 @@
 use Rattle.std.proofs.Common.{◌≡◌, take, map}
-use Rattle.rv_rows.specs.Rows.{dot}
-use Rattle.rv_rows.specs.Forms.{number}
+use Rattle.rv_rows.specs.{Rows.dot, Forms.number}
 use Rattle.rv_rows.proofs.forms.column_sum.Given as goal
 
 abbrev pub invariant-loop-place : goal.invariant-loop-place

@@ -1,5 +1,4 @@
-use Rattle.rv_rows.proofs.TightLemmas.{tight_same}
-use Rattle.rv_rows.proofs.Tightening.{some_tightened, one_tightened, tight_again}
+use Rattle.rv_rows.proofs.{TightLemmas.tight_same, Tightening.some_tightened, Tightening.one_tightened, Tightening.tight_again}
 use Rattle.rv_rows.proofs.laws.tightened_rows.Goals as goal
 
 pub returns-clause-some : goal.returns-clause-some

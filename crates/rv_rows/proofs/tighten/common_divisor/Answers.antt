@@ -1,7 +1,6 @@
 use Rattle.std.proofs.Common.{◌≡◌, ◌≤◌, length, arith, pos, get_or, ap, ◌∙◌, rules, FitsSigned}
-use Rattle.std.specs.Int.{w128}
-use Rattle.std.specs.Int.RustNames.{unsigned_abs}
 use Rattle.std.proofs.lemmas.Int.{to_z-of_z}
+use Rattle.std.specs.{Int.w128, Int.RustNames.unsigned_abs}
 use Rattle.rv_rows.proofs.TightLemmas.{DividesUpto-more, DividesUpto-all, DividesUpto-none}
 use Rattle.rv_rows.proofs.tighten.common_divisor.Goals as goal
 

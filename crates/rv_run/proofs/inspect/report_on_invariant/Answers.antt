@@ -1,14 +1,8 @@
 use Rattle.std.proofs.Common.{ℕ, ◌<◌, ◌^◌, sym, ◌∙◌, subst}
-use Rattle.rv_tree.specs.Tree.{program_tree}
-use Rattle.rv_tree.specs.Places.{Identifier}
-use Rattle.rv_tree.specs.SourceTrees.{IsSourceTree}
-use Rattle.rv_types.specs.Instances.{name_at}
-use Rattle.rv_types.specs.Settled.{IsSettled}
-use Rattle.rv_types.specs.WellFormed.{AreWell}
+use Rattle.rv_tree.specs.{Tree.program_tree, Places.Identifier, SourceTrees.IsSourceTree}
+use Rattle.rv_types.specs.{Instances.name_at, Settled.IsSettled, WellFormed.AreWell}
 use Rattle.rv_invfile.specs.Csv.{records_of}
-use Rattle.rv_run.specs.declared.report.Report.{Report}
-use Rattle.rv_run.specs.declared.words.Task.TheVariants.{Check}
-use Rattle.rv_run.specs.Checked.{IsAnswerOf, IsUnlessLimit}
+use Rattle.rv_run.specs.{declared.report.Report.Report, declared.words.Task.TheVariants.Check, Checked.IsAnswerOf, Checked.IsUnlessLimit}
 use Rattle.rv_run.proofs.Judging.{well, is_node}
 use Rattle.rv_run.proofs.Inspected.{bad_says, bad_tells, fault-answers_check, fault-not_accepted, fault-not_nodes, verdict-answers, verdict_safe, verdict_says}
 use Rattle.rv_run.proofs.Inspected.{verdict_tells, verdict_wide}

@@ -1,19 +1,13 @@
 use Rattle.std.proofs.Common.{◌≡◌, ℕ, Ok, Some, slice_get, ℤ, ap, sym, subst, ◌≤◌, ◌^◌}
-use Rattle.std.specs.Int.RustNames.{unsigned_abs}
-use Rattle.std.specs.List.{All}
+use Rattle.std.specs.{Int.RustNames.unsigned_abs, List.All}
 use Rattle.rv_tree.specs.Tree.{program_tree}
 use Rattle.rv_types.specs.Instances.{name_at}
 use Rattle.rv_flat.specs.declared.flat.Flat.{Flat}
 use Rattle.rv_control.specs.Control.{control_of}
 use Rattle.rv_diagram.specs.declared.frozen.Frozen.{Frozen}
-use Rattle.rv_proofs.specs.Accepted.{IsAccepted}
-use Rattle.rv_proofs.specs.Ranges.{IsControlSet}
-use Rattle.rv_proofs.specs.Boxes.{HasGoodBox}
-use Rattle.rv_proofs.specs.Reached.{HasNoIntegers}
-use Rattle.rv_walk.specs.Ends.{AreBadLayers, IsGoodEnd}
-use Rattle.rv_walk.specs.declared.end.BoxEnd.{BoxEnd}
-use Rattle.rv_reading.specs.declared.reading.Reading.{Reading}
-use Rattle.rv_reading.specs.Read.{flat_of, system_read}
+use Rattle.rv_proofs.specs.{Accepted.IsAccepted, Ranges.IsControlSet, Boxes.HasGoodBox, Reached.HasNoIntegers}
+use Rattle.rv_walk.specs.{Ends.AreBadLayers, Ends.IsGoodEnd, declared.end.BoxEnd.BoxEnd}
+use Rattle.rv_reading.specs.{declared.reading.Reading.Reading, Read.flat_of, Read.system_read}
 use Rattle.rv_probe.specs.Probes.{HasFalsifyingProbe}
 use Rattle.rv_run.specs.Judged.{IsControlSystem, IsKnown}
 use Rattle.rv_run.proofs.judge.decided.Goals as goal

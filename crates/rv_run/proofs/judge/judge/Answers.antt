@@ -1,12 +1,7 @@
 use Rattle.std.proofs.Common.{Ok, ap}
-use Rattle.rv_tree.specs.Tree.{program_tree}
-use Rattle.rv_tree.specs.Places.{Identifier}
-use Rattle.rv_tree.specs.SourceTrees.{IsSourceTree}
-use Rattle.rv_types.specs.Instances.{name_at}
-use Rattle.rv_types.specs.Settled.{IsSettled}
-use Rattle.rv_types.specs.WellFormed.{AreWell}
-use Rattle.rv_run.proofs.Judging.{wide, well, is_node}
-use Rattle.rv_run.proofs.Thresholds.{thresholds_small}
+use Rattle.rv_tree.specs.{Tree.program_tree, Places.Identifier, SourceTrees.IsSourceTree}
+use Rattle.rv_types.specs.{Instances.name_at, Settled.IsSettled, WellFormed.AreWell}
+use Rattle.rv_run.proofs.{Judging.wide, Judging.well, Judging.is_node, Thresholds.thresholds_small}
 use Rattle.rv_run.proofs.judge.judge.Goals as goal
 
 pub decided-requires-clause-known : goal.decided-requires-clause-known

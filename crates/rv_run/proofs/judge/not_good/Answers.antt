@@ -3,20 +3,13 @@ use Rattle.rv_tree.specs.Tree.{program_tree}
 use Rattle.rv_types.specs.Instances.{name_at}
 use Rattle.rv_flat.specs.declared.flat.Flat.{Flat}
 use Rattle.rv_control.specs.Control.{control_of}
-use Rattle.rv_reading.specs.Read.{flat_of}
-use Rattle.rv_proofs.specs.Accepted.{IsAccepted}
+use Rattle.rv_reading.specs.{Read.flat_of, declared.reading.Reading.Reading}
+use Rattle.rv_proofs.specs.{Accepted.IsAccepted, Left.IsLeftPartition, Ranges.IsControlSet, RowClaims.HasGoodRows}
 use Rattle.rv_diagram.specs.declared.frozen.Frozen.{Frozen}
-use Rattle.rv_proofs.specs.Left.{IsLeftPartition}
-use Rattle.rv_proofs.specs.Ranges.{IsControlSet}
-use Rattle.rv_proofs.specs.RowClaims.{HasGoodRows}
 use Rattle.rv_probe.specs.Probes.{HasFalsifyingProbe}
-use Rattle.rv_reading.specs.declared.reading.Reading.{Reading}
 use Rattle.rv_fixpoint.specs.Ends.{IsProved}
-use Rattle.rv_run.specs.Judged.{IsControlSystem, IsKnown}
-use Rattle.rv_run.specs.Programs.{HasGood}
-use Rattle.rv_run.proofs.Claimed.{lacks_both}
-use Rattle.rv_run.proofs.Integers.{system_control}
-use Rattle.rv_run.proofs.NoIntegers.{no_integers}
+use Rattle.rv_run.specs.{Judged.IsControlSystem, Judged.IsKnown, Programs.HasGood}
+use Rattle.rv_run.proofs.{Claimed.lacks_both, Integers.system_control, NoIntegers.no_integers}
 use Rattle.rv_run.proofs.judge.not_good.Goals as goal
 
 pub violated-requires-clause-program_control : goal.violated-requires-clause-program_control

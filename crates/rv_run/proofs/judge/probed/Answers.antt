@@ -3,9 +3,7 @@ use Rattle.rv_tree.specs.Tree.{program_tree}
 use Rattle.rv_types.specs.Instances.{name_at}
 use Rattle.rv_control.specs.Control.{control_of}
 use Rattle.rv_run.specs.Programs.{HasGood}
-use Rattle.rv_run.proofs.Integers.{control_system}
-use Rattle.rv_run.proofs.Claimed.{safe_claims}
-use Rattle.rv_run.proofs.Judged.{falsifying-unsafe, traced-verdict}
+use Rattle.rv_run.proofs.{Integers.control_system, Claimed.safe_claims, Judged.falsifying-unsafe, Judged.traced-verdict}
 use Rattle.rv_run.proofs.judge.probed.Goals as goal
 
 pub unless_shorter-requires-clause-lacks : goal.unless_shorter-requires-clause-lacks

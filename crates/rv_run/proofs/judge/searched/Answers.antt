@@ -1,11 +1,9 @@
 use Rattle.std.proofs.Common.{Ok, inr, ap, sym, ◌∙◌, subst}
 use Rattle.rv_tree.specs.Tree.{program_tree}
 use Rattle.rv_types.specs.Instances.{name_at}
-use Rattle.rv_reading.specs.declared.reading.Reading.{Reading}
-use Rattle.rv_reading.specs.Read.{flat_of}
+use Rattle.rv_reading.specs.{declared.reading.Reading.Reading, Read.flat_of}
 use Rattle.rv_run.specs.Judged.{IsKnown}
-use Rattle.rv_run.proofs.Integers.{control_system}
-use Rattle.rv_run.proofs.Judged.{traced-verdict}
+use Rattle.rv_run.proofs.{Integers.control_system, Judged.traced-verdict}
 use Rattle.rv_run.proofs.judge.searched.Goals as goal
 
 pub with_trace-requires-clause-known : goal.with_trace-requires-clause-known

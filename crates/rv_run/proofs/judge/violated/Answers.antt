@@ -2,13 +2,10 @@ use Rattle.std.proofs.Common.{◌≡◌, Ok, Option, Some, None, inl, ap, refl, 
 use Rattle.rv_base.specs.declared.value.Trace.{Trace}
 use Rattle.rv_tree.specs.Tree.{program_tree}
 use Rattle.rv_types.specs.Instances.{name_at}
-use Rattle.rv_reading.specs.declared.reading.Reading.{Reading}
-use Rattle.rv_reading.specs.Read.{flat_of}
-use Rattle.rv_run.specs.Judged.{IsKnown}
+use Rattle.rv_reading.specs.{declared.reading.Reading.Reading, Read.flat_of}
+use Rattle.rv_run.specs.{Judged.IsKnown, Programs.HasGood}
 use Rattle.rv_control.specs.Control.{control_of}
-use Rattle.rv_run.specs.Programs.{HasGood}
-use Rattle.rv_run.proofs.Claimed.{safe_claims}
-use Rattle.rv_run.proofs.Judged.{falsifying-unsafe, traced-verdict}
+use Rattle.rv_run.proofs.{Claimed.safe_claims, Judged.falsifying-unsafe, Judged.traced-verdict}
 use Rattle.rv_run.proofs.judge.violated.Goals as goal
 
 none_of : (o : Option Trace) → ((t : Trace) → o ≡ Some t → ⊥) → o ≡ None

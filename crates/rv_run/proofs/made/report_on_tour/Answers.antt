@@ -3,8 +3,7 @@ use Rattle.rv_meaning.specs.Runs.{IsSafe}
 use Rattle.rv_make.specs.Made.{made_text}
 use Rattle.rv_proofs.specs.declared.certificate.Certificate.{Certificate}
 use Rattle.rv_run.specs.Programs.{OnProgram, WithRuns, HasManyVariables, IsCertified, IsSafeControl, LacksProbe}
-use Rattle.rv_run.specs.Answers.{IsOnSource}
-use Rattle.rv_run.specs.declared.report.Report.TheVariants.{Toured}
+use Rattle.rv_run.specs.{Answers.IsOnSource, declared.report.Report.TheVariants.Toured}
 use Rattle.rv_run.proofs.Toured.{below, left_over, made_is_safe, same_certificate}
 use Rattle.rv_run.proofs.made.report_on_tour.Goals as goal
 

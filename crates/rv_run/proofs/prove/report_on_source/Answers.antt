@@ -1,22 +1,16 @@
 use Rattle.std.proofs.Common.{inr, sym, ◌∙◌, subst}
-use Rattle.rv_tree.specs.Tree.{ProgramTree, program_tree}
-use Rattle.rv_tree.specs.Places.{Identifier}
-use Rattle.rv_types.specs.Instances.{name_at}
-use Rattle.rv_types.specs.Lists.{sites_of}
+use Rattle.rv_tree.specs.{Tree.ProgramTree, Tree.program_tree, Places.Identifier, SourceTrees.IsSourceTree}
+use Rattle.rv_types.specs.{Instances.name_at, Lists.sites_of, Settled.IsSettled, WellFormed.AreWell}
 use Rattle.rv_meaning.specs.Runs.{IsSafe}
 use Rattle.rv_run.specs.Answers.{IsOnSource, IsRefusalUnlessCutOff, IsSafeUnlessCutOff, IsJudgedUnlessLimited, IsViolatedUnlessCutOff, IsViolatedUnlessUnread}
 use Rattle.rv_run.specs.Programs.{OnProgram, WithRuns, HasGoodClaim, HasManyVariables, HasProbe, IsSafeControl, IsUnsafeControl, IsCertified, IsProgram}
 use Rattle.rv_run.specs.Programs.{IsUnknown, LacksGoodClaim, LacksProbe}
 use Rattle.rv_run.specs.Verdicts.{IsDocumentOf, IsInvariantOf, IsViolated}
-use Rattle.rv_tree.specs.SourceTrees.{IsSourceTree}
-use Rattle.rv_types.specs.Settled.{IsSettled}
-use Rattle.rv_types.specs.WellFormed.{AreWell}
-use Rattle.rv_run.proofs.Claimed.{one_claim, one_probe}
-use Rattle.rv_run.proofs.Judging.{is_node, well, with_runs}
 use Rattle.rv_run.proofs.Judged.{verdict-on_source, verdict-not_refused, said_safe, said_violated, said_unknown, said_nodes, said_unprobed, must_claim}
 use Rattle.rv_run.proofs.Judged.{must_probe, must_safe, must_violated, must_judged}
 use Rattle.rv_run.proofs.Reported.{refusal-not_safe, refusal-not_violated, refusal-not_unknown, refusal-not_nodes, refusal-on_source, refusal-refused}
 use Rattle.rv_run.proofs.Reported.{refused_accepted, refused_same, named, told, told_back}
+use Rattle.rv_run.proofs.{Claimed.one_claim, Claimed.one_probe, Judging.is_node, Judging.well, Judging.with_runs}
 use Rattle.rv_run.proofs.prove.report_on_source.Goals as goal
 
 pub read_source-requires : goal.read_source-requires

@@ -1,6 +1,5 @@
 use Rattle.std.proofs.Common.{◌≡◌, ◌++◌, take}
-use Rattle.std.specs.Prelude.{codes}
-use Rattle.std.specs.String.{string_bytes}
+use Rattle.std.specs.{Prelude.codes, String.string_bytes}
 use Rattle.rv_run.specs.Printed.{listed}
 use Rattle.rv_run.proofs.report.cycle_text.Given as goal
 

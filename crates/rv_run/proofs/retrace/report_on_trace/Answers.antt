@@ -1,11 +1,9 @@
 use Rattle.std.proofs.Common.{sym, ◌∙◌, subst}
 use Rattle.rv_tree.specs.Tree.{program_tree}
 use Rattle.rv_types.specs.Instances.{name_at}
-use Rattle.rv_run.specs.declared.report.Report.{Report}
-use Rattle.rv_run.specs.Traced.{IsTraceAnswer, IsUnlessNoMemory}
-use Rattle.rv_run.proofs.Judging.{well, is_node}
-use Rattle.rv_run.proofs.Retraced.{all_said, all_told, fault-answers, fault_says, fault_tells, few_memories, of_document, replay-answers, trace_says}
-use Rattle.rv_run.proofs.Retraced.{trace_tells}
+use Rattle.rv_run.specs.{declared.report.Report.Report, Traced.IsTraceAnswer, Traced.IsUnlessNoMemory}
+use Rattle.rv_run.proofs.{Judging.well, Judging.is_node, Retraced.all_said, Retraced.all_told, Retraced.fault-answers, Retraced.fault_says}
+use Rattle.rv_run.proofs.{Retraced.fault_tells, Retraced.few_memories, Retraced.of_document, Retraced.replay-answers, Retraced.trace_says, Retraced.trace_tells}
 use Rattle.rv_run.proofs.retrace.report_on_trace.Goals as goal
 
 pub read_trace-requires-clause-told : goal.read_trace-requires-clause-told

@@ -1,9 +1,7 @@
 use Rattle.std.proofs.Common.{Some, ap, sym, ◌∙◌, subst}
 use Rattle.rv_words.specs.Asked.{make, tour}
 use Rattle.rv_run.specs.Words.{HasRanges, IsNamed, Wanted, wanted_by, wanted_of}
-use Rattle.rv_run.specs.declared.words.Request.{Request}
-use Rattle.rv_run.specs.Replies.{Replies}
-use Rattle.rv_run.specs.declared.report.Report.{Report}
+use Rattle.rv_run.specs.{declared.words.Request.Request, Replies.Replies, declared.report.Report.Report}
 use Rattle.rv_run.proofs.Cut.{make_replies, tour_replies}
 use Rattle.rv_run.proofs.running.report_on.Goals as goal
 

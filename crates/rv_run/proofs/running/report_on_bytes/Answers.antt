@@ -1,8 +1,7 @@
 use Rattle.std.proofs.Common.{sym, subst}
 use Rattle.rv_tree.specs.Tree.{program_tree}
 use Rattle.rv_types.specs.Instances.{name_at}
-use Rattle.rv_run.specs.declared.words.Task.{Task}
-use Rattle.rv_run.specs.Checked.{IsAnswerOf, IsReportOf, IsUnlessLimit, SaysOf}
+use Rattle.rv_run.specs.{declared.words.Task.Task, Checked.IsAnswerOf, Checked.IsReportOf, Checked.IsUnlessLimit, Checked.SaysOf}
 use Rattle.rv_run.proofs.Reported.{trace-answers, trace-not_accepted, trace-not_nodes, trace-unless}
 use Rattle.rv_run.proofs.running.report_on_bytes.Goals as goal
 

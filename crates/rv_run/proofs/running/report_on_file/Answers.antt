@@ -1,18 +1,13 @@
 use Rattle.std.proofs.Common.{◌≡◌, ℕ, ◌≤◌, ◌<◌, inl, inr, Bool, List, length, IsTrue, Option, Some, None, refl, sym, ◌∙◌, ap, subst, arith}
 use Rattle.std.specs.Prelude.{option_map}
-use Rattle.rv_base.specs.Limits.{source_limit}
+use Rattle.rv_base.specs.{Limits.source_limit, Shelf.Shelf, Shelf.HoldsUnder}
 use Rattle.rv_meaning.specs.Runs.{IsSafe}
-use Rattle.rv_base.specs.Shelf.{Shelf, HoldsUnder}
-use Rattle.rv_run.specs.Words.{wanted_on_file}
-use Rattle.rv_run.specs.declared.words.Task.{Task}
-use Rattle.rv_run.specs.declared.words.Beside.{Beside}
 use Rattle.rv_run.specs.declared.report.Report.TheVariants.{Accepted, Made, ReadFault, Toured, TooLong, Usage}
 use Rattle.rv_run.specs.Answers.{IsOnSource, IsTold, IsToldDocument, OnDocument, OnFile, Tells}
 use Rattle.rv_run.specs.Programs.{HasGoodClaim, HasManyVariables, HasProbe, LacksProbe, IsCertified, IsRefusedFor, IsSafeControl, IsProgram, IsUnknown}
 use Rattle.rv_run.specs.Programs.{IsUnsafeControl, OnProgram, WithRuns}
-use Rattle.rv_run.specs.Checked.{IsUnlessCut, SaysOf}
-use Rattle.rv_run.specs.Traced.{IsLongDocument, OnAccepted}
-use Rattle.rv_run.specs.Verdicts.{IsDocumentOf, IsInvariantOf, IsViolated}
+use Rattle.rv_run.specs.{Words.wanted_on_file, declared.words.Task.Task, declared.words.Beside.Beside, Checked.IsUnlessCut, Checked.SaysOf}
+use Rattle.rv_run.specs.{Traced.IsLongDocument, Traced.OnAccepted, Verdicts.IsDocumentOf, Verdicts.IsInvariantOf, Verdicts.IsViolated}
 use Rattle.rv_run.proofs.Named.{no_document, on_document, on_file, told_of, told_of_document}
 use Rattle.rv_run.proofs.Reported.{document-not_made, document-not_safe, document-not_toured, document-not_unknown, document-not_usage, document-not_verdict}
 use Rattle.rv_run.proofs.Reported.{document-not_violated, source-not_document}

@@ -1,24 +1,19 @@
 use Rattle.std.proofs.Common.{◌≤◌, ◌<◌, ◌+◌, ◌⊎◌, ℕ, List, length, subst, sym, ◌≡◌, None, Some}
-use Rattle.std.specs.Prelude.{String}
-use Rattle.std.specs.Global.{Global}
+use Rattle.std.specs.{Prelude.String, Global.Global}
 use Rattle.rv_replay.specs.Replays.{FailsAt, IsFalsifiedAt, NeverEnds, OutgrowsAt}
 use Rattle.rv_make.specs.Made.{made_text}
 use Rattle.rv_base.specs.Limits.{source_limit}
 use Rattle.rv_run.specs.declared.report.Report.TheVariants.{Accepted, Rejected, Falsified, AssertionFails, NeverFalse, Outgrown, Made, BadFile, TooLong, Memory}
-use Rattle.rv_run.specs.declared.words.Task.{Task}
-use Rattle.rv_run.specs.declared.words.Task.TheVariants.{Replay, Check}
-use Rattle.rv_meaning.specs.Runs.{IsSafe}
-use Rattle.rv_words.specs.Words.{texts, command}
-use Rattle.rv_run.specs.Words.{wanted}
 use Rattle.rv_run.specs.Answers.{IsTold, IsToldDocument, IsRefusalUnlessCutOff, IsUnlessCutOff, IsJudgedUnlessLimited, IsUnlessLimited, IsNodesReport}
 use Rattle.rv_run.specs.Answers.{IsTouredReport, OnFile, OnDocument, OnSource, IsShown, IsSafeUnlessCutOff, IsViolatedUnlessCutOff, IsViolatedUnlessUnread}
 use Rattle.rv_run.specs.Programs.{HasGoodClaim, HasManyVariables, HasProbe, IsCertified, IsRefusedFor, IsSafeControl, IsProgram, IsUnknown, LacksProbe}
 use Rattle.rv_run.specs.Programs.{IsUnsafeControl, OnProgram, WithRuns}
-use Rattle.rv_run.specs.Checked.{HasAccepted, HasRejected, IsInvariantFault}
 use Rattle.rv_run.specs.Traced.{IsFileFault, IsLongDocument, IsUnlessNoMemory, OnAccepted, OnTrace, file_limit}
+use Rattle.rv_run.specs.{declared.words.Task.Task, declared.words.Task.TheVariants.Replay, declared.words.Task.TheVariants.Check, Words.wanted}
+use Rattle.rv_run.specs.{Checked.HasAccepted, Checked.HasRejected, Checked.IsInvariantFault, Printed.shown_of, Verdicts.HasOrigin, Verdicts.IsViolated}
+use Rattle.rv_meaning.specs.Runs.{IsSafe}
+use Rattle.rv_words.specs.Words.{texts, command}
 use Rattle.rv_falsify.specs.Falsifying.{IsFalsifying}
-use Rattle.rv_run.specs.Printed.{shown_of}
-use Rattle.rv_run.specs.Verdicts.{HasOrigin, IsViolated}
 use Rattle.rv_run.proofs.More.{file_more, is_shown, of_check, of_either, of_replay, runs_more}
 use Rattle.rv_run.proofs.running.run.Goals as goal
 

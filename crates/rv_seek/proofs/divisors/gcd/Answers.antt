@@ -1,5 +1,4 @@
-use Rattle.std.proofs.Common.{arith}
-use Rattle.std.proofs.lemmas.Nat.Gcd.{IsGcd-from_zero, IsGcd-from_mod}
+use Rattle.std.proofs.{Common.arith, lemmas.Nat.Gcd.IsGcd-from_zero, lemmas.Nat.Gcd.IsGcd-from_mod}
 use Rattle.rv_seek.proofs.divisors.gcd.Goals as goal
 
 pub loop-y-preserved : goal.loop-y-preserved

@@ -1,7 +1,5 @@
-use Rattle.std.proofs.Common.{◌+◌, length}
-use Rattle.std.specs.BTreeMap.{values}
-use Rattle.std.specs.Map.Iter.{deref}
-use Rattle.std.proofs.lemmas.Map.Iter.{rest_more, rest_all}
+use Rattle.std.proofs.{Common.◌+◌, Common.length, lemmas.Map.Iter.rest_more, lemmas.Map.Iter.rest_all}
+use Rattle.std.specs.{BTreeMap.values, Map.Iter.deref}
 use Rattle.rv_seek.proofs.LeastLemmas.{walked-more, walked-all, least-all}
 use Rattle.rv_seek.proofs.least.least_within.Goals as goal
 

@@ -1,6 +1,5 @@
 use Rattle.std.proofs.Common.{◌++◌, length, ap, ◌∙◌, refl, negsuc, []}
-use Rattle.rv_seek.specs.Pairs.{unit_at}
-use Rattle.rv_seek.specs.Least.{bounded}
+use Rattle.rv_seek.specs.{Pairs.unit_at, Least.bounded}
 use Rattle.rv_seek.proofs.PairLemmas.{pair_proves, pair_ranges, refutes_from}
 use Rattle.rv_seek.proofs.pairs.pair_multipliers.Goals as goal
 

@@ -1,6 +1,5 @@
 use Rattle.std.proofs.Common.{ap}
-use Rattle.rv_rows.specs.declared.linear.Row.{Row}
-use Rattle.rv_rows.specs.Rows.{coefficient}
+use Rattle.rv_rows.specs.{declared.linear.Row.Row, Rows.coefficient}
 use Rattle.rv_seek.proofs.PairLemmas.{row_none}
 use Rattle.rv_seek.proofs.places.coefficient_of.Goals as goal
 

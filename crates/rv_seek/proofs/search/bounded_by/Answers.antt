@@ -1,6 +1,5 @@
 use Rattle.rv_rows.specs.Multipliers.{Proves}
-use Rattle.rv_seek.specs.declared.seek.Bounded.{Bounded}
-use Rattle.rv_seek.specs.Least.{at_most}
+use Rattle.rv_seek.specs.{declared.seek.Bounded.Bounded, Least.at_most}
 use Rattle.rv_seek.proofs.BoundLemmas.{lower_bound, one_of, all_hold}
 use Rattle.rv_seek.proofs.search.bounded_by.Goals as goal
 

@@ -1,6 +1,5 @@
-use Rattle.std.proofs.Common.{◌+ℤ◌, ℤ, subst, FitsSigned, rules, to_z, of_z}
+use Rattle.std.proofs.{Common.◌+ℤ◌, Common.ℤ, Common.subst, Common.FitsSigned, Common.rules, Common.to_z, Common.of_z, lemmas.Int.to_z-of_z}
 use Rattle.std.specs.Int.{w128}
-use Rattle.std.proofs.lemmas.Int.{to_z-of_z}
 use Rattle.rv_rows.specs.Multipliers.{Proves}
 use Rattle.rv_seek.specs.Least.{bounded}
 use Rattle.rv_seek.proofs.LeastLemmas.{sums_show, sums_small, small_sum, back}

@@ -1,7 +1,6 @@
 use Rattle.std.proofs.Common.{◌≡◌, ◌≤◌, ◌^◌, ◌+ℤ◌, ℤ, subst, FitsSigned, rules, arith, to_z, of_z}
-use Rattle.std.specs.Int.{w128}
-use Rattle.std.specs.Int.RustNames.{unsigned_abs}
 use Rattle.std.proofs.lemmas.Int.{to_z-of_z}
+use Rattle.std.specs.{Int.w128, Int.RustNames.unsigned_abs}
 use Rattle.rv_rows.specs.Multipliers.{Proves}
 use Rattle.rv_seek.specs.Least.{bounded}
 use Rattle.rv_seek.proofs.LeastLemmas.{wide_sum, back}

@@ -1,6 +1,5 @@
 use Rattle.std.proofs.Common.{sym, subst, List}
-use Rattle.rv_rows.specs.declared.linear.Row.{Row}
-use Rattle.rv_rows.specs.Multipliers.{ShowsAtOnce}
+use Rattle.rv_rows.specs.{declared.linear.Row.Row, Multipliers.ShowsAtOnce}
 use Rattle.rv_seek.specs.Pairs.{PairShows}
 use Rattle.rv_seek.proofs.seek.row_by.Goals as goal
 

@@ -1,6 +1,5 @@
 use Rattle.std.proofs.Common.{◌≡◌, ◌<◌, ℕ, length}
-use Rattle.rv_rows.specs.Rows.{coefficient, row_at}
-use Rattle.rv_rows.specs.Forms.{number}
+use Rattle.rv_rows.specs.{Rows.coefficient, Rows.row_at, Forms.number}
 use Rattle.rv_seek.proofs.sides.side_of.Given as goal
 
 abbrev pub invariant-loop-column : goal.invariant-loop-column

@@ -1,8 +1,7 @@
 use Rattle.std.proofs.Common.{◌≡◌, ◌++◌, ◌∷◌, [], ◌-ℤ◌, FitsSigned, rules, ap, ◌∙◌}
-use Rattle.std.specs.Int.{w128}
 use Rattle.std.proofs.lemmas.Int.{to_z-of_z}
-use Rattle.rv_rows.specs.Rows.{coefficient, row_at}
-use Rattle.rv_rows.specs.Forms.{number}
+use Rattle.std.specs.Int.{w128}
+use Rattle.rv_rows.specs.{Rows.coefficient, Rows.row_at, Forms.number}
 use Rattle.rv_rows.proofs.FormLemmas.{pushed, length-pushed}
 use Rattle.rv_seek.proofs.sides.write_rest.Goals as goal
 

@@ -1,12 +1,9 @@
-use Rattle.std.proofs.Common.{◌≡◌, ℕ, List, ◌++◌, OnOk, sym, ◌∙◌, ap, subst}
-use Rattle.std.proofs.lemmas.List.{append_assoc}
+use Rattle.std.proofs.{Common.◌≡◌, Common.ℕ, Common.List, Common.◌++◌, Common.OnOk, Common.sym, Common.◌∙◌, Common.ap, Common.subst, lemmas.List.append_assoc}
 use Rattle.rv_tree.specs.Tree.{tree_of}
-use Rattle.rv_instances.specs.Expanded.{program_of, main_of}
 use Rattle.rv_instances.specs.Layouts.{IsWithin, here_of, node_at}
-use Rattle.rv_instances.specs.NumberedNeeds.{listed, clock_number}
+use Rattle.rv_instances.specs.{Expanded.program_of, Expanded.main_of, NumberedNeeds.listed, NumberedNeeds.clock_number}
 use Rattle.rv_sequence.specs.Needed.{needed, told_needed}
-use Rattle.rv_sequence.proofs.GiverNeeds.{body_within, body_timed}
-use Rattle.rv_sequence.proofs.ToldNeeds.{told_needs}
+use Rattle.rv_sequence.proofs.{GiverNeeds.body_within, GiverNeeds.body_timed, ToldNeeds.told_needs}
 use Rattle.rv_sequence.proofs.flow_graph.add_body.Goals as goal
 
 pub clock-requires-clause-within : goal.clock-requires-clause-within

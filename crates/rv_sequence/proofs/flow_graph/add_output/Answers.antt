@@ -1,9 +1,7 @@
-use Rattle.std.proofs.Common.{◌+◌, ◌++◌, ◌∷◌, [], sym, ◌∙◌, ap, subst, arith}
-use Rattle.std.proofs.lemmas.List.{append_assoc}
+use Rattle.std.proofs.{Common.◌+◌, Common.◌++◌, Common.◌∷◌, Common.[], Common.sym, Common.◌∙◌, Common.ap, Common.subst, Common.arith, lemmas.List.append_assoc}
 use Rattle.rv_tree.specs.Tree.{tree_of}
-use Rattle.rv_instances.specs.Expanded.{program_of, main_of}
-use Rattle.rv_instances.specs.Layouts.{IsWithin, here_of}
 use Rattle.rv_instances.specs.NumberedNeeds.{listed, clock_number, site_in}
+use Rattle.rv_instances.specs.{Expanded.program_of, Expanded.main_of, Layouts.IsWithin, Layouts.here_of}
 use Rattle.rv_sequence.proofs.GiverNeeds.{output_clock_within, output_few}
 use Rattle.rv_sequence.proofs.flow_graph.add_output.Goals as goal
 

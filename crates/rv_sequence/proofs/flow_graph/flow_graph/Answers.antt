@@ -1,7 +1,6 @@
 use Rattle.std.proofs.Common.{◌≡◌, length, get_or, map, take, ◌∙◌, ap, arith, List}
 use Rattle.std.proofs.Math.Seq.{take-length}
-use Rattle.rv_instances.specs.declared.givers.Giver.{Giver}
-use Rattle.rv_instances.specs.Expanded.{program_of, main_of}
+use Rattle.rv_instances.specs.{declared.givers.Giver.Giver, Expanded.program_of, Expanded.main_of}
 use Rattle.rv_sequence.specs.Needed.{giver_needed}
 use Rattle.rv_sequence.proofs.NeedsGraph.{is_giver, is_flow_graph, is_graph}
 use Rattle.rv_sequence.proofs.flow_graph.flow_graph.Goals as goal

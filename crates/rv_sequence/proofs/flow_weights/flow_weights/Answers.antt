@@ -1,6 +1,5 @@
 use Rattle.std.proofs.Common.{◌<◌, List, ℕ, length, get_or, sym, ◌∙◌, ap, subst, arith}
-use Rattle.rv_instances.specs.Expanded.{program_of, main_of}
-use Rattle.rv_instances.specs.Layouts.{all_places}
+use Rattle.rv_instances.specs.{Expanded.program_of, Expanded.main_of, Layouts.all_places}
 use Rattle.rv_sequence.specs.WeightTables.{told_weight, counted_weight}
 use Rattle.rv_sequence.proofs.TableWeights.{given_within, weights_more, all_weights}
 use Rattle.rv_sequence.proofs.flow_weights.flow_weights.Goals as goal

@@ -2,9 +2,8 @@ use Rattle.std.proofs.Common.{◌<◌, ℕ, List, map, sym, ◌∙◌, ap, subst
 use Rattle.std.specs.List.{Contains}
 use Rattle.rv_tree.specs.Places.{Sites}
 use Rattle.rv_calls.specs.Graphs.{IsSortedOf, IsLoop, IsOrdered}
-use Rattle.rv_sequence.specs.Cycles.{IsCycleFromLeast}
+use Rattle.rv_sequence.specs.{Cycles.IsCycleFromLeast, FlowGraphs.AreTurned}
 use Rattle.rv_instances.specs.Flowing.{place_at, flow_places}
-use Rattle.rv_sequence.specs.FlowGraphs.{AreTurned}
 use Rattle.rv_sequence.proofs.Sequences.{ordered_sequence, turned_cycle, turned_within}
 use Rattle.rv_sequence.proofs.sequence.evaluation.Goals as goal
 

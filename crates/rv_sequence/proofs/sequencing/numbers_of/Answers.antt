@@ -1,12 +1,9 @@
 use Rattle.std.proofs.Common.{length, subst, sym, arith, List}
 use Rattle.std.specs.List.{Contains}
-use Rattle.rv_instances.specs.declared.flows.Flow.{Flow}
-use Rattle.rv_instances.specs.Expanded.{program_of, main_of}
-use Rattle.rv_instances.specs.Flowing.{flow_count, flow_places}
+use Rattle.rv_instances.specs.{declared.flows.Flow.Flow, Expanded.program_of, Expanded.main_of, Flowing.flow_count, Flowing.flow_places}
 use Rattle.rv_sequence.specs.FlowGraphs.{IsFlowGraph}
 use Rattle.rv_instances.proofs.FlowTable.{of_flows}
-use Rattle.rv_sequence.proofs.GiverNeeds.{places_few}
-use Rattle.rv_sequence.proofs.Numbered.{numbered}
+use Rattle.rv_sequence.proofs.{GiverNeeds.places_few, Numbered.numbered}
 use Rattle.rv_sequence.proofs.sequencing.numbers_of.Goals as goal
 
 pub evaluation-requires-clause-few : goal.evaluation-requires-clause-few

@@ -1,6 +1,5 @@
 use Rattle.std.proofs.Common.{map, ap, ◌∙◌}
-use Rattle.rv_instances.specs.Expanded.{program_of, main_of}
-use Rattle.rv_instances.specs.Flowing.{flow_places, place_at}
+use Rattle.rv_instances.specs.{Expanded.program_of, Expanded.main_of, Flowing.flow_places, Flowing.place_at}
 use Rattle.rv_sequence.proofs.Numbered.{numbers_within, sequenced}
 use Rattle.rv_sequence.proofs.sequencing.sequence_by_givers.Goals as goal
 

@@ -1,8 +1,6 @@
 use Rattle.std.proofs.Common.{ℕ, List, map, length, sym, ◌∙◌, ap}
 use Rattle.rv_types.specs.WideConstants.{lesser}
-use Rattle.rv_instances.specs.Expanded.{program_of, main_of}
-use Rattle.rv_instances.specs.Flowing.{place_at}
-use Rattle.rv_instances.specs.Layouts.{all_places}
+use Rattle.rv_instances.specs.{Expanded.program_of, Expanded.main_of, Flowing.place_at, Layouts.all_places}
 use Rattle.rv_sequence.specs.WideNodes.{wide_in_first}
 use Rattle.rv_sequence.proofs.WideLeast.{none_wide, first_wide_is}
 use Rattle.rv_sequence.proofs.weight_check.check_weights.Goals as goal

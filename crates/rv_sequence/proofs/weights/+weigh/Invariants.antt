@@ -1,8 +1,6 @@
 use Rattle.std.proofs.Common.{◌≡◌, ◌+◌, ◌*◌, max, map, drop}
-use Rattle.rv_tree.specs.declared.tree.Expr.{size-Expr}
-use Rattle.rv_tree.specs.Tree.{tree_of, trees}
-use Rattle.rv_types.specs.ConstantParts.{no_trues, trues_over}
-use Rattle.rv_types.specs.WideConstants.{lesser}
+use Rattle.rv_tree.specs.{declared.tree.Expr.size-Expr, Tree.tree_of, Tree.trees}
+use Rattle.rv_types.specs.{ConstantParts.no_trues, ConstantParts.trues_over, WideConstants.lesser}
 use Rattle.rv_sequence.specs.Weighing.{weighing, first_in_all}
 use Rattle.rv_sequence.proofs.weights.+weigh.Given as goal
 

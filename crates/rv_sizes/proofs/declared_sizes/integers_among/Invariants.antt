@@ -1,6 +1,5 @@
 use Rattle.std.proofs.Common.{◌≡◌, ◌≤◌, ◌+◌, cond, drop}
-use Rattle.rv_types.specs.declared.typed.Kind.{Kind}
-use Rattle.rv_types.specs.Variables.{total, is_integer}
+use Rattle.rv_types.specs.{declared.typed.Kind.Kind, Variables.total, Variables.is_integer}
 use Rattle.rv_sizes.proofs.declared_sizes.integers_among.Given as goal
 
 abbrev pub invariant-loop-kind : goal.invariant-loop-kind

@@ -1,10 +1,9 @@
 use Rattle.std.proofs.Common.{◌≡◌, length, sym, ◌∙◌, ap, subst, ℕ}
 use Rattle.rv_tree.specs.Tree.{NodeTree, program_tree}
 use Rattle.rv_instances.specs.Counts.{node_size, expanded}
-use Rattle.rv_sizes.specs.Totals.{AreCapped, total_at}
+use Rattle.rv_sizes.specs.{Totals.AreCapped, Totals.total_at, Capped.capped}
 use Rattle.rv_calls.specs.Callings.{callings_of}
 use Rattle.rv_types.specs.Instances.{name_at}
-use Rattle.rv_sizes.specs.Capped.{capped}
 use Rattle.rv_instances.proofs.Lists.{length_map, if_ok}
 use Rattle.rv_sizes.proofs.Measured.{sizes_capped, expanded_measured}
 use Rattle.rv_sizes.proofs.measure.expanded_total.Goals as goal

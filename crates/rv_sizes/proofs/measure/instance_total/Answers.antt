@@ -1,11 +1,9 @@
-use Rattle.std.proofs.Common.{◌≡◌, length, replicate, sym, ◌∙◌, ap, subst, ℕ}
-use Rattle.std.proofs.lemmas.List.{length-replicate}
+use Rattle.std.proofs.{Common.◌≡◌, Common.length, Common.replicate, Common.sym, Common.◌∙◌, Common.ap, Common.subst, Common.ℕ, lemmas.List.length-replicate}
 use Rattle.rv_tree.specs.Tree.{program_tree, node_tree}
-use Rattle.rv_sizes.specs.Totals.{AreCapped, total_at}
+use Rattle.rv_sizes.specs.{Totals.AreCapped, Totals.total_at, Capped.capped}
 use Rattle.rv_calls.specs.Callings.{callings_of}
 use Rattle.rv_types.specs.Instances.{name_at}
 use Rattle.rv_instances.specs.Counts.{instance_count}
-use Rattle.rv_sizes.specs.Capped.{capped}
 use Rattle.rv_instances.proofs.Lists.{length_map, if_ok}
 use Rattle.rv_sizes.proofs.Measured.{ones_capped, instances_measured}
 use Rattle.rv_sizes.proofs.measure.instance_total.Goals as goal

@@ -1,7 +1,6 @@
 use Rattle.std.proofs.Common.{◌≡◌, ◌<◌, length, refl, sym, ◌∙◌, ap, subst, arith}
 use Rattle.rv_tree.specs.Tree.{program_tree, node_tree}
-use Rattle.rv_types.specs.Kinds.{flow_kinds}
-use Rattle.rv_types.specs.Instances.{name_at, node_of}
+use Rattle.rv_types.specs.{Kinds.flow_kinds, Instances.name_at, Instances.node_of}
 use Rattle.rv_instances.specs.Counts.{integer_inputs}
 use Rattle.rv_instances.proofs.Lists.{length_map}
 use Rattle.rv_sizes.proofs.Main.{main_node, main_kinds, inputs_few}

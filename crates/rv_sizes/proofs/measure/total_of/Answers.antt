@@ -1,11 +1,9 @@
-use Rattle.std.proofs.Common.{◌≡◌, ◌<◌, length, sym, ◌∙◌, ap, subst}
+use Rattle.std.proofs.{Common.◌≡◌, Common.◌<◌, Common.length, Common.sym, Common.◌∙◌, Common.ap, Common.subst, lemmas.Option.get_or_from_slice_get}
 use Rattle.rv_tree.specs.Tree.{program_tree}
-use Rattle.rv_calls.specs.Graphs.{IsGraph, IsOrdered}
-use Rattle.rv_calls.specs.Callings.{call_graph}
+use Rattle.rv_calls.specs.{Graphs.IsGraph, Graphs.IsOrdered, Callings.call_graph}
 use Rattle.rv_calls.proofs.Recursions.{is_graph, table_size}
 use Rattle.rv_sizes.proofs.Measured.{total_read}
 use Rattle.rv_sizes.proofs.measure.total_of.Goals as goal
-use Rattle.std.proofs.lemmas.Option.{get_or_from_slice_get}
 
 pub totals-requires : goal.totals-requires
 totals-requires c =

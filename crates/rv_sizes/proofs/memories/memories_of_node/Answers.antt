@@ -1,10 +1,8 @@
 use Rattle.std.proofs.Common.{◌≡◌, [], List, map, ◌∙◌, ap}
 use Rattle.rv_tree.specs.declared.tree.Node as declared
 use Rattle.rv_tree.specs.Tree.{node_tree}
-use Rattle.rv_types.specs.declared.typed.Kind.{Kind}
-use Rattle.rv_types.specs.Names.{texts}
-use Rattle.rv_instances.specs.Timed.{delay_listed, delays_told}
-use Rattle.rv_instances.specs.declared.timed.ClockedDelay.{ClockedDelay}
+use Rattle.rv_types.specs.{declared.typed.Kind.Kind, Names.texts}
+use Rattle.rv_instances.specs.{Timed.delay_listed, Timed.delays_told, declared.timed.ClockedDelay.ClockedDelay}
 use Rattle.rv_sizes.specs.Memories.{sites_read, paired, kinds_beside, memory_kinds}
 use Rattle.rv_instances.proofs.Lists.{if_ok}
 use Rattle.rv_sizes.proofs.Remembered.{remembered}

@@ -1,7 +1,6 @@
 use Rattle.std.proofs.Common.{◌≡◌, ◌++◌, List, map, drop}
 use Rattle.rv_types.specs.declared.typed.Kind.{Kind}
-use Rattle.rv_sizes.specs.Capped.{capped}
-use Rattle.rv_sizes.specs.Memories.{integers}
+use Rattle.rv_sizes.specs.{Capped.capped, Memories.integers}
 use Rattle.rv_sizes.proofs.memory_sizes.integer_memories_of.Given as goal
 
 abbrev pub invariant-loop-of_node : goal.invariant-loop-of_node

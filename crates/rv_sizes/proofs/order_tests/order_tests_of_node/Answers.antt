@@ -1,10 +1,8 @@
 use Rattle.std.proofs.Common.{◌≡◌, List, map, ◌∙◌, ap}
 use Rattle.rv_tree.specs.declared.tree.Node as declared
 use Rattle.rv_tree.specs.Tree.{node_tree}
-use Rattle.rv_types.specs.Readings.{view_of}
-use Rattle.rv_types.specs.Tables.{scope_of}
-use Rattle.rv_instances.specs.Timed.{operator_listed, operators_told}
-use Rattle.rv_instances.specs.declared.timed.ClockedOperator.{ClockedOperator}
+use Rattle.rv_types.specs.{Readings.view_of, Tables.scope_of}
+use Rattle.rv_instances.specs.{Timed.operator_listed, Timed.operators_told, declared.timed.ClockedOperator.ClockedOperator}
 use Rattle.rv_sizes.proofs.Tested.{tested}
 use Rattle.rv_sizes.proofs.order_tests.order_tests_of_node.Goals as goal
 

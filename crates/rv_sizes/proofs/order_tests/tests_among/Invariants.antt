@@ -1,11 +1,8 @@
 use Rattle.std.proofs.Common.{◌≡◌, ◌+◌, ◌≤◌, map, drop}
-use Rattle.rv_types.specs.Readings.{view_of}
-use Rattle.rv_types.specs.Tables.{scope_of}
-use Rattle.rv_types.specs.Variables.{total}
+use Rattle.rv_types.specs.{Readings.view_of, Tables.scope_of, Variables.total}
 use Rattle.rv_instances.specs.Timed.{operator_listed}
-use Rattle.rv_sizes.specs.Tests.{tests_told}
+use Rattle.rv_sizes.specs.{Tests.tests_told, Capped.capped}
 use Rattle.rv_base.specs.Limits.{heaviest}
-use Rattle.rv_sizes.specs.Capped.{capped}
 use Rattle.rv_sizes.proofs.order_tests.tests_among.Given as goal
 
 abbrev pub invariant-loop-operator : goal.invariant-loop-operator

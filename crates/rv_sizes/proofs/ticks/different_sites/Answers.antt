@@ -1,8 +1,7 @@
 use Rattle.std.proofs.Common.{◌≡◌, ◌+◌, [], length, sym, ◌∙◌, ap, arith, cond, drop}
 use Rattle.rv_sizes.specs.Ticks.{sites_of_clocks}
-use Rattle.rv_sizes.proofs.TickWalks.{counted_more}
+use Rattle.rv_sizes.proofs.{TickWalks.counted_more, ticks.different_sites.Goals.then-branch, ticks.different_sites.Goals.else-branch}
 use Rattle.rv_sizes.proofs.ticks.different_sites.Goals as goal
-use Rattle.rv_sizes.proofs.ticks.different_sites.Goals.{then-branch, else-branch}
 
 pub loop-clock-preserved : goal.loop-clock-preserved
 loop-clock-preserved c =

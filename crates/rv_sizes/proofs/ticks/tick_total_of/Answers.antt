@@ -1,15 +1,10 @@
 use Rattle.std.proofs.Common.{◌≡◌, length, sym, ◌∙◌, ap, subst, ℕ}
 use Rattle.rv_tree.specs.Tree.{NodeTree, program_tree}
-use Rattle.rv_types.specs.Variables.{ticks}
-use Rattle.rv_sizes.specs.Ticks.{own_ticks}
-use Rattle.rv_sizes.specs.Totals.{AreCapped, total_at}
+use Rattle.rv_types.specs.{Variables.ticks, Instances.name_at}
+use Rattle.rv_sizes.specs.{Ticks.own_ticks, Totals.AreCapped, Totals.total_at, Capped.capped}
 use Rattle.rv_calls.specs.Callings.{callings_of}
-use Rattle.rv_types.specs.Instances.{name_at}
-use Rattle.rv_sizes.specs.Capped.{capped}
-use Rattle.rv_instances.proofs.Known.{name_declared}
-use Rattle.rv_instances.proofs.Lists.{length_map, if_ok}
-use Rattle.rv_sizes.proofs.Measured.{numbers_capped, sum_measured}
-use Rattle.rv_sizes.proofs.TickLevels.{ticks_summed}
+use Rattle.rv_instances.proofs.{Known.name_declared, Lists.length_map, Lists.if_ok}
+use Rattle.rv_sizes.proofs.{Measured.numbers_capped, Measured.sum_measured, TickLevels.ticks_summed}
 use Rattle.rv_sizes.proofs.ticks.tick_total_of.Goals as goal
 
 pub total_of-requires : goal.total_of-requires

@@ -1,10 +1,8 @@
 use Rattle.std.proofs.Common.{◌≡◌, ◌++◌, List, map, flat_map, ◌∙◌, ap}
 use Rattle.rv_tree.specs.declared.tree.Node as declared
 use Rattle.rv_tree.specs.Tree.{node_tree}
-use Rattle.rv_instances.specs.Expanded.{told, calls_told}
-use Rattle.rv_instances.specs.Timed.{operator_listed, operators_told}
-use Rattle.rv_instances.specs.declared.timed.ClockedCall.{ClockedCall}
-use Rattle.rv_instances.specs.declared.timed.ClockedOperator.{ClockedOperator}
+use Rattle.rv_instances.specs.{Expanded.told, Expanded.calls_told, Timed.operator_listed, Timed.operators_told, declared.timed.ClockedCall.ClockedCall}
+use Rattle.rv_instances.specs.{declared.timed.ClockedOperator.ClockedOperator}
 use Rattle.rv_sizes.specs.TickWalk.{handed_told, ticks_on_base}
 use Rattle.rv_sizes.proofs.TickWalks.{ticks_found}
 use Rattle.rv_sizes.proofs.ticks.ticking_in.Goals as goal

@@ -1,8 +1,7 @@
 use Rattle.std.proofs.Common.{◌≡◌, length, refl, ap, arith}
 use Rattle.rv_tree.specs.Tree.{node_tree, program_tree}
 use Rattle.rv_instances.proofs.Known.{flows_once}
-use Rattle.rv_sizes.proofs.EachNode.{flows_few}
-use Rattle.rv_sizes.proofs.TickSteps.{ticked_end, read_among, read_step}
+use Rattle.rv_sizes.proofs.{EachNode.flows_few, TickSteps.ticked_end, TickSteps.read_among, TickSteps.read_step}
 use Rattle.rv_sizes.proofs.ticks.ticks_of.Goals as goal
 
 pub add_node-requires-clause-different : goal.add_node-requires-clause-different

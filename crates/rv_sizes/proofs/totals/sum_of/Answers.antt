@@ -1,9 +1,8 @@
 use Rattle.std.proofs.Common.{◌≤◌, get_or, sym, subst, arith}
-use Rattle.std.proofs.lemmas.List.Elements.{Contains-get_or}
+use Rattle.std.proofs.{lemmas.List.Elements.Contains-get_or, lemmas.Option.get_or_from_slice_get}
 use Rattle.rv_base.specs.Limits.{heaviest}
 use Rattle.rv_sizes.proofs.Summing.{called_more}
 use Rattle.rv_sizes.proofs.totals.sum_of.Goals as goal
-use Rattle.std.proofs.lemmas.Option.{get_or_from_slice_get}
 
 pub at-requires : goal.at-requires
 at-requires c =

@@ -1,18 +1,10 @@
 use Rattle.std.proofs.Common.{◌≡◌, ◌<◌, ◌≤◌, List, length, take, refl, sym, ◌∙◌, ap, subst, arith}
-use Rattle.rv_tree.specs.declared.tree.TypeDecl.{TypeDecl}
-use Rattle.rv_tree.specs.Tree.{NodeTree, program_tree, node_tree}
-use Rattle.rv_types.specs.declared.typed.Kind.{Kind}
-use Rattle.rv_types.specs.Kinds.{decl_kinds, flow_kinds}
+use Rattle.rv_tree.specs.{declared.tree.TypeDecl.TypeDecl, Tree.NodeTree, Tree.program_tree, Tree.node_tree, Bounded.most}
+use Rattle.rv_types.specs.{declared.typed.Kind.Kind, Kinds.decl_kinds, Kinds.flow_kinds, Variables.input_bits, Values.labels_at}
 use Rattle.rv_instances.specs.Bits.{bits_of_all}
 use Rattle.rv_sizes.specs.Capped.{capped}
-use Rattle.rv_types.specs.Variables.{input_bits}
-use Rattle.rv_types.specs.Values.{labels_at}
-use Rattle.rv_tree.specs.Bounded.{most}
-use Rattle.rv_instances.proofs.LabelCodes.{few_labels}
-use Rattle.rv_instances.proofs.Lists.{length_map}
-use Rattle.rv_sizes.proofs.Main.{main_node, main_kinds, inputs_few}
-use Rattle.rv_sizes.proofs.Inputs.{input_kinds}
-use Rattle.rv_sizes.proofs.Varied.{bits_each, take_length}
+use Rattle.rv_instances.proofs.{LabelCodes.few_labels, Lists.length_map}
+use Rattle.rv_sizes.proofs.{Main.main_node, Main.main_kinds, Main.inputs_few, Inputs.input_kinds, Varied.bits_each, Varied.take_length}
 use Rattle.rv_sizes.proofs.variables.main_input_bits.Goals as goal
 
 pub at-requires : goal.at-requires

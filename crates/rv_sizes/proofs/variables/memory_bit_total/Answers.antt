@@ -1,19 +1,11 @@
 use Rattle.std.proofs.Common.{◌≡◌, ◌≤◌, List, length, map, sym, ◌∙◌, ap, subst, ℕ}
-use Rattle.rv_tree.specs.declared.tree.TypeDecl.{TypeDecl}
-use Rattle.rv_tree.specs.Tree.{NodeTree, program_tree}
-use Rattle.rv_types.specs.declared.typed.Kind.{Kind}
+use Rattle.rv_tree.specs.{declared.tree.TypeDecl.TypeDecl, Tree.NodeTree, Tree.program_tree, Bounded.most}
+use Rattle.rv_types.specs.{declared.typed.Kind.Kind, Variables.memory_bits, Variables.over_instances, Values.labels_at, Instances.name_at}
 use Rattle.rv_instances.specs.Bits.{bits_of_all}
-use Rattle.rv_types.specs.Variables.{memory_bits, over_instances}
-use Rattle.rv_types.specs.Values.{labels_at}
-use Rattle.rv_tree.specs.Bounded.{most}
-use Rattle.rv_instances.proofs.LabelCodes.{few_labels}
-use Rattle.rv_sizes.specs.Totals.{AreCapped, total_at}
+use Rattle.rv_instances.proofs.{LabelCodes.few_labels, Lists.length_map, Lists.if_ok}
+use Rattle.rv_sizes.specs.{Totals.AreCapped, Totals.total_at, Capped.capped}
 use Rattle.rv_calls.specs.Callings.{callings_of}
-use Rattle.rv_types.specs.Instances.{name_at}
-use Rattle.rv_sizes.specs.Capped.{capped}
-use Rattle.rv_instances.proofs.Lists.{length_map, if_ok}
-use Rattle.rv_sizes.proofs.Measured.{numbers_capped, sum_measured}
-use Rattle.rv_sizes.proofs.Varied.{bits_measured}
+use Rattle.rv_sizes.proofs.{Measured.numbers_capped, Measured.sum_measured, Varied.bits_measured}
 use Rattle.rv_sizes.proofs.variables.memory_bit_total.Goals as goal
 
 pub memory_bits_of-requires : goal.memory_bits_of-requires

@@ -1,10 +1,8 @@
 use Rattle.std.proofs.Common.{◌≡◌, length, sym, ◌∙◌, ap, subst, ℕ}
 use Rattle.rv_tree.specs.Tree.{NodeTree, program_tree}
-use Rattle.rv_types.specs.Variables.{order_tests, over_instances}
-use Rattle.rv_sizes.specs.Totals.{AreCapped, total_at}
+use Rattle.rv_types.specs.{Variables.order_tests, Variables.over_instances, Instances.name_at}
+use Rattle.rv_sizes.specs.{Totals.AreCapped, Totals.total_at, Capped.capped}
 use Rattle.rv_calls.specs.Callings.{callings_of}
-use Rattle.rv_types.specs.Instances.{name_at}
-use Rattle.rv_sizes.specs.Capped.{capped}
 use Rattle.rv_instances.proofs.Lists.{length_map, if_ok}
 use Rattle.rv_sizes.proofs.Measured.{numbers_capped, sum_measured}
 use Rattle.rv_sizes.proofs.variables.order_test_total.Goals as goal

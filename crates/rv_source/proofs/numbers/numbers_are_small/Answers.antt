@@ -1,13 +1,9 @@
-use Rattle.std.proofs.lemmas.List.Elements.{All-append, All-contains}
+use Rattle.std.proofs.{lemmas.List.Elements.All-append, lemmas.List.Elements.All-contains, Common.◌≤◌}
 use Rattle.std.specs.List.{flat_map}
-use Rattle.rv_base.specs.declared.value.Value.TheVariants.{Whole}
-use Rattle.std.proofs.Common.{◌≤◌}
-use Rattle.rv_base.specs.Limits.{too_heavy}
+use Rattle.rv_base.specs.{declared.value.Value.TheVariants.Whole, Limits.too_heavy}
 use Rattle.rv_tree.specs.Tree.{Node, Number}
-use Rattle.rv_types.specs.Scopes.{constant_values}
-use Rattle.rv_types.specs.Variables.{parts, node_parts}
-use Rattle.rv_source.proofs.SmallParts.{IsSmallPart, parts_small, joined_small}
-use Rattle.rv_source.proofs.SmallConstants.{size, constants_small}
+use Rattle.rv_types.specs.{Scopes.constant_values, Variables.parts, Variables.node_parts}
+use Rattle.rv_source.proofs.{SmallParts.IsSmallPart, SmallParts.parts_small, SmallParts.joined_small, SmallConstants.size, SmallConstants.constants_small}
 use Rattle.rv_source.proofs.numbers.numbers_are_small.Goals as goal
 
 pub returns : goal.returns

@@ -1,7 +1,5 @@
-use Rattle.std.proofs.Common.{◌≡◌, List, [], subst, slice_index_or}
-use Rattle.std.proofs.lemmas.Bool.{both_ways}
-use Rattle.rv_rows.specs.declared.linear.Row.{Row}
-use Rattle.rv_rows.specs.Multipliers.{ShowsAtOnce}
+use Rattle.std.proofs.{Common.◌≡◌, Common.List, Common.[], Common.subst, Common.slice_index_or, lemmas.Bool.both_ways}
+use Rattle.rv_rows.specs.{declared.linear.Row.Row, Multipliers.ShowsAtOnce}
 use Rattle.rv_state.proofs.JoinLemmas.{shown-by-none, same-width}
 use Rattle.rv_state.proofs.polys.joined.Goals as goal
 

@@ -1,19 +1,11 @@
 use Rattle.std.proofs.Common.{◌≡◌, ◌+◌, not, [], get_or, map, sym, ◌∙◌, ap, subst, length, arith, Some}
 use Rattle.std.specs.Option.{option_copied}
 use Rattle.rv_meaning.specs.Meaning.{is_true}
-use Rattle.rv_flat.specs.Earliest.{IsPicked}
-use Rattle.rv_flat.specs.Filling.{is_broken}
 use Rattle.rv_flat.specs.FlatInstants.{assertion_trees, found_at, value_at}
-use Rattle.rv_flat.specs.FlatOf.{no_assertion}
-use Rattle.rv_flat.specs.Inlined.{tree_among}
-use Rattle.rv_flat.specs.Steps.{IsLeastOf}
-use Rattle.rv_flat.specs.Tame.{IsOver, IsTame}
-use Rattle.rv_flat.proofs.Earliest.{picked_yes, picked_no}
-use Rattle.rv_flat.proofs.Inlining.{is_table}
-use Rattle.rv_step.proofs.Reading.{read_at}
-use Rattle.rv_flat.proofs.Taming.{assertion_over, assertion_tame}
+use Rattle.rv_flat.specs.{Earliest.IsPicked, Filling.is_broken, FlatOf.no_assertion, Inlined.tree_among, Steps.IsLeastOf, Tame.IsOver, Tame.IsTame}
+use Rattle.rv_flat.proofs.{Earliest.picked_yes, Earliest.picked_no, Inlining.is_table, Taming.assertion_over, Taming.assertion_tame}
+use Rattle.rv_step.proofs.{Reading.read_at, filling.broken_place.Goals.then-is_false, filling.broken_place.Goals.else-is_false}
 use Rattle.rv_step.proofs.filling.broken_place.Goals as goal
-use Rattle.rv_step.proofs.filling.broken_place.Goals.{then-is_false, else-is_false}
 
 pub is_false-requires-clause-table : goal.is_false-requires-clause-table
 is_false-requires-clause-table c = is_table c.args.flat.now.memories c.args.flat.now.ends

@@ -1,9 +1,6 @@
 use Rattle.std.proofs.Common.{map}
 use Rattle.std.specs.Option.{option_copied}
-use Rattle.rv_flat.specs.Earliest.{IsPicked}
-use Rattle.rv_flat.specs.Filling.{AreShown, is_broken}
-use Rattle.rv_flat.specs.FlatInstants.{found_at}
-use Rattle.rv_flat.specs.Steps.{IsLeastOf}
+use Rattle.rv_flat.specs.{Earliest.IsPicked, Filling.AreShown, Filling.is_broken, FlatInstants.found_at, Steps.IsLeastOf}
 use Rattle.rv_step.proofs.filling.broken_place.Given as goal
 
 abbrev pub invariant-loop-assertion : goal.invariant-loop-assertion

@@ -1,13 +1,10 @@
 use Rattle.std.proofs.Common.{◌≡◌, ◌+◌, false, cond, get_or, sym, ◌∙◌, subst, arith, length}
 use Rattle.rv_base.specs.declared.value.Value.TheVariants.{Flag}
 use Rattle.rv_agreement.specs.Trees.{Item}
-use Rattle.rv_flat.specs.Filling.{IsKept}
 use Rattle.rv_flat.specs.FlatInstants.{is_on_at, found_at, memory_items, nth_item, value_at}
-use Rattle.rv_flat.specs.Inlined.{table_of}
-use Rattle.rv_flat.specs.Tame.{IsOver, IsTame}
-use Rattle.rv_flat.proofs.Inlining.{is_table, item_at}
+use Rattle.rv_flat.specs.{Filling.IsKept, Inlined.table_of, Tame.IsOver, Tame.IsTame}
+use Rattle.rv_flat.proofs.{Inlining.is_table, Inlining.item_at, Taming.memory_over, Taming.memory_tame}
 use Rattle.rv_step.proofs.Keeping.{one_kept}
-use Rattle.rv_flat.proofs.Taming.{memory_over, memory_tame}
 use Rattle.rv_step.proofs.filling.kept_after.Goals as goal
 
 pub current_of-requires-clause-table : goal.current_of-requires-clause-table

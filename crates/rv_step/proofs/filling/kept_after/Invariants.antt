@@ -1,5 +1,4 @@
-use Rattle.rv_flat.specs.Filling.{AreShown, IsKept}
-use Rattle.rv_flat.specs.FlatInstants.{found_at}
+use Rattle.rv_flat.specs.{Filling.AreShown, Filling.IsKept, FlatInstants.found_at}
 use Rattle.rv_step.proofs.filling.kept_after.Given as goal
 
 abbrev pub invariant-loop-number : goal.invariant-loop-number

@@ -1,14 +1,9 @@
 use Rattle.std.proofs.Common.{◌≡◌, ◌+◌, ap, sym, ◌∙◌, subst, arith, length}
 use Rattle.rv_agreement.specs.Trees.{Item, no_item}
-use Rattle.rv_flat.specs.Filling.{AreShown, IsFilled}
 use Rattle.rv_flat.specs.FlatInstants.{flow_items, found_at, nth_item}
-use Rattle.rv_flat.specs.Systems.{flow_item}
-use Rattle.rv_flat.specs.Tame.{IsOver, IsTame}
-use Rattle.rv_flat.proofs.Inlining.{is_table}
-use Rattle.rv_flat.proofs.OneRow.{item_value, one_filled}
-use Rattle.rv_step.proofs.Reading.{read_at}
-use Rattle.rv_step.proofs.Shown.{shown_more}
-use Rattle.rv_flat.proofs.Taming.{flow_over, flow_tame}
+use Rattle.rv_flat.specs.{Filling.AreShown, Filling.IsFilled, Systems.flow_item, Tame.IsOver, Tame.IsTame}
+use Rattle.rv_flat.proofs.{Inlining.is_table, OneRow.item_value, OneRow.one_filled, Taming.flow_over, Taming.flow_tame}
+use Rattle.rv_step.proofs.{Reading.read_at, Shown.shown_more}
 use Rattle.rv_step.proofs.filling.row_of.Goals as goal
 
 pub flow_value-value-requires-clause-table : goal.flow_value-value-requires-clause-table

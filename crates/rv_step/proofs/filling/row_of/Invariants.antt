@@ -1,5 +1,4 @@
-use Rattle.rv_flat.specs.Filling.{AreShown, IsFilled}
-use Rattle.rv_flat.specs.FlatInstants.{found_at}
+use Rattle.rv_flat.specs.{Filling.AreShown, Filling.IsFilled, FlatInstants.found_at}
 use Rattle.rv_step.proofs.filling.row_of.Given as goal
 
 abbrev pub invariant-loop-flow : goal.invariant-loop-flow

@@ -1,6 +1,5 @@
 use Rattle.std.proofs.Common.{◌≡◌, ℕ, List, [], ◌∷◌, ◌++◌, length, take, ◌-◌, sym, ◌∙◌, ap}
-use Rattle.std.specs.Ordering.{nat_cmp, is_lt}
-use Rattle.std.specs.Cmp.Lexicographic.{slice_cmp}
+use Rattle.std.specs.{Ordering.nat_cmp, Ordering.is_lt, Cmp.Lexicographic.slice_cmp}
 use Rattle.rv_step.proofs.SameFronts.{by_last}
 use Rattle.rv_step.proofs.least.is_before.Goals as goal
 

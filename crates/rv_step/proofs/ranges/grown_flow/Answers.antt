@@ -1,9 +1,8 @@
 use Rattle.std.proofs.Common.{◌≡◌, ◌+◌, [], get_or, map, sym, ◌∙◌, ap, subst, length, arith, Some}
-use Rattle.std.specs.Option.{option_copied}
 use Rattle.std.proofs.lemmas.List.{get_or-map}
-use Rattle.rv_flat.specs.Earliest.{IsPicked}
+use Rattle.std.specs.Option.{option_copied}
+use Rattle.rv_flat.specs.{Earliest.IsPicked, Steps.IsLeastOf}
 use Rattle.rv_step.specs.Ranges.{is_grown_flow}
-use Rattle.rv_flat.specs.Steps.{IsLeastOf}
 use Rattle.rv_flat.proofs.Earliest.{picked_yes, picked_no}
 use Rattle.rv_step.proofs.ranges.grown_flow.Goals as goal
 use Rattle.rv_step.proofs.ranges.grown_flow.Goals.{then-is_grown_flow, else-is_grown_flow}

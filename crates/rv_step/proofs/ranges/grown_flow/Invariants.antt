@@ -1,8 +1,7 @@
 use Rattle.std.proofs.Common.{map}
 use Rattle.std.specs.Option.{option_copied}
-use Rattle.rv_flat.specs.Earliest.{IsPicked}
+use Rattle.rv_flat.specs.{Earliest.IsPicked, Steps.IsLeastOf}
 use Rattle.rv_step.specs.Ranges.{is_grown_flow}
-use Rattle.rv_flat.specs.Steps.{IsLeastOf}
 use Rattle.rv_step.proofs.ranges.grown_flow.Given as goal
 
 abbrev pub invariant-loop-number : goal.invariant-loop-number

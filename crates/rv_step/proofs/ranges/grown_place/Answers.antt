@@ -1,9 +1,7 @@
 use Rattle.std.proofs.Common.{None, length, map, sym, subst}
 use Rattle.std.specs.Option.{option_copied}
-use Rattle.rv_flat.specs.Earliest.{IsPicked}
-use Rattle.rv_flat.specs.FlatInstants.{places, memory_places}
+use Rattle.rv_flat.specs.{Earliest.IsPicked, FlatInstants.places, FlatInstants.memory_places, Steps.IsLeast, Steps.IsLeastOf}
 use Rattle.rv_step.specs.Ranges.{is_grown_flow, is_grown_memory, IsGrownAt}
-use Rattle.rv_flat.specs.Steps.{IsLeast, IsLeastOf}
 use Rattle.rv_flat.proofs.Earliest.{least_joined, least_alone}
 use Rattle.rv_step.proofs.ranges.grown_place.Goals as goal
 

@@ -1,7 +1,6 @@
 use Rattle.std.proofs.Common.{sym, subst, Some, None}
 use Rattle.std.specs.Option.{option_copied}
-use Rattle.rv_flat.specs.FlatOf.{IsFlatBroken}
-use Rattle.rv_flat.specs.Steps.{IsLeast, IsLeastOf, IsGrown}
+use Rattle.rv_flat.specs.{FlatOf.IsFlatBroken, Steps.IsLeast, Steps.IsLeastOf, Steps.IsGrown}
 use Rattle.rv_step.proofs.OneStep.{broken_places, grown_places, next, next_state}
 use Rattle.rv_step.proofs.stepping.step.Goals as goal
 

@@ -1,8 +1,7 @@
 use Rattle.std.proofs.Common.{◌≡◌, ◌||◌, Bool, false, length, get_or, sym, ◌∙◌, ap, Some}
 use Rattle.rv_flat.specs.FlatInstants.{is_on_at}
-use Rattle.rv_step.proofs.TickSteps.{one_tick}
+use Rattle.rv_step.proofs.{TickSteps.one_tick, ticking.push_ticks.Goals.then-had_ticked, ticking.push_ticks.Goals.else-had_ticked}
 use Rattle.rv_step.proofs.ticking.push_ticks.Goals as goal
-use Rattle.rv_step.proofs.ticking.push_ticks.Goals.{then-had_ticked, else-had_ticked}
 
 pub loop-flow-preserved : goal.loop-flow-preserved
 loop-flow-preserved c =

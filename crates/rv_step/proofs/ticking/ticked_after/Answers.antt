@@ -1,10 +1,7 @@
 use Rattle.std.proofs.Common.{◌≡◌, ◌∷◌, ◌++◌, [], true, false, length, map, get_or, Some, sym, ◌∙◌, ap}
 use Rattle.std.proofs.lemmas.Simd.{map-map}
 use Rattle.rv_tree.specs.Places.{index_of}
-use Rattle.rv_flat.specs.Facts.{numbers_among}
-use Rattle.rv_flat.specs.Filling.{ticks_from}
-use Rattle.rv_flat.specs.FlatInstants.{places}
-use Rattle.rv_flat.specs.Lists.{tick_places}
+use Rattle.rv_flat.specs.{Facts.numbers_among, Filling.ticks_from, FlatInstants.places, Lists.tick_places}
 use Rattle.rv_meaning.proofs.NameLemmas.{same_text}
 use Rattle.rv_base.proofs.Truths.{or_true}
 use Rattle.rv_step.proofs.ticking.ticked_after.Goals as goal

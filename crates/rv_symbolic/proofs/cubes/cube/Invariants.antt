@@ -1,6 +1,5 @@
 use Rattle.std.proofs.Common.{◌-◌}
-use Rattle.rv_symbolic.specs.Growing.{Finds}
-use Rattle.rv_symbolic.specs.Words.{AreCopiesBetween}
+use Rattle.rv_symbolic.specs.{Growing.Finds, Words.AreCopiesBetween}
 use Rattle.rv_symbolic.proofs.cubes.cube.Given as goal
 
 abbrev pub invariant-loop-back : goal.invariant-loop-back

@@ -1,8 +1,7 @@
 use Rattle.std.proofs.Common.{◌≡◌, Bool, true, subst, sym}
 use Rattle.rv_diagram.specs.Nodes.{Answers, value_of, choice}
 use Rattle.rv_symbolic.specs.Growing.{Finds}
-use Rattle.rv_symbolic.proofs.Extending.{map_ok}
-use Rattle.rv_symbolic.proofs.Wording.{literal_on, literal_off}
+use Rattle.rv_symbolic.proofs.{Extending.map_ok, Wording.literal_on, Wording.literal_off}
 use Rattle.rv_symbolic.proofs.cubes.literal.Goals as goal
 
 pub returns-then-value-clause-ok : goal.returns-then-value-clause-ok

@@ -1,6 +1,5 @@
 use Rattle.std.proofs.Common.{◌-◌}
-use Rattle.rv_symbolic.specs.Growing.{Finds}
-use Rattle.rv_symbolic.specs.Linked.{AreLinkedBetween}
+use Rattle.rv_symbolic.specs.{Growing.Finds, Linked.AreLinkedBetween}
 use Rattle.rv_symbolic.proofs.links.link_some.Given as goal
 
 abbrev pub invariant-loop-back : goal.invariant-loop-back

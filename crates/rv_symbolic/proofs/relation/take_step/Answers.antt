@@ -1,9 +1,7 @@
 use Rattle.std.proofs.Common.{◌∙◌, ℕ, subst, refl}
 use Rattle.rv_diagram.specs.Nodes.{value_of, IsOrderedOver}
-use Rattle.rv_symbolic.specs.Linked.{quantified}
-use Rattle.rv_symbolic.specs.Stepped.{IsAStep}
-use Rattle.rv_symbolic.proofs.Extending.{image_forgets}
-use Rattle.rv_symbolic.proofs.Projecting.{projected_from, step_found, judged}
+use Rattle.rv_symbolic.specs.{Linked.quantified, Stepped.IsAStep}
+use Rattle.rv_symbolic.proofs.{Extending.image_forgets, Projecting.projected_from, Projecting.step_found, Projecting.judged}
 use Rattle.rv_symbolic.proofs.relation.take_step.Goals as goal
 
 pub returns-clause-copies : goal.returns-clause-copies

@@ -1,7 +1,5 @@
 use Rattle.std.proofs.Common.{ℕ, ◌≡◌, ◌↔◌, ◌+◌, ◌-◌, ◌&&◌, not, false, length, List, Bool, refl, subst, sym, ap, ◌∙◌, arith}
-use Rattle.rv_diagram.specs.Nodes.{value_of, valuation_of}
-use Rattle.rv_diagram.specs.declared.store.several.Part.{Part}
-use Rattle.rv_diagram.specs.Several.{ref_at, Ignores}
+use Rattle.rv_diagram.specs.{Nodes.value_of, Nodes.valuation_of, declared.store.several.Part.Part, Several.ref_at, Several.Ignores}
 use Rattle.rv_symbolic.proofs.Scheduling.{AreLast, last_more}
 use Rattle.rv_symbolic.proofs.schedule.schedule.Goals as goal
 

@@ -1,7 +1,5 @@
-use Rattle.rv_symbolic.specs.Growing.{Extends}
-use Rattle.rv_symbolic.specs.Words.{LeadsAt}
-use Rattle.rv_symbolic.proofs.Extending.{extends_trans, grows_extends}
-use Rattle.rv_symbolic.proofs.Wording.{picked_first, leading_found}
+use Rattle.rv_symbolic.specs.{Growing.Extends, Words.LeadsAt}
+use Rattle.rv_symbolic.proofs.{Extending.extends_trans, Extending.grows_extends, Wording.picked_first, Wording.leading_found}
 use Rattle.rv_symbolic.proofs.words.first_leading.Goals as goal
 
 pub returns-in_err-leading-clause-extends : goal.returns-in_err-leading-clause-extends

@@ -1,8 +1,5 @@
-use Rattle.std.proofs.Common.{◌≡◌, ◌<◌, ◌&&◌, ◌∙◌, [], length, subst, arith}
-use Rattle.std.proofs.lemmas.List.{get_or_default}
-use Rattle.rv_diagram.specs.declared.store.several.Part.{Part}
-use Rattle.rv_diagram.specs.Nodes.{Answers, value_of}
-use Rattle.rv_diagram.specs.Several.{part_at}
+use Rattle.std.proofs.{Common.◌≡◌, Common.◌<◌, Common.◌&&◌, Common.◌∙◌, Common.[], Common.length, Common.subst, Common.arith, lemmas.List.get_or_default}
+use Rattle.rv_diagram.specs.{declared.store.several.Part.Part, Nodes.Answers, Nodes.value_of, Several.part_at}
 use Rattle.rv_symbolic.proofs.Wording.{met_more}
 use Rattle.rv_symbolic.proofs.words.met.Goals as goal
 

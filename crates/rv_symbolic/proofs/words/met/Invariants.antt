@@ -1,5 +1,4 @@
-use Rattle.rv_symbolic.specs.Growing.{Finds}
-use Rattle.rv_symbolic.specs.Words.{AreMetWith}
+use Rattle.rv_symbolic.specs.{Growing.Finds, Words.AreMetWith}
 use Rattle.rv_symbolic.proofs.words.met.Given as goal
 
 abbrev pub invariant-loop-part : goal.invariant-loop-part

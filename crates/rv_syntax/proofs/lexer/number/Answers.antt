@@ -1,10 +1,6 @@
 use Rattle.std.proofs.Common.{◌≡◌, ℕ, ◌+◌, ◌-◌, ◌*◌, ◌<◌, List, get_or, length, take, arith}
-use Rattle.std.specs.Prelude.{min, true, nat_le}
-use Rattle.std.specs.Char.{digit_value, is_ascii_digit}
-use Rattle.std.specs.Str.Parse.{digits_value}
-use Rattle.std.proofs.lemmas.Bool.{and_parts, leb-true}
-use Rattle.std.proofs.lemmas.Int.Digits.{digits_value_more}
-use Rattle.std.proofs.lemmas.Str.{digit_value_digit}
+use Rattle.std.proofs.{lemmas.Bool.and_parts, lemmas.Bool.leb-true, lemmas.Int.Digits.digits_value_more, lemmas.Str.digit_value_digit}
+use Rattle.std.specs.{Prelude.min, Prelude.true, Prelude.nat_le, Char.digit_value, Char.is_ascii_digit, Str.Parse.digits_value}
 use Rattle.rv_base.specs.Limits.{too_heavy}
 use Rattle.rv_syntax.specs.Lexing.{AreDigits, kept}
 use Rattle.rv_syntax.proofs.lexer.number.Goals as goal

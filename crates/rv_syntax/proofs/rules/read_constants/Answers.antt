@@ -1,7 +1,5 @@
-use Rattle.std.proofs.Common.{List, map, subst, ap, ◌∙◌}
-use Rattle.std.proofs.lemmas.List.{map_push}
-use Rattle.rv_tree.specs.declared.tree.ConstDecl.{ConstDecl}
-use Rattle.rv_tree.specs.Tree.{constant_tree}
+use Rattle.std.proofs.{Common.List, Common.map, Common.subst, Common.ap, Common.◌∙◌, lemmas.List.map_push}
+use Rattle.rv_tree.specs.{declared.tree.ConstDecl.ConstDecl, Tree.constant_tree}
 use Rattle.rv_syntax.specs.Reads.{Reads}
 use Rattle.rv_syntax.proofs.Loop.{from-constants}
 use Rattle.rv_syntax.proofs.rules.read_constants.Goals as goal

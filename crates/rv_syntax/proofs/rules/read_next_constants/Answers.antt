@@ -1,9 +1,7 @@
 use Rattle.std.specs.Prelude.{Ok}
 use Rattle.std.proofs.Common.{◌≡◌, ◌++◌, ◌∷◌, [], List, map, sym, ap, ◌∙◌, append_assoc}
-use Rattle.std.proofs.lemmas.List.{append-nil, map_push}
-use Rattle.rv_tree.specs.declared.tree.ConstDecl.{ConstDecl}
-use Rattle.rv_tree.specs.Tree.{constant_tree}
-use Rattle.std.proofs.lemmas.Result.{err_from_is_err_and}
+use Rattle.std.proofs.{lemmas.List.append-nil, lemmas.List.map_push, lemmas.Result.err_from_is_err_and}
+use Rattle.rv_tree.specs.{declared.tree.ConstDecl.ConstDecl, Tree.constant_tree}
 use Rattle.rv_syntax.specs.Reading.{with_front, next_constants}
 use Rattle.rv_syntax.proofs.Loop.{constants-loop, goes-on, ends, stops-with}
 use Rattle.rv_syntax.proofs.rules.read_next_constants.Goals as goal

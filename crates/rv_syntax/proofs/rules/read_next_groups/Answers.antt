@@ -1,10 +1,8 @@
-use Rattle.std.proofs.Common.{List, sym, ap, ◌∙◌}
+use Rattle.std.proofs.{Common.List, Common.sym, Common.ap, Common.◌∙◌, lemmas.Result.err_from_is_err_and}
 use Rattle.std.specs.Prelude.{Option, Ok}
-use Rattle.std.proofs.lemmas.Result.{err_from_is_err_and}
 use Rattle.rv_syntax.specs.declared.rules.Group as written
 use Rattle.rv_tree.specs.declared.tree.Decl.{Decl}
-use Rattle.rv_syntax.specs.Reads.{same}
-use Rattle.rv_syntax.specs.Reading.{group_of, some_group, mapped, next_groups}
+use Rattle.rv_syntax.specs.{Reads.same, Reading.group_of, Reading.some_group, Reading.mapped, Reading.next_groups}
 use Rattle.rv_syntax.proofs.Loop.{behind, groups-go-on, groups-last, groups-end, groups-stop, groups-loop}
 use Rattle.rv_syntax.proofs.rules.read_next_groups.Goals as goal
 

@@ -1,12 +1,8 @@
 use Rattle.std.proofs.Common.{◌++◌, List, sym, ap, ◌∙◌, append_assoc}
+use Rattle.std.proofs.{lemmas.List.append-nil, lemmas.Result.err_from_is_err_and}
 use Rattle.std.specs.Prelude.{Ok}
-use Rattle.std.proofs.lemmas.List.{append-nil}
-use Rattle.std.proofs.lemmas.Result.{err_from_is_err_and}
-use Rattle.rv_syntax.specs.declared.rules.Local.{Local}
+use Rattle.rv_syntax.specs.{declared.rules.Local.Local, ProgramText.joined, Reads.same, Reading.flows, Reading.mapped, Reading.next_locals}
 use Rattle.rv_tree.specs.declared.tree.Decl.{Decl}
-use Rattle.rv_syntax.specs.ProgramText.{joined}
-use Rattle.rv_syntax.specs.Reads.{same}
-use Rattle.rv_syntax.specs.Reading.{flows, mapped, next_locals}
 use Rattle.rv_syntax.proofs.Loop.{locals-loop, goes-on, ends, stops-with}
 use Rattle.rv_syntax.proofs.rules.read_next_locals.Goals as goal
 

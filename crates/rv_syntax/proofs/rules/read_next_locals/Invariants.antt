@@ -1,6 +1,5 @@
 use Rattle.std.proofs.Common.{◌≡◌, ◌++◌, length}
-use Rattle.rv_syntax.specs.ProgramText.{joined}
-use Rattle.rv_syntax.specs.Reading.{mapped, next_locals}
+use Rattle.rv_syntax.specs.{ProgramText.joined, Reading.mapped, Reading.next_locals}
 use Rattle.rv_syntax.proofs.rules.read_next_locals.Given as goal
 
 abbrev pub invariant-more : goal.invariant-more

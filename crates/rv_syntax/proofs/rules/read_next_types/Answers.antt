@@ -1,10 +1,8 @@
 use Rattle.std.specs.Prelude.{Ok}
 use Rattle.std.proofs.Common.{◌++◌, ◌∷◌, [], List, sym, ap, ◌∙◌, append_assoc}
-use Rattle.std.proofs.lemmas.List.{append-nil}
+use Rattle.std.proofs.{lemmas.List.append-nil, lemmas.Result.err_from_is_err_and}
 use Rattle.rv_tree.specs.declared.tree.TypeDecl.{TypeDecl}
-use Rattle.rv_syntax.specs.Reads.{same}
-use Rattle.std.proofs.lemmas.Result.{err_from_is_err_and}
-use Rattle.rv_syntax.specs.Reading.{with_front, next_types}
+use Rattle.rv_syntax.specs.{Reads.same, Reading.with_front, Reading.next_types}
 use Rattle.rv_syntax.proofs.Loop.{types-loop, goes-on, ends, stops-with}
 use Rattle.rv_syntax.proofs.rules.read_next_types.Goals as goal
 

@@ -1,13 +1,7 @@
-use Rattle.std.proofs.Common.{List}
-use Rattle.std.proofs.lemmas.Result.{err_from_is_err_and}
-use Rattle.rv_tree.specs.declared.tree.Decl.{Decl}
-use Rattle.rv_tree.specs.declared.tree.Node.{Node}
-use Rattle.rv_syntax.specs.declared.rules.Body.{Body}
-use Rattle.rv_syntax.specs.declared.rules.Signature.{Signature}
-use Rattle.rv_syntax.specs.ProgramText.{joined}
-use Rattle.rv_syntax.specs.Reads.{same}
-use Rattle.rv_tree.specs.Tree.{node_tree}
+use Rattle.std.proofs.{Common.List, lemmas.Result.err_from_is_err_and}
+use Rattle.rv_tree.specs.{declared.tree.Decl.Decl, declared.tree.Node.Node, Tree.node_tree}
 use Rattle.rv_syntax.specs.Reading.{body, mapped, node, signature, statements, statements_of, vars}
+use Rattle.rv_syntax.specs.{declared.rules.Body.Body, declared.rules.Signature.Signature, ProgramText.joined, Reads.same}
 use Rattle.rv_syntax.proofs.Loop.{node-stops-at-signature, node-stops-at-vars, node-stops-at-body, whole-node, stop-through}
 use Rattle.rv_syntax.proofs.rules.read_node.Goals as goal
 

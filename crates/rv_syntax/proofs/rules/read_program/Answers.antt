@@ -1,8 +1,7 @@
-use Rattle.std.proofs.Common.{ap}
-use Rattle.std.proofs.lemmas.Result.{err_from_is_err_and}
+use Rattle.std.proofs.{Common.ap, lemmas.Result.err_from_is_err_and}
 use Rattle.rv_syntax.specs.ProgramText.{program_of}
-use Rattle.rv_tree.specs.Tree.{program_tree}
 use Rattle.rv_syntax.specs.Reading.{mapped, section, sections, with_section, with_sections, program}
+use Rattle.rv_tree.specs.Tree.{program_tree}
 use Rattle.rv_syntax.proofs.Loop.{sections-loop, all-sections, no-sections, goes-on, ends, made-of, section-stops, some-token, no-token}
 use Rattle.rv_syntax.proofs.rules.read_program.Goals as goal
 

@@ -1,7 +1,6 @@
 use Rattle.std.proofs.Common.{◌≡◌, length}
-use Rattle.rv_syntax.specs.ProgramText.{program_of}
+use Rattle.rv_syntax.specs.{ProgramText.program_of, Reading.mapped, Reading.sections, Reading.with_sections}
 use Rattle.rv_tree.specs.Tree.{program_tree}
-use Rattle.rv_syntax.specs.Reading.{mapped, sections, with_sections}
 use Rattle.rv_syntax.proofs.rules.read_program.Given as goal
 
 abbrev pub invariant-more : goal.invariant-more

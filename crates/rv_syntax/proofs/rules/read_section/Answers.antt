@@ -1,14 +1,11 @@
-use Rattle.std.proofs.Common.{◌++◌, ◌∷◌, [], map, sym, ap, ◌∙◌}
+use Rattle.std.proofs.{Common.◌++◌, Common.◌∷◌, Common.[], Common.map, Common.sym, Common.ap, Common.◌∙◌, Common.List, lemmas.List.map_push}
 use Rattle.std.specs.Prelude.{Ok}
-use Rattle.std.proofs.lemmas.List.{map_push}
-use Rattle.rv_tree.specs.Tree.{NodeTree, ConstantTree, node_tree, program_tree}
-use Rattle.rv_tree.specs.declared.tree.TypeDecl.{TypeDecl}
-use Rattle.std.proofs.Common.{List}
+use Rattle.rv_tree.specs.{Tree.NodeTree, Tree.ConstantTree, Tree.node_tree, Tree.program_tree, declared.tree.TypeDecl.TypeDecl}
 use Rattle.rv_syntax.specs.Reading.{mapped}
 use Rattle.rv_syntax.proofs.Loop.{made-program, section-types, section-constants, section-node}
-use Rattle.rv_syntax.proofs.rules.read_section.Goals as goal
 use Rattle.rv_syntax.proofs.rules.read_section.Goals.{then-sees+in_ok-found, else-sees+then-sees-2+in_ok-found-2}
 use Rattle.rv_syntax.proofs.rules.read_section.Goals.{else-sees+else-sees-2+in_ok-read_node+in_ok-push}
+use Rattle.rv_syntax.proofs.rules.read_section.Goals as goal
 
 pub returns : goal.returns
 returns c =

@@ -1,8 +1,6 @@
-use Rattle.std.proofs.Common.{sym, ap, ◌∙◌}
-use Rattle.std.proofs.lemmas.Result.{err_from_is_err_and}
-use Rattle.rv_syntax.specs.declared.rules.Statement.{Statement}
-use Rattle.rv_syntax.specs.declared.rules.Body.{Body}
+use Rattle.std.proofs.{Common.sym, Common.ap, Common.◌∙◌, lemmas.Result.err_from_is_err_and}
 use Rattle.rv_syntax.specs.Reading.{item_of, items, mapped, statements, statements_of, with_items}
+use Rattle.rv_syntax.specs.{declared.rules.Statement.Statement, declared.rules.Body.Body}
 use Rattle.rv_syntax.proofs.Loop.{items-loop, all-items, no-statements, goes-on, ends, stops-with}
 use Rattle.rv_syntax.proofs.rules.read_statements.Goals as goal
 

@@ -1,9 +1,6 @@
-use Rattle.std.proofs.Common.{◌++◌, sym, ap, ◌∙◌, append_assoc}
+use Rattle.std.proofs.{Common.◌++◌, Common.sym, Common.ap, Common.◌∙◌, Common.append_assoc, lemmas.List.append-nil, lemmas.Result.err_from_is_err_and}
 use Rattle.std.specs.Prelude.{Ok}
-use Rattle.std.proofs.lemmas.List.{append-nil}
-use Rattle.std.proofs.lemmas.Result.{err_from_is_err_and}
-use Rattle.rv_syntax.specs.ProgramText.{joined}
-use Rattle.rv_syntax.specs.Reading.{mapped, var, vars}
+use Rattle.rv_syntax.specs.{ProgramText.joined, Reading.mapped, Reading.var, Reading.vars}
 use Rattle.rv_syntax.proofs.Loop.{vars-loop, goes-on, ends, made-of, front-stops}
 use Rattle.rv_syntax.proofs.rules.read_vars.Goals as goal
 

@@ -1,6 +1,5 @@
 use Rattle.std.proofs.Common.{◌++◌, map, refl, arith}
-use Rattle.rv_tree.specs.Tree.{tree_of, trees}
-use Rattle.rv_tree.specs.Sites.{offsets, trees_offsets}
+use Rattle.rv_tree.specs.{Tree.tree_of, Tree.trees, Sites.offsets, Sites.trees_offsets}
 use Rattle.rv_syntax.proofs.Joined.{collected-more, collected-all}
 use Rattle.rv_syntax.proofs.sites.+collect.Goals as goal
 

@@ -1,6 +1,5 @@
 use Rattle.std.proofs.Common.{◌≡◌, ◌++◌, map, drop}
-use Rattle.rv_tree.specs.Tree.{tree_of, trees}
-use Rattle.rv_tree.specs.Sites.{trees_offsets}
+use Rattle.rv_tree.specs.{Tree.tree_of, Tree.trees, Sites.trees_offsets}
 use Rattle.rv_syntax.proofs.sites.+collect.Given as goal
 
 abbrev pub invariant-collect_all-each : goal.invariant-collect_all-each

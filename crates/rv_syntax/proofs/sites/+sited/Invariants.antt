@@ -1,6 +1,5 @@
 use Rattle.std.proofs.Common.{◌≡◌, drop, map}
-use Rattle.rv_tree.specs.Tree.{tree_of, trees}
-use Rattle.rv_tree.specs.Sites.{numbered_from, sited_trees}
+use Rattle.rv_tree.specs.{Tree.tree_of, Tree.trees, Sites.numbered_from, Sites.sited_trees}
 use Rattle.rv_syntax.proofs.Joined.{joined}
 use Rattle.rv_syntax.proofs.sites.+sited.Given as goal
 

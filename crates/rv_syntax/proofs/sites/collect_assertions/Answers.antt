@@ -1,6 +1,5 @@
 use Rattle.std.proofs.Common.{◌++◌, [], ◌∷◌, map, ap, ◌∙◌, refl, append_assoc, arith}
-use Rattle.rv_tree.specs.Tree.{tree_of, assertion_tree}
-use Rattle.rv_tree.specs.Sites.{offsets, assertion_offsets}
+use Rattle.rv_tree.specs.{Tree.tree_of, Tree.assertion_tree, Sites.offsets, Sites.assertion_offsets}
 use Rattle.rv_syntax.proofs.Joined.{collected-more, collected-all}
 use Rattle.rv_syntax.proofs.sites.collect_assertions.Goals as goal
 

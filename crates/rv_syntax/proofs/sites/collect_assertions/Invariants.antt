@@ -1,6 +1,5 @@
 use Rattle.std.proofs.Common.{◌≡◌, ◌++◌, map, drop}
-use Rattle.rv_tree.specs.Tree.{assertion_tree}
-use Rattle.rv_tree.specs.Sites.{assertion_offsets}
+use Rattle.rv_tree.specs.{Tree.assertion_tree, Sites.assertion_offsets}
 use Rattle.rv_syntax.proofs.sites.collect_assertions.Given as goal
 
 abbrev pub invariant-each : goal.invariant-each

@@ -1,6 +1,5 @@
 use Rattle.std.proofs.Common.{◌++◌, map, refl, arith}
-use Rattle.rv_tree.specs.Tree.{tree_of, equation_tree}
-use Rattle.rv_tree.specs.Sites.{offsets, equation_offsets}
+use Rattle.rv_tree.specs.{Tree.tree_of, Tree.equation_tree, Sites.offsets, Sites.equation_offsets}
 use Rattle.rv_syntax.proofs.Joined.{collected-more, collected-all}
 use Rattle.rv_syntax.proofs.sites.collect_equations.Goals as goal
 

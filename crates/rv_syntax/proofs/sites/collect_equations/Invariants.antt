@@ -1,6 +1,5 @@
 use Rattle.std.proofs.Common.{◌≡◌, ◌++◌, map, drop}
-use Rattle.rv_tree.specs.Tree.{equation_tree}
-use Rattle.rv_tree.specs.Sites.{equation_offsets}
+use Rattle.rv_tree.specs.{Tree.equation_tree, Sites.equation_offsets}
 use Rattle.rv_syntax.proofs.sites.collect_equations.Given as goal
 
 abbrev pub invariant-each : goal.invariant-each

@@ -1,7 +1,6 @@
 use Rattle.std.proofs.Common.{◌≡◌, ◌++◌, map}
 use Rattle.std.specs.Vec.Iter.{into_iter_items}
-use Rattle.rv_tree.specs.Tree.{assertion_tree}
-use Rattle.rv_tree.specs.Sites.{numbered_from, sited_assertion}
+use Rattle.rv_tree.specs.{Tree.assertion_tree, Sites.numbered_from, Sites.sited_assertion}
 use Rattle.rv_syntax.proofs.sites.sited_assertions.Given as goal
 
 abbrev pub invariant-each : goal.invariant-each

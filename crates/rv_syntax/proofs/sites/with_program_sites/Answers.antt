@@ -1,10 +1,7 @@
-use Rattle.std.proofs.Common.{◌≤◌, map, subst, arith}
-use Rattle.std.specs.List.{All}
-use Rattle.std.proofs.lemmas.List.Elements.{All-tail}
-use Rattle.std.specs.Vec.Iter.{into_iter_items}
+use Rattle.std.proofs.{Common.◌≤◌, Common.map, Common.subst, Common.arith, lemmas.List.Elements.All-tail}
+use Rattle.std.specs.{List.All, Vec.Iter.into_iter_items}
 use Rattle.rv_base.specs.Limits.{source_limit}
-use Rattle.rv_tree.specs.Tree.{NodeTree, node_tree}
-use Rattle.rv_tree.specs.Sites.{with_sites, site_count}
+use Rattle.rv_tree.specs.{Tree.NodeTree, Tree.node_tree, Sites.with_sites, Sites.site_count}
 use Rattle.rv_syntax.proofs.Joined.{turned-more}
 use Rattle.rv_syntax.proofs.sites.with_program_sites.Goals as goal
 

@@ -1,9 +1,7 @@
 use Rattle.std.proofs.Common.{◌≡◌, ◌≤◌, ◌++◌, map}
-use Rattle.std.specs.List.{All}
-use Rattle.std.specs.Vec.Iter.{into_iter_items}
+use Rattle.std.specs.{List.All, Vec.Iter.into_iter_items}
 use Rattle.rv_base.specs.Limits.{source_limit}
-use Rattle.rv_tree.specs.Tree.{node_tree}
-use Rattle.rv_tree.specs.Sites.{with_sites, site_count}
+use Rattle.rv_tree.specs.{Tree.node_tree, Sites.with_sites, Sites.site_count}
 use Rattle.rv_syntax.proofs.sites.with_program_sites.Given as goal
 
 abbrev pub invariant-each : goal.invariant-each

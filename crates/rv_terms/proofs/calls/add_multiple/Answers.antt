@@ -1,17 +1,11 @@
 use Rattle.std.proofs.Common.{◌≡◌, ◌<◌, ◌⊎◌, ◌∙◌, ap, sym, subst, length, List, [], ◌∷◌, ◌++◌, ℤ, false}
-use Rattle.std.proofs.lemmas.Bool.{false≢true}
-use Rattle.std.proofs.lemmas.Int.{to_z-of_z}
+use Rattle.std.proofs.{lemmas.Bool.false≢true, lemmas.Int.to_z-of_z}
 use mir.Val.{to_z, of_z}
 use mir.Syntax.{w128}
-use Rattle.rv_rows.specs.declared.linear.Form.{Form}
-use Rattle.rv_rows.specs.Forms.{CanScale}
-use Rattle.rv_rows.specs.Arithmetic.{form_times}
+use Rattle.rv_rows.specs.{declared.linear.Form.Form, Forms.CanScale, Arithmetic.form_times}
 use Rattle.rv_diagram.specs.Nodes.{Valuation, value_of}
-use Rattle.rv_terms.specs.declared.parted.Part.{Part}
-use Rattle.rv_terms.specs.Parts.{part_at, Adds}
-use Rattle.rv_terms.proofs.Adding.{adds_fresh}
-use Rattle.rv_terms.proofs.Multiples.{push_forms}
-use Rattle.rv_terms.proofs.Sums.{multiple_is, can_scale_from}
+use Rattle.rv_terms.specs.{declared.parted.Part.Part, Parts.part_at, Parts.Adds}
+use Rattle.rv_terms.proofs.{Adding.adds_fresh, Multiples.push_forms, Sums.multiple_is, Sums.can_scale_from}
 use Rattle.rv_terms.proofs.calls.add_multiple.Goals as goal
 
 pub scale-requires : goal.scale-requires

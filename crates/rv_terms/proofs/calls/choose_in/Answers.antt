@@ -1,11 +1,7 @@
 use Rattle.std.proofs.Common.{◌∙◌, sym, subst, List, []}
-use Rattle.rv_terms.specs.declared.parted.Part.{Part}
-use Rattle.rv_terms.specs.Parts.{chosen_form, IsFilledBy}
-use Rattle.rv_terms.specs.Parts.{term_width}
+use Rattle.rv_terms.specs.{declared.parted.Part.Part, Parts.chosen_form, Parts.IsFilledBy, Parts.term_width}
 use Rattle.rv_terms.proofs.Combining.{term_later}
-use Rattle.rv_terms.proofs.Classes.{classes_as}
-use Rattle.rv_terms.proofs.Classes.{filled_trans, growth_whole, chosen_later}
-use Rattle.rv_terms.proofs.Classes.{chosen_had, classes_term}
+use Rattle.rv_terms.proofs.Classes.{classes_as, filled_trans, growth_whole, chosen_later, chosen_had, classes_term}
 use Rattle.rv_terms.proofs.calls.choose_in.Goals as goal
 
 pub add_forms-requires-2-clause-yes : goal.add_forms-requires-2-clause-yes

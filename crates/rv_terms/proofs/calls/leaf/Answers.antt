@@ -1,7 +1,6 @@
 use Rattle.std.proofs.Common.{◌≡◌, ◌∙◌, sym, ap, subst, length, List, [], ◌∷◌, ◌++◌}
 use Rattle.rv_rows.specs.declared.linear.Form.{Form}
-use Rattle.rv_terms.specs.declared.parted.Part.{Part}
-use Rattle.rv_terms.specs.Parts.{IsTermOf}
+use Rattle.rv_terms.specs.{declared.parted.Part.Part, Parts.IsTermOf}
 use Rattle.rv_terms.proofs.Finding.{leaf_made}
 use Rattle.rv_terms.proofs.calls.leaf.Goals as goal
 

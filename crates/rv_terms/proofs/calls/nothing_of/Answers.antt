@@ -1,9 +1,7 @@
 use Rattle.std.proofs.Common.{◌≡◌, ◌∙◌, ap, List, [], ◌∷◌, ◌++◌, pos, sym, get_or}
 use Rattle.std.proofs.lemmas.List.{get_or_read}
-use Rattle.rv_rows.specs.declared.linear.Form.{Form}
-use Rattle.rv_rows.specs.Arithmetic.{form_times}
-use Rattle.rv_terms.specs.declared.parted.Part.{Part}
-use Rattle.rv_terms.specs.Parts.{no_form, part_at}
+use Rattle.rv_rows.specs.{declared.linear.Form.Form, Arithmetic.form_times}
+use Rattle.rv_terms.specs.{declared.parted.Part.Part, Parts.no_form, Parts.part_at}
 use Rattle.rv_terms.proofs.Sums.{multiple_is}
 use Rattle.rv_terms.proofs.calls.nothing_of.Goals as goal
 

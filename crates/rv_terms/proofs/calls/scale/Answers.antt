@@ -3,8 +3,7 @@ use Rattle.std.proofs.lemmas.Int.{to_z-of_z}
 use mir.Val.{to_z}
 use mir.Syntax.{w128}
 use Rattle.rv_rows.specs.Arithmetic.{form_times}
-use Rattle.rv_terms.specs.declared.parted.Part.{Part}
-use Rattle.rv_terms.specs.Parts.{part_at, form_at, term_width, IsTermOf}
+use Rattle.rv_terms.specs.{declared.parted.Part.Part, Parts.part_at, Parts.form_at, Parts.term_width, Parts.IsTermOf}
 use Rattle.rv_terms.proofs.Multiples.{some_part, nothing_made}
 use Rattle.rv_terms.proofs.calls.scale.Goals as goal
 

@@ -1,7 +1,5 @@
-use Rattle.std.proofs.Common.{◌≡◌, sym, subst, length, List, Some}
-use Rattle.std.proofs.Common.{None as Nothing}
+use Rattle.std.proofs.{Common.◌≡◌, Common.sym, Common.subst, Common.length, Common.List, Common.Some, Common.None as Nothing, lemmas.Result.IfOk-weaker}
 use Rattle.std.specs.Prelude.{MatchOption}
-use Rattle.std.proofs.lemmas.Result.{IfOk-weaker}
 use Rattle.rv_terms.specs.declared.parted.Part.{Part}
 use Rattle.rv_terms.specs.Parts.{part_at, Covers, IsMet, IsAlone, HasNoSingle, IsSingle, term_width}
 use Rattle.rv_terms.proofs.Finding.{answer_made}

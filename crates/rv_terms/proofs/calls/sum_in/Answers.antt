@@ -1,18 +1,11 @@
-use Rattle.std.proofs.Common.{◌≡◌, ◌+◌, ◌<◌, ◌∙◌, ◌&&◌, ap, sym, subst, length, ℕ, arith, true, List, []}
+use Rattle.std.proofs.Common.{◌≡◌, ◌+◌, ◌<◌, ◌∙◌, ◌&&◌, ap, sym, subst, length, ℕ, arith, true, List, [], ◌*◌}
 use Rattle.std.proofs.lemmas.List.{get_or_read}
-use Rattle.rv_rows.specs.declared.linear.Form.{Form}
-use Rattle.rv_rows.specs.Forms.{CanAdd}
-use Rattle.rv_diagram.specs.Nodes.{Valuation, value_of, IsRef}
-use Rattle.rv_terms.specs.declared.parted.Part.{Part}
-use Rattle.rv_rows.specs.Arithmetic.{form_sum}
-use Rattle.rv_terms.specs.Parts.{no_form, part_at, holds, form_at, among, Adds, term_width}
-use Rattle.rv_terms.proofs.Growths.{extends_refl, extends_trans}
+use Rattle.rv_rows.specs.{declared.linear.Form.Form, Forms.CanAdd, Arithmetic.form_sum}
+use Rattle.rv_diagram.specs.{Nodes.Valuation, Nodes.value_of, Nodes.IsRef, declared.store.StoreFault.StoreFault}
+use Rattle.rv_terms.specs.{declared.parted.Part.Part, Parts.no_form, Parts.part_at, Parts.holds, Parts.form_at, Parts.among, Parts.Adds, Parts.term_width}
 use Rattle.rv_terms.proofs.Combining.{adds_more, adds_first, adds_all, form_is, form_later, disjoint_later, covers_later, term_made, form_width}
-use Rattle.rv_terms.proofs.Sums.{length-sum}
-use Rattle.std.proofs.Common.{◌*◌}
-use Rattle.rv_diagram.specs.declared.store.StoreFault.{StoreFault}
-use Rattle.rv_terms.proofs.Classes.{err_moved}
 use Rattle.rv_terms.proofs.Summing.{grown_none, grown_step, lacks_step, grown_whole, lacks_whole, step_apart, step_more, step_within}
+use Rattle.rv_terms.proofs.{Growths.extends_refl, Growths.extends_trans, Sums.length-sum, Classes.err_moved}
 use Rattle.rv_terms.proofs.calls.sum_in.Goals as goal
 
 none : (k : ℕ) → 0 ≡ 0 * k

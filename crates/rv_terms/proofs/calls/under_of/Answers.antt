@@ -1,10 +1,7 @@
-use Rattle.std.proofs.Common.{◌≡◌, ◌↔◌, ◌∙◌, get_or, subst, sym, true}
+use Rattle.std.proofs.{Common.◌≡◌, Common.◌↔◌, Common.◌∙◌, Common.get_or, Common.subst, Common.sym, Common.true, lemmas.List.get_or_read}
 use Rattle.rv_diagram.specs.Nodes.{value_of}
-use Rattle.rv_terms.specs.Parts.{part_at, form_at}
+use Rattle.rv_terms.specs.{Parts.part_at, Parts.form_at, Parts.no_form, declared.parted.Part.Part}
 use Rattle.rv_rows.specs.declared.linear.Form.{Form}
-use Rattle.std.proofs.lemmas.List.{get_or_read}
-use Rattle.rv_terms.specs.declared.parted.Part.{Part}
-use Rattle.rv_terms.specs.Parts.{no_form}
 use Rattle.rv_terms.proofs.Classes.{part_iff, none_iff}
 use Rattle.rv_terms.proofs.calls.under_of.Goals as goal
 

@@ -1,5 +1,4 @@
-use Rattle.std.proofs.Common.{refl}
-use Rattle.std.proofs.lemmas.Result.{on_ok_weaker}
+use Rattle.std.proofs.{Common.refl, lemmas.Result.on_ok_weaker}
 use Rattle.rv_diagram.specs.Nodes.{value_of}
 use Rattle.rv_terms.proofs.Counting.{joined_fewest, joined_needs}
 use Rattle.rv_terms.proofs.parted.either.Goals as goal

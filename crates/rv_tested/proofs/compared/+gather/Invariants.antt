@@ -1,8 +1,6 @@
 use Rattle.std.proofs.Common.{◌≡◌, ◌++◌, map, drop}
 use Rattle.rv_agreement.specs.Valuations.{comparisons_of}
-use Rattle.rv_flat.specs.FlatInstants.{system_of}
-use Rattle.rv_flat.specs.Inlined.{all_inlined, table_of}
-use Rattle.rv_flat.specs.RawTree.{raw_tree, raw_trees}
+use Rattle.rv_flat.specs.{FlatInstants.system_of, Inlined.all_inlined, Inlined.table_of, RawTree.raw_tree, RawTree.raw_trees}
 use Rattle.rv_tested.specs.Compared.{comparison_in}
 use Rattle.rv_tested.proofs.compared.+gather.Given as goal
 

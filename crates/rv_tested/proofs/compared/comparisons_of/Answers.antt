@@ -1,7 +1,6 @@
 use Rattle.std.proofs.Common.{List, map, ap}
 use Rattle.rv_agreement.specs.Valuations.{Comparison}
-use Rattle.rv_tested.specs.declared.compared.Compared.{Compared}
-use Rattle.rv_tested.specs.Compared.{comparison_in}
+use Rattle.rv_tested.specs.{declared.compared.Compared.Compared, Compared.comparison_in}
 use Rattle.rv_tested.proofs.Gathered.{gathered}
 use Rattle.rv_tested.proofs.compared.comparisons_of.Goals as goal
 

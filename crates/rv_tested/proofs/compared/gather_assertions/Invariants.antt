@@ -1,7 +1,6 @@
 use Rattle.std.proofs.Common.{◌≡◌, ◌++◌, map, flat_map, drop}
 use Rattle.rv_agreement.specs.Valuations.{item_comparisons}
-use Rattle.rv_flat.specs.FlatInstants.{system_of}
-use Rattle.rv_flat.specs.Systems.{assertion_item}
+use Rattle.rv_flat.specs.{FlatInstants.system_of, Systems.assertion_item}
 use Rattle.rv_tested.specs.Compared.{comparison_in}
 use Rattle.rv_tested.proofs.compared.gather_assertions.Given as goal
 

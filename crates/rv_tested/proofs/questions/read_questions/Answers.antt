@@ -4,8 +4,7 @@ use Rattle.rv_cases.specs.declared.asking.Questions.{Questions}
 use Rattle.rv_symbolic.specs.Growing.{Extends}
 use Rattle.rv_symbolic.proofs.Extending.{extends_trans}
 use Rattle.rv_tested.specs.Exact.{AreAsked}
-use Rattle.rv_tested.proofs.Asking.{are_distinct, are_questions}
-use Rattle.rv_tested.proofs.Assembling.{all_asked}
+use Rattle.rv_tested.proofs.{Asking.are_distinct, Asking.are_questions, Assembling.all_asked}
 use Rattle.rv_tested.proofs.questions.read_questions.Goals as goal
 
 pub ask_observer-requires : goal.ask_observer-requires

@@ -1,7 +1,5 @@
-use Rattle.std.proofs.Common.{◌≡◌, ◌∙◌, false, cond, sym, subst, arith}
-use Rattle.std.proofs.lemmas.Option.{get_or_from_slice_get}
-use Rattle.rv_diagram.specs.Nodes.{IsRef, value_of}
-use Rattle.rv_diagram.specs.Several.{ref_at}
+use Rattle.std.proofs.{Common.◌≡◌, Common.◌∙◌, Common.false, Common.cond, Common.sym, Common.subst, Common.arith, lemmas.Option.get_or_from_slice_get}
+use Rattle.rv_diagram.specs.{Nodes.IsRef, Nodes.value_of, Several.ref_at}
 use Rattle.rv_diagram.proofs.Calls.{value_of-false}
 use Rattle.rv_rows.specs.Arithmetic.{test_row}
 use Rattle.rv_control.specs.Tightening.{tightened}
@@ -9,8 +7,7 @@ use Rattle.rv_symbolic.specs.Growing.{Extends}
 use Rattle.rv_symbolic.proofs.Extending.{extends_trans, grows_extends}
 use Rattle.rv_terms.specs.Parts.{form_at}
 use Rattle.rv_terms.proofs.Combining.{covers_later, disjoint_later, form_later}
-use Rattle.rv_tested.proofs.Putting.{laid_later, put_as}
-use Rattle.rv_tested.proofs.Comparing.{compared_put}
+use Rattle.rv_tested.proofs.{Putting.laid_later, Putting.put_as, Comparing.compared_put}
 use Rattle.rv_forms.proofs.Kept.{to_terms}
 use Rattle.rv_tested.proofs.rows.add_comparison.Goals as goal
 

@@ -1,5 +1,4 @@
-use Rattle.std.proofs.Common.{subst}
-use Rattle.std.proofs.lemmas.Result.{on_ok_weaker}
+use Rattle.std.proofs.{Common.subst, lemmas.Result.on_ok_weaker}
 use Rattle.rv_rows.specs.declared.linear.Row.{Row}
 use Rattle.rv_diagram.specs.Nodes.{value_of}
 use Rattle.rv_tested.specs.Rows.{IsPut}

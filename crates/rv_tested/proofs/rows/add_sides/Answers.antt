@@ -1,5 +1,4 @@
-use Rattle.std.proofs.Common.{◌≡◌, ◌∙◌, ◌&&◌, false, cond}
-use Rattle.std.proofs.lemmas.Result.{on_ok_weaker}
+use Rattle.std.proofs.{Common.◌≡◌, Common.◌∙◌, Common.◌&&◌, Common.false, Common.cond, lemmas.Result.on_ok_weaker}
 use Rattle.rv_diagram.specs.Nodes.{Valuation, value_of}
 use Rattle.rv_diagram.proofs.Calls.{value_of-false}
 use Rattle.rv_symbolic.specs.Growing.{Extends}

@@ -1,6 +1,5 @@
 use Rattle.std.proofs.Common.{◌≡◌, ap, negsuc}
-use Rattle.rv_rows.specs.declared.linear.Form.{Form}
-use Rattle.rv_rows.specs.Arithmetic.{form_times}
+use Rattle.rv_rows.specs.{declared.linear.Form.Form, Arithmetic.form_times}
 use Rattle.rv_terms.proofs.Sums.{multiple_is}
 use Rattle.rv_tested.proofs.rows.negated.Goals as goal
 

@@ -1,5 +1,4 @@
-use Rattle.std.proofs.lemmas.Slice.Eq.{slice_eq-Decides}
-use Rattle.std.proofs.lemmas.Bool.Decides.{Decides-int_eq}
+use Rattle.std.proofs.{lemmas.Slice.Eq.slice_eq-Decides, lemmas.Bool.Decides.Decides-int_eq}
 use Rattle.rv_tested.proofs.rows.same_numbers.Goals as goal
 
 pub returns : goal.returns

@@ -1,8 +1,6 @@
-use Rattle.std.proofs.Common.{◌∙◌, ◌++◌, ◌∷◌, [], sym}
-use Rattle.std.proofs.lemmas.Bool.{false≢true}
+use Rattle.std.proofs.{Common.◌∙◌, Common.◌++◌, Common.◌∷◌, Common.[], Common.sym, lemmas.Bool.false≢true}
 use Rattle.rv_flat.specs.Lists.{side_of}
-use Rattle.rv_tested.specs.Compared.{comparison_in}
-use Rattle.rv_tested.specs.Testing.{row_in}
+use Rattle.rv_tested.specs.{Compared.comparison_in, Testing.row_in}
 use Rattle.rv_tested.proofs.Rowing.{answered_as, skip_place}
 use Rattle.rv_tested.proofs.testing.add_at.Goals as goal
 

@@ -1,21 +1,15 @@
-use Rattle.std.proofs.Common.{◌++◌, ◌∷◌, ◌<◌, ◌^◌, ℕ, List, [], cond, length, sym, subst, arith, Some}
-use Rattle.std.proofs.Common.{None as Nothing}
+use Rattle.std.proofs.Common.{◌++◌, ◌∷◌, ◌<◌, ◌^◌, ℕ, List, [], cond, length, sym, subst, arith, Some, None as Nothing}
 use Rattle.std.proofs.lemmas.Result.{on_ok_weaker}
-use Rattle.rv_rows.specs.Arithmetic.{test_row}
-use Rattle.rv_rows.specs.Forms.{FormWithin}
+use Rattle.rv_rows.specs.{Arithmetic.test_row, Forms.FormWithin}
 use Rattle.rv_diagram.specs.Nodes.{value_of}
 use Rattle.rv_flat.specs.Lists.{side_of}
 use Rattle.rv_control.specs.Tightening.{tightened}
 use Rattle.rv_symbolic.specs.Growing.{Extends}
 use Rattle.rv_symbolic.proofs.Extending.{extends_trans}
-use Rattle.rv_terms.specs.declared.parted.Part.{Part}
-use Rattle.rv_terms.specs.Parts.{form_at, part_at, AreRefs, AreDisjoint, Covers}
+use Rattle.rv_terms.specs.{declared.parted.Part.Part, Parts.form_at, Parts.part_at, Parts.AreRefs, Parts.AreDisjoint, Parts.Covers}
 use Rattle.rv_forms.specs.Terms.{columns_of}
-use Rattle.rv_tested.specs.Compared.{comparison_in}
-use Rattle.rv_tested.specs.Rows.{first_of}
-use Rattle.rv_tested.specs.Testing.{IsTestTerm, row_in}
-use Rattle.rv_tested.proofs.Putting.{laid_later, answered_later}
-use Rattle.rv_tested.proofs.Rowing.{answered_as, row_more}
+use Rattle.rv_tested.specs.{Compared.comparison_in, Rows.first_of, Testing.IsTestTerm, Testing.row_in}
+use Rattle.rv_tested.proofs.{Putting.laid_later, Putting.answered_later, Rowing.answered_as, Rowing.row_more}
 use Rattle.rv_tested.proofs.testing.add_own.Goals as goal
 
 pub returns-clause-extends : goal.returns-clause-extends

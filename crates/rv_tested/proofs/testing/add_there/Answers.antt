@@ -1,7 +1,6 @@
 use Rattle.std.proofs.Common.{◌∙◌, ◌++◌, ◌∷◌, [], sym}
 use Rattle.rv_flat.specs.Lists.{side_of}
-use Rattle.rv_tested.specs.Compared.{comparison_in}
-use Rattle.rv_tested.specs.Testing.{row_in}
+use Rattle.rv_tested.specs.{Compared.comparison_in, Testing.row_in}
 use Rattle.rv_tested.proofs.Rowing.{answered_as, skip_side}
 use Rattle.rv_tested.proofs.testing.add_there.Goals as goal
 

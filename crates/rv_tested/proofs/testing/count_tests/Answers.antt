@@ -1,8 +1,6 @@
 use Rattle.std.proofs.Common.{◌≡◌, ◌∙◌, ◌+◌, ◌∷◌, [], List, suc, drop, map, ap, sym, arith}
-use Rattle.std.proofs.Math.ListN.{drop_of_length-le}
-use Rattle.std.proofs.Math.Seq.{drop-cons}
-use Rattle.rv_flat.specs.declared.parts.Bit.{Bit}
-use Rattle.rv_flat.specs.Lists.{variable_of}
+use Rattle.std.proofs.{Math.ListN.drop_of_length-le, Math.Seq.drop-cons}
+use Rattle.rv_flat.specs.{declared.parts.Bit.Bit, Lists.variable_of}
 use Rattle.rv_control.specs.Control.{order_tests}
 use Rattle.rv_tested.proofs.Following.{tests_more, no_tests, at_most_one}
 use Rattle.rv_tested.proofs.testing.count_tests.Goals as goal

@@ -1,11 +1,7 @@
-use Rattle.std.proofs.Common.{◌≡◌, ◌∙◌, sym, subst}
-use Rattle.std.proofs.lemmas.Result.{IfOk-weaker}
-use Rattle.rv_rows.specs.declared.linear.Form.{Form}
-use Rattle.rv_rows.specs.Arithmetic.{form_sum}
-use Rattle.rv_rows.specs.Forms.{CanAdd}
+use Rattle.std.proofs.{Common.◌≡◌, Common.◌∙◌, Common.sym, Common.subst, lemmas.Result.IfOk-weaker}
+use Rattle.rv_rows.specs.{declared.linear.Form.Form, Arithmetic.form_sum, Forms.CanAdd}
 use Rattle.rv_diagram.specs.Nodes.{Diagrams}
-use Rattle.rv_terms.specs.declared.parted.Term.{Term}
-use Rattle.rv_terms.specs.Parts.{form_at, term_width, IsTerm, IsTermOf}
+use Rattle.rv_terms.specs.{declared.parted.Term.Term, Parts.form_at, Parts.term_width, Parts.IsTerm, Parts.IsTermOf}
 use Rattle.rv_tested.specs.Testing.{IsDifference}
 use Rattle.rv_tested.proofs.Siding.{can_negate, can_subtract, is_difference}
 use Rattle.rv_forms.proofs.Kept.{own_width as own_term, width_first}

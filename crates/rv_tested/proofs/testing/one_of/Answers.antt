@@ -1,6 +1,5 @@
 use Rattle.std.proofs.Common.{◌∷◌, [], ap, sym}
-use Rattle.rv_flat.specs.declared.parts.Bit.{Bit}
-use Rattle.rv_flat.specs.Lists.{variable_of}
+use Rattle.rv_flat.specs.{declared.parts.Bit.Bit, Lists.variable_of}
 use Rattle.rv_control.specs.Control.{order_tests}
 use Rattle.rv_tested.proofs.testing.one_of.Goals as goal
 

@@ -2,10 +2,7 @@ use Rattle.std.proofs.Common.{◌≡◌, ℕ, length, Some}
 use Rattle.std.specs.Prelude.{slice_get}
 use Rattle.rv_symbolic.specs.Growing.{Extends}
 use Rattle.rv_forms.specs.Terms.{IsReady}
-use Rattle.rv_tested.specs.declared.compared.Compared.{Compared}
-use Rattle.rv_tested.specs.declared.testing.Sides.{Sides}
-use Rattle.rv_tested.specs.Compared.{comparison_in}
-use Rattle.rv_tested.specs.Testing.{AreSidesRead}
+use Rattle.rv_tested.specs.{declared.compared.Compared.Compared, declared.testing.Sides.Sides, Compared.comparison_in, Testing.AreSidesRead}
 use Rattle.rv_tested.proofs.testing.read_all.Given as goal
 
 abbrev pub invariant-loop-number : goal.invariant-loop-number

@@ -6,8 +6,7 @@ use Rattle.rv_flat.specs.Inlined.{tree_among}
 use Rattle.rv_cases.specs.Conditions.{AreRefs}
 use Rattle.rv_forms.specs.Terms.{weights_of}
 use Rattle.rv_tested.specs.Compared.{comparison_in}
-use Rattle.rv_tested.proofs.Following.{clock_there, over_inside}
-use Rattle.rv_tested.proofs.Siding.{sides_read}
+use Rattle.rv_tested.proofs.{Following.clock_there, Following.over_inside, Siding.sides_read}
 use Rattle.rv_tested.proofs.testing.read_sides.Goals as goal
 
 pub term_of-requires-clause-over : goal.term_of-requires-clause-over

@@ -1,17 +1,10 @@
-use Rattle.std.proofs.Common.{List, [], map, sym, subst, arith}
-use Rattle.std.proofs.lemmas.List.{take_all}
-use Rattle.rv_flat.specs.Lists.{side_of}
-use Rattle.rv_flat.specs.FlatInstants.{system_of}
+use Rattle.std.proofs.{Common.List, Common.[], Common.map, Common.sym, Common.subst, Common.arith, lemmas.List.take_all}
+use Rattle.rv_flat.specs.{Lists.side_of, FlatInstants.system_of}
 use Rattle.rv_agreement.specs.Valuations.{Comparison}
-use Rattle.rv_control.specs.Named.{named}
-use Rattle.rv_control.specs.Symbolic.{symbolic}
+use Rattle.rv_control.specs.{Named.named, Symbolic.symbolic}
 use Rattle.rv_symbolic.proofs.Extending.{extends_refl, extends_trans}
-use Rattle.rv_tested.specs.declared.compared.Compared.{Compared}
-use Rattle.rv_tested.specs.Compared.{comparison_in}
-use Rattle.rv_tested.specs.Rows.{IsAnswered}
-use Rattle.rv_tested.specs.Testing.{row_in, first_comparisons}
-use Rattle.rv_tested.proofs.Rowing.{among-none, answered_as, comparisons_more}
-use Rattle.rv_tested.proofs.Siding.{sides_later}
+use Rattle.rv_tested.specs.{declared.compared.Compared.Compared, Compared.comparison_in, Rows.IsAnswered, Testing.row_in, Testing.first_comparisons}
+use Rattle.rv_tested.proofs.{Rowing.among-none, Rowing.answered_as, Rowing.comparisons_more, Siding.sides_later}
 use Rattle.rv_tested.proofs.testing.read_test.Goals as goal
 
 pub loop-number-init : goal.loop-number-init

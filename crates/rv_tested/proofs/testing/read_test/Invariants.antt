@@ -1,7 +1,6 @@
 use Rattle.rv_flat.specs.Lists.{side_of}
 use Rattle.rv_symbolic.specs.Growing.{Extends}
-use Rattle.rv_tested.specs.Rows.{IsAnswered}
-use Rattle.rv_tested.specs.Testing.{row_in, first_comparisons}
+use Rattle.rv_tested.specs.{Rows.IsAnswered, Testing.row_in, Testing.first_comparisons}
 use Rattle.rv_tested.proofs.testing.read_test.Given as goal
 
 abbrev pub invariant-loop-number : goal.invariant-loop-number

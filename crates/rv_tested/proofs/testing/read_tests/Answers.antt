@@ -1,14 +1,11 @@
 use Rattle.std.proofs.Common.{◌≡◌, ◌+◌, ◌-◌, ◌∙◌, ◌++◌, ◌∷◌, ℕ, List, [], length, map, ap, sym, subst, arith}
-use Rattle.rv_rows.specs.declared.linear.Row.{Row}
-use Rattle.rv_flat.specs.declared.parts.Bit.{Bit}
-use Rattle.rv_tested.specs.Testing.{AreTestsRead}
 use Rattle.std.proofs.lemmas.List.{length-map}
-use Rattle.rv_flat.specs.Lists.{variable_of}
-use Rattle.rv_control.specs.Control.{order_tests}
-use Rattle.rv_control.specs.Named.{variables_of}
+use Rattle.rv_rows.specs.declared.linear.Row.{Row}
+use Rattle.rv_flat.specs.{declared.parts.Bit.Bit, Lists.variable_of}
+use Rattle.rv_tested.specs.Testing.{AreTestsRead}
+use Rattle.rv_control.specs.{Control.order_tests, Named.variables_of}
 use Rattle.rv_symbolic.proofs.Extending.{extends_refl, extends_trans}
-use Rattle.rv_tested.proofs.Following.{none_read, one_test_more, test_answered, variable_there}
-use Rattle.rv_tested.proofs.Siding.{all_later}
+use Rattle.rv_tested.proofs.{Following.none_read, Following.one_test_more, Following.test_answered, Following.variable_there, Siding.all_later}
 use Rattle.rv_tested.proofs.testing.read_tests.Goals as goal
 
 pub loop-number-init : goal.loop-number-init

@@ -1,18 +1,11 @@
-use Rattle.std.proofs.Common.{◌≡◌, List, sym, subst, Result, IfOk}
-use Rattle.std.proofs.Common.{None as Nothing}
-use Rattle.std.proofs.lemmas.Result.{IfOk-weaker}
+use Rattle.std.proofs.{Common.◌≡◌, Common.List, Common.sym, Common.subst, Common.Result, Common.IfOk, Common.None as Nothing, lemmas.Result.IfOk-weaker}
 use Rattle.rv_diagram.specs.declared.Triple.{Triple}
 use Rattle.rv_base.specs.declared.value.Place.{Place}
-use Rattle.rv_flat.specs.declared.flat.Flat.{Flat}
-use Rattle.rv_flat.specs.declared.parts.Bit.{Bit}
+use Rattle.rv_flat.specs.{declared.flat.Flat.Flat, declared.parts.Bit.Bit, FlatInstants.system_of, Lists.side_of, Lists.variable_of}
 use Rattle.rv_flat.specs.declared.parts.Bit.TheVariants as bit
 use Rattle.rv_flat.specs.declared.parts.Side as declared
-use Rattle.rv_flat.specs.FlatInstants.{system_of}
-use Rattle.rv_flat.specs.Lists.{side_of, variable_of}
 use Rattle.rv_agreement.specs.Valuations.{Comparison, all_comparisons}
-use Rattle.rv_tested.specs.declared.rows.Answered.{Answered}
-use Rattle.rv_tested.specs.Rows.{IsAnswered}
-use Rattle.rv_tested.specs.Testing.{row_in, row_of_variable}
+use Rattle.rv_tested.specs.{declared.rows.Answered.Answered, Rows.IsAnswered, Testing.row_in, Testing.row_of_variable}
 use Rattle.rv_tested.proofs.testing.read_variable.Goals as goal
 
 row_of_test : (f : Flat) (nodes : List Triple) {cs : List Comparison} {x : Bit} {p : Place} {s : declared.Side} {E : Type 0}

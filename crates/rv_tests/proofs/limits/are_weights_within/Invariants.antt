@@ -1,6 +1,5 @@
 use Rattle.std.proofs.Common.{◌≤◌, ◌<◌, ◌^◌}
-use Rattle.std.specs.List.{AllWithin}
-use Rattle.std.specs.Int.RustNames.{unsigned_abs}
+use Rattle.std.specs.{List.AllWithin, Int.RustNames.unsigned_abs}
 use Rattle.rv_tests.proofs.limits.are_weights_within.Given as goal
 
 abbrev pub invariant-loop-weight : goal.invariant-loop-weight

@@ -1,9 +1,6 @@
 use Rattle.std.proofs.Common.{◌≡◌, ◌∙◌, List, Option, Some, ap, subst, sym}
-use Rattle.std.specs.Prelude.{String, option_map}
-use Rattle.std.specs.Global.{Global}
-use Rattle.rv_words.specs.Asked.{prove}
-use Rattle.rv_words.specs.Words.{command, said, texts}
-use Rattle.rv_words.specs.declared.command.Command.{Command}
+use Rattle.std.specs.{Prelude.String, Prelude.option_map, Global.Global}
+use Rattle.rv_words.specs.{Asked.prove, Words.command, Words.said, Words.texts, declared.command.Command.Command}
 use Rattle.rv_tests.proofs.Named.{named_by}
 use Rattle.rv_tests.proofs.runs.ran_surely.Goals as goal
 

@@ -1,6 +1,5 @@
-use Rattle.std.proofs.Common.{length, sym, ◌∙◌, ap}
+use Rattle.std.proofs.{Common.length, Common.sym, Common.◌∙◌, Common.ap, lemmas.Option.unwrap_or-slice_get, lemmas.Option.slice_get-map}
 use Rattle.std.specs.Prelude.{unwrap_or, option_map}
-use Rattle.std.proofs.lemmas.Option.{unwrap_or-slice_get, slice_get-map}
 use Rattle.rv_flat.specs.Steps.{label_counts}
 use Rattle.rv_tests.proofs.steps.label_count.Goals as goal
 

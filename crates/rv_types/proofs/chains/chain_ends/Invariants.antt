@@ -1,6 +1,5 @@
 use Rattle.std.proofs.Common.{◌≡◌, ◌≤◌, ◌+◌, ◌-◌, length}
-use Rattle.rv_types.specs.declared.typed.Clock.{Clock}
-use Rattle.rv_types.specs.Chains.{follow, after}
+use Rattle.rv_types.specs.{declared.typed.Clock.Clock, Chains.follow, Chains.after}
 use Rattle.rv_types.proofs.chains.chain_ends.Given as goal
 
 abbrev pub invariant-loop-steps : goal.invariant-loop-steps

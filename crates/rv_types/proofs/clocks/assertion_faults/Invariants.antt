@@ -1,7 +1,6 @@
 use Rattle.std.proofs.Common.{◌≡◌, map, take, flat_map}
-use Rattle.rv_types.specs.Earliest.{first}
+use Rattle.rv_types.specs.{Earliest.first, Clocks.assertion_clocks}
 use Rattle.rv_tree.specs.Tree.{node_tree, assertion_tree}
-use Rattle.rv_types.specs.Clocks.{assertion_clocks}
 use Rattle.rv_types.proofs.clocks.assertion_faults.Given as goal
 
 abbrev pub invariant-loop-assertion : goal.invariant-loop-assertion

@@ -1,9 +1,6 @@
 use Rattle.std.proofs.Common.{◌≡◌, ap, sym, rules, true, false}
-use Rattle.rv_tree.specs.Tree.{node_tree}
-use Rattle.rv_tree.specs.Places.{site_of}
-use Rattle.rv_types.specs.declared.typed.Clock.TheVariants.{On}
-use Rattle.rv_types.specs.Chains.{follow, is_base}
-use Rattle.rv_types.specs.Earliest.{first}
+use Rattle.rv_tree.specs.{Tree.node_tree, Places.site_of}
+use Rattle.rv_types.specs.{declared.typed.Clock.TheVariants.On, Chains.follow, Chains.is_base, Earliest.first}
 use Rattle.rv_types.proofs.TimingLaws.{chain_known}
 use Rattle.rv_types.proofs.clocks.chain_fault.Goals as goal
 

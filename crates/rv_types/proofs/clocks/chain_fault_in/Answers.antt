@@ -1,10 +1,7 @@
 use Rattle.rv_types.proofs.Grouped.{kept, looked_up}
 use Rattle.std.proofs.Common.{Option}
-use Rattle.rv_tree.specs.declared.tree.Decl.{Decl}
-use Rattle.rv_tree.specs.declared.tree.Name.{Name}
-use Rattle.rv_tree.specs.Tree.{node_tree}
-use Rattle.rv_types.specs.Clocks.{chain_clash}
-use Rattle.rv_types.specs.Earliest.{first}
+use Rattle.rv_tree.specs.{declared.tree.Decl.Decl, declared.tree.Name.Name, Tree.node_tree}
+use Rattle.rv_types.specs.{Clocks.chain_clash, Earliest.first}
 use Rattle.rv_types.proofs.clocks.chain_fault_in.Goals as goal
 
 pub returns-then-goes_on : goal.returns-then-goes_on

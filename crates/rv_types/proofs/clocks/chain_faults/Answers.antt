@@ -1,8 +1,6 @@
 use Rattle.std.proofs.Common.{arith}
-use Rattle.rv_tree.specs.declared.tree.Decl.{Decl}
-use Rattle.rv_tree.specs.Tree.{node_tree}
-use Rattle.rv_types.specs.Clocks.{chain_clash}
-use Rattle.rv_types.specs.Earliest.{first}
+use Rattle.rv_tree.specs.{declared.tree.Decl.Decl, Tree.node_tree}
+use Rattle.rv_types.specs.{Clocks.chain_clash, Earliest.first}
 use Rattle.rv_types.proofs.Grouped.{fault_step, here}
 use Rattle.rv_types.proofs.clocks.chain_faults.Goals as goal
 

@@ -1,8 +1,6 @@
 use Rattle.std.proofs.Common.{◌≡◌, ℕ, ◌+◌, take, flat_map, slice_get, Some}
-use Rattle.rv_tree.specs.declared.tree.Decl.{Decl}
-use Rattle.rv_tree.specs.Tree.{node_tree}
-use Rattle.rv_types.specs.Clocks.{chain_clash}
-use Rattle.rv_types.specs.Earliest.{first}
+use Rattle.rv_tree.specs.{declared.tree.Decl.Decl, Tree.node_tree}
+use Rattle.rv_types.specs.{Clocks.chain_clash, Earliest.first}
 use Rattle.rv_types.proofs.clocks.chain_faults.Given as goal
 
 abbrev pub invariant-loop-index : goal.invariant-loop-index

@@ -1,7 +1,6 @@
 use Rattle.rv_types.proofs.Grouped.{kept, looked_up}
 use Rattle.std.proofs.Common.{Option}
-use Rattle.rv_tree.specs.declared.tree.Decl.{Decl}
-use Rattle.rv_tree.specs.declared.tree.Name.{Name}
+use Rattle.rv_tree.specs.{declared.tree.Decl.Decl, declared.tree.Name.Name}
 use Rattle.rv_types.specs.Timings.{clock_by}
 use Rattle.rv_types.proofs.clocks.clock_in_group.Goals as goal
 

@@ -1,8 +1,6 @@
 use Rattle.std.proofs.Common.{◌≡◌, ◌<◌, ◌^◌, ◌∙◌, ap, sym, subst, rules, length}
 use Rattle.rv_tree.specs.Tree.{node_tree}
-use Rattle.rv_types.specs.Names.{texts}
-use Rattle.rv_types.specs.Firsts.{firsts}
-use Rattle.rv_types.specs.Known.{flow_names}
+use Rattle.rv_types.specs.{Names.texts, Firsts.firsts, Known.flow_names}
 use Rattle.rv_types.proofs.NodeFlows.{flow_space, space_few}
 use Rattle.rv_types.proofs.clocks.time_flows.Goals as goal
 

@@ -1,7 +1,6 @@
 use Rattle.std.proofs.Common.{◌≡◌, map, take, flat_map}
 use Rattle.rv_tree.specs.Tree.{node_tree}
-use Rattle.rv_types.specs.Clocks.{flow_clocks, clocks_in_node}
-use Rattle.rv_types.specs.Earliest.{first}
+use Rattle.rv_types.specs.{Clocks.flow_clocks, Clocks.clocks_in_node, Earliest.first}
 use Rattle.rv_types.proofs.clocks.time_nodes.Given as goal
 
 abbrev pub invariant-loop-node : goal.invariant-loop-node

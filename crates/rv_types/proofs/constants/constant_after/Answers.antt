@@ -1,11 +1,7 @@
 use Rattle.std.proofs.Common.{ap, ◌∙◌}
 use Rattle.rv_tree.specs.Tree.{tree_of, constant_tree}
-use Rattle.rv_types.specs.Constants.{value_of}
 use Rattle.rv_types.specs.ConstantTables.{as_declared_by, constant_types_by}
-use Rattle.rv_types.specs.Earliest.{first}
-use Rattle.rv_types.specs.Tables.{entry_in}
-use Rattle.rv_types.specs.Types.{kind_of}
-use Rattle.rv_types.specs.ValueTables.{known_in}
+use Rattle.rv_types.specs.{Constants.value_of, Earliest.first, Tables.entry_in, Types.kind_of, ValueTables.known_in}
 use Rattle.rv_types.proofs.Entries.{empty_scope}
 use Rattle.rv_types.proofs.constants.constant_after.Goals as goal
 

@@ -1,9 +1,8 @@
 use Rattle.std.proofs.Common.{◌≡◌, List, ◌++◌, ap, sym, ◌∙◌, subst, map, take, drop, reverse}
 use Rattle.rv_base.specs.declared.value.Value.{Value}
 use Rattle.rv_tree.specs.Tree.{constant_tree, program_tree}
-use Rattle.rv_types.specs.Earliest.{first}
 use Rattle.rv_types.specs.Scopes.{constant_kinds_of, constant_values_of, constant_types}
-use Rattle.rv_types.specs.ValueTables.{known_in, AreSmall}
+use Rattle.rv_types.specs.{Earliest.first, ValueTables.known_in, ValueTables.AreSmall}
 use Rattle.rv_types.proofs.ConstantMeanings.{kinds_more, values_more, faults_more, more_small}
 use Rattle.rv_types.proofs.Turned.{one_mapped, all_turned}
 use Rattle.rv_types.proofs.constants.constants_of.Goals as goal

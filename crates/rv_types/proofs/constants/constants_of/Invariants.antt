@@ -1,8 +1,7 @@
 use Rattle.std.proofs.Common.{◌≡◌, map, take, reverse}
 use Rattle.rv_tree.specs.Tree.{constant_tree, program_tree}
-use Rattle.rv_types.specs.Earliest.{first}
 use Rattle.rv_types.specs.Scopes.{constant_kinds_of, constant_values_of, constant_types}
-use Rattle.rv_types.specs.ValueTables.{known_in, AreSmall}
+use Rattle.rv_types.specs.{Earliest.first, ValueTables.known_in, ValueTables.AreSmall}
 use Rattle.rv_types.proofs.constants.constants_of.Given as goal
 
 abbrev pub invariant-loop-c : goal.invariant-loop-c

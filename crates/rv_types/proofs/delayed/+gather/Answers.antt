@@ -1,13 +1,9 @@
 use Rattle.std.proofs.Common.{List, map, drop, ap, ◌∙◌, add-one, ◌+◌, ◌++◌, arith}
 use Rattle.std.proofs.lemmas.List.{append_assoc}
 use Rattle.rv_tree.specs.Tree.{tree_of, trees}
-use Rattle.rv_types.specs.declared.typed.Kind.{Kind}
-use Rattle.rv_types.specs.Delayed.{delayed_in, delayed_in_all}
-use Rattle.rv_types.specs.Types.{kinds_of_all, kind_of}
-use Rattle.rv_types.specs.Tables.{scope_of}
+use Rattle.rv_types.specs.{declared.typed.Kind.Kind, Delayed.delayed_in, Delayed.delayed_in_all, Types.kinds_of_all, Types.kind_of, Tables.scope_of}
 use Rattle.rv_types.proofs.Fitting.{typed_more, fit_more, fit_end, nothing_left}
-use Rattle.rv_base.proofs.Lists.{next_of}
-use Rattle.rv_base.proofs.Truths.{and_assoc}
+use Rattle.rv_base.proofs.{Lists.next_of, Truths.and_assoc}
 use Rattle.rv_types.proofs.delayed.+gather.Goals as goal
 
 pub gather_all-loop-e-preserved : goal.gather_all-loop-e-preserved

@@ -1,9 +1,7 @@
 use Rattle.std.proofs.Common.{◌≡◌, ◌&&◌, ◌++◌, map, drop}
 use Rattle.rv_tree.specs.Tree.{tree_of, trees}
-use Rattle.rv_types.specs.Delayed.{delayed_in_all}
 use Rattle.rv_types.specs.Types.{all_typed, all_suit, are_constant, fit, kinds_of_all}
-use Rattle.rv_types.specs.Tables.{scope_of}
-use Rattle.rv_types.specs.declared.typed.Kind.TheVariants.{Bool}
+use Rattle.rv_types.specs.{Delayed.delayed_in_all, Tables.scope_of, declared.typed.Kind.TheVariants.Bool}
 use Rattle.rv_types.proofs.delayed.+gather.Given as goal
 
 abbrev pub invariant-gather_all-loop-e : goal.invariant-gather_all-loop-e

@@ -1,8 +1,6 @@
 use Rattle.std.proofs.Common.{◌≡◌, List, IfOk, subst}
 use Rattle.rv_tree.specs.Tree.{node_tree}
-use Rattle.rv_types.specs.declared.typed.Kind.{Kind}
-use Rattle.rv_types.specs.Readings.{view_of}
-use Rattle.rv_types.specs.Tables.{scope_of}
+use Rattle.rv_types.specs.{declared.typed.Kind.Kind, Readings.view_of, Tables.scope_of}
 use Rattle.rv_types.proofs.DelayedKinds.{in_node}
 use Rattle.rv_types.proofs.delayed.delay_kinds.Goals as goal
 

@@ -1,7 +1,6 @@
 use Rattle.std.proofs.Common.{◌≡◌, ◌++◌, map, flat_map, drop}
 use Rattle.rv_tree.specs.Tree.{AssertionTree, assertion_tree}
-use Rattle.rv_types.specs.Delayed.{delayed_in}
-use Rattle.rv_types.specs.Tables.{scope_of}
+use Rattle.rv_types.specs.{Delayed.delayed_in, Tables.scope_of}
 use Rattle.rv_types.proofs.delayed.gather_assertions.Given as goal
 
 abbrev pub invariant-loop-assertion : goal.invariant-loop-assertion

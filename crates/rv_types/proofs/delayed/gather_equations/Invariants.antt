@@ -1,7 +1,6 @@
 use Rattle.std.proofs.Common.{◌≡◌, ◌++◌, map, flat_map, drop}
 use Rattle.rv_tree.specs.Tree.{EquationTree, equation_tree}
-use Rattle.rv_types.specs.Delayed.{delayed_in}
-use Rattle.rv_types.specs.Tables.{scope_of}
+use Rattle.rv_types.specs.{Delayed.delayed_in, Tables.scope_of}
 use Rattle.rv_types.proofs.delayed.gather_equations.Given as goal
 
 abbrev pub invariant-loop-equation : goal.invariant-loop-equation

@@ -1,8 +1,6 @@
 use Rattle.rv_types.proofs.Grouped.{kept, looked_up}
-use Rattle.rv_tree.specs.declared.tree.Decl.{Decl}
-use Rattle.rv_tree.specs.declared.tree.TypeName.{TypeName}
-use Rattle.rv_types.specs.Kinds.{written_kind}
-use Rattle.rv_types.specs.Tables.{entry_in}
+use Rattle.rv_tree.specs.{declared.tree.Decl.Decl, declared.tree.TypeName.TypeName}
+use Rattle.rv_types.specs.{Kinds.written_kind, Tables.entry_in}
 use Rattle.rv_types.proofs.kinds.kind_in_group.Goals as goal
 
 pub returns-then-goes_on : goal.returns-then-goes_on

@@ -1,7 +1,6 @@
 use Rattle.std.proofs.Common.{arith}
 use Rattle.rv_tree.specs.declared.tree.Decl.{Decl}
-use Rattle.rv_types.specs.Kinds.{written_kind}
-use Rattle.rv_types.specs.Tables.{entry_in}
+use Rattle.rv_types.specs.{Kinds.written_kind, Tables.entry_in}
 use Rattle.rv_types.proofs.Grouped.{pushed_step, here}
 use Rattle.rv_types.proofs.kinds.push_kinds.Goals as goal
 

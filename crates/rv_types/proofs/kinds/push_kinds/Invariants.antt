@@ -1,8 +1,6 @@
 use Rattle.std.proofs.Common.{◌≡◌, ℕ, ◌+◌, ◌++◌, take, slice_get, Some}
 use Rattle.rv_tree.specs.declared.tree.Decl.{Decl}
-use Rattle.rv_types.specs.Kinds.{written_kind}
-use Rattle.rv_types.specs.Tables.{entry_in}
-use Rattle.rv_types.specs.TypeTables.{kinds_by}
+use Rattle.rv_types.specs.{Kinds.written_kind, Tables.entry_in, TypeTables.kinds_by}
 use Rattle.rv_types.proofs.kinds.push_kinds.Given as goal
 
 abbrev pub invariant-loop-index : goal.invariant-loop-index

@@ -1,7 +1,6 @@
 use Rattle.std.proofs.Common.{◌≡◌, map, take}
 use Rattle.rv_tree.specs.Tree.{node_tree}
-use Rattle.rv_types.specs.Tables.{entry_in}
-use Rattle.rv_types.specs.TypeTables.{signature_by}
+use Rattle.rv_types.specs.{Tables.entry_in, TypeTables.signature_by}
 use Rattle.rv_types.proofs.kinds.signatures.Given as goal
 
 abbrev pub invariant-loop-n : goal.invariant-loop-n

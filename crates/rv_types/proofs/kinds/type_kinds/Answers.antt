@@ -1,7 +1,6 @@
 use Rattle.std.proofs.Common.{◌<◌, ◌^◌, ap, sym, ◌∙◌, reverse, take, drop, length, arith, rules}
 use Rattle.rv_types.specs.TypeTables.{declared_kinds}
-use Rattle.rv_types.proofs.TypeMeanings.{one_kind, kinds-length}
-use Rattle.rv_types.proofs.Turned.{one_turned, all_turned, turned-length}
+use Rattle.rv_types.proofs.{TypeMeanings.one_kind, TypeMeanings.kinds-length, Turned.one_turned, Turned.all_turned, Turned.turned-length}
 use Rattle.rv_types.proofs.kinds.type_kinds.Goals as goal
 
 pub overflow_cast-len : goal.overflow_cast-len

@@ -1,5 +1,4 @@
-use Rattle.rv_types.proofs.Answered.{not_both}
-use Rattle.rv_types.proofs.SomeFault.{settled_or_first}
+use Rattle.rv_types.proofs.{Answered.not_both, SomeFault.settled_or_first}
 use Rattle.rv_types.proofs.laws.settled_or_refused.Goals as goal
 
 pub returns-clause-either : goal.returns-clause-either

@@ -1,5 +1,4 @@
-use Rattle.rv_types.proofs.WellNodes.{are_well}
-use Rattle.rv_types.proofs.RisingConstants.{rising}
+use Rattle.rv_types.proofs.{WellNodes.are_well, RisingConstants.rising}
 use Rattle.rv_types.proofs.laws.well_formed_programs.Goals as goal
 
 pub returns : goal.returns

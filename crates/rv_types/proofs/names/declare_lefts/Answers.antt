@@ -1,8 +1,6 @@
 use Rattle.std.proofs.Common.{ap, map, flat_map, ◌∙◌}
 use Rattle.rv_tree.specs.Tree.{equation_tree}
-use Rattle.rv_types.specs.Names.{repeated}
-use Rattle.rv_types.specs.Firsts.{firsts_after}
-use Rattle.rv_types.specs.Earliest.{first}
+use Rattle.rv_types.specs.{Names.repeated, Firsts.firsts_after, Earliest.first}
 use Rattle.rv_types.proofs.FirstNames.{spaces_step, faults_step}
 use Rattle.rv_base.proofs.Lists.{next_of}
 use Rattle.rv_types.proofs.names.declare_lefts.Goals as goal

@@ -1,7 +1,5 @@
 use Rattle.std.proofs.Common.{◌≡◌, rules, []}
-use Rattle.rv_types.specs.Names.{decl_names, repeated}
-use Rattle.rv_types.specs.Firsts.{firsts_after, firsts}
-use Rattle.rv_types.specs.Earliest.{first, sooner}
+use Rattle.rv_types.specs.{Names.decl_names, Names.repeated, Firsts.firsts_after, Firsts.firsts, Earliest.first, Earliest.sooner}
 use Rattle.rv_types.proofs.FlowSpaces.{three_spaces, three_seconds}
 use Rattle.rv_types.proofs.names.flows_of.Goals as goal
 

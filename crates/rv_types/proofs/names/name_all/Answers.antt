@@ -1,7 +1,6 @@
 use Rattle.std.proofs.Common.{◌≡◌, ◌∙◌, ap, rules, [], ◌++◌, flat_map}
 use Rattle.rv_tree.specs.Tree.{program_tree}
-use Rattle.rv_types.specs.Earliest.{first}
-use Rattle.rv_types.specs.Known.{first_spaces, second_declarations, alias_use_in, constant_use_in, names_in}
+use Rattle.rv_types.specs.{Earliest.first, Known.first_spaces, Known.second_declarations, Known.alias_use_in, Known.constant_use_in, Known.names_in}
 use Rattle.rv_types.proofs.KnownLaws.{all_names}
 use Rattle.rv_types.proofs.names.name_all.Goals as goal
 

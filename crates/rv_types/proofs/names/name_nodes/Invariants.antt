@@ -1,7 +1,6 @@
 use Rattle.std.proofs.Common.{◌≡◌, take, map, flat_map}
 use Rattle.rv_tree.specs.Tree.{node_tree}
-use Rattle.rv_types.specs.Known.{names_in}
-use Rattle.rv_types.specs.Earliest.{first}
+use Rattle.rv_types.specs.{Known.names_in, Earliest.first}
 use Rattle.rv_types.proofs.names.name_nodes.Given as goal
 
 abbrev pub invariant-loop-node : goal.invariant-loop-node

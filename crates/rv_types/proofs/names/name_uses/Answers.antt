@@ -1,7 +1,6 @@
 use Rattle.std.proofs.Common.{◌≡◌, ◌∙◌, rules, [], ◌++◌, map, flat_map}
 use Rattle.rv_tree.specs.Tree.{program_tree, node_tree}
-use Rattle.rv_types.specs.Earliest.{first}
-use Rattle.rv_types.specs.Known.{alias_use_in, constant_use_in, names_in}
+use Rattle.rv_types.specs.{Earliest.first, Known.alias_use_in, Known.constant_use_in, Known.names_in}
 use Rattle.rv_types.proofs.names.name_uses.Goals as goal
 
 pub returns : goal.returns

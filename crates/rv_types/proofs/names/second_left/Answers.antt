@@ -1,8 +1,6 @@
 use Rattle.std.proofs.Common.{◌≡◌, ◌∙◌, rules, IfOk, subst, map, flat_map}
 use Rattle.rv_tree.specs.Tree.{node_tree, equation_tree}
-use Rattle.rv_types.specs.Names.{decl_names, repeated, lefts}
-use Rattle.rv_types.specs.Firsts.{firsts}
-use Rattle.rv_types.specs.Earliest.{first}
+use Rattle.rv_types.specs.{Names.decl_names, Names.repeated, Names.lefts, Firsts.firsts, Earliest.first}
 use Rattle.rv_types.proofs.FirstNames.{repeated_alike, declared_firsts}
 use Rattle.rv_types.proofs.names.second_left.Goals as goal
 

@@ -1,8 +1,6 @@
 use Rattle.std.proofs.Common.{◌≡◌, rules, flat_map}
 use Rattle.rv_tree.specs.Tree.{node_tree}
-use Rattle.rv_types.specs.Names.{decl_names, lefts, undefined_unless}
-use Rattle.rv_types.specs.Firsts.{firsts}
-use Rattle.rv_types.specs.Earliest.{first}
+use Rattle.rv_types.specs.{Names.decl_names, Names.lefts, Names.undefined_unless, Firsts.firsts, Earliest.first}
 use Rattle.rv_types.proofs.FlowSpaces.{two_parts}
 use Rattle.rv_types.proofs.names.undefined_flow.Goals as goal
 

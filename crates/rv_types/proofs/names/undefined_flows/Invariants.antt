@@ -1,6 +1,5 @@
 use Rattle.std.proofs.Common.{◌≡◌, take, flat_map}
-use Rattle.rv_types.specs.Names.{undefined_unless, decl_names}
-use Rattle.rv_types.specs.Earliest.{first}
+use Rattle.rv_types.specs.{Names.undefined_unless, Names.decl_names, Earliest.first}
 use Rattle.rv_types.proofs.names.undefined_flows.Given as goal
 
 abbrev pub invariant-loop-decl : goal.invariant-loop-decl

@@ -1,9 +1,6 @@
 use Rattle.rv_types.proofs.Grouped.{kept, looked_up}
-use Rattle.rv_tree.specs.declared.tree.Decl.{Decl}
-use Rattle.rv_tree.specs.declared.tree.TypeName.{TypeName}
-use Rattle.rv_types.specs.Names.{is_declared, type_use}
-use Rattle.rv_types.specs.Known.{flow_use_in}
-use Rattle.rv_types.specs.Earliest.{first}
+use Rattle.rv_tree.specs.{declared.tree.Decl.Decl, declared.tree.TypeName.TypeName}
+use Rattle.rv_types.specs.{Names.is_declared, Names.type_use, Known.flow_use_in, Earliest.first}
 use Rattle.rv_types.proofs.names.unknown_in_flow.Goals as goal
 
 pub returns-then-goes_on : goal.returns-then-goes_on

@@ -1,7 +1,6 @@
 use Rattle.std.proofs.Common.{arith}
 use Rattle.rv_tree.specs.declared.tree.Decl.{Decl}
-use Rattle.rv_types.specs.Known.{flow_use_in}
-use Rattle.rv_types.specs.Earliest.{first}
+use Rattle.rv_types.specs.{Known.flow_use_in, Earliest.first}
 use Rattle.rv_types.proofs.Grouped.{fault_step, here}
 use Rattle.rv_types.proofs.names.unknown_in_flows.Goals as goal
 

@@ -1,7 +1,6 @@
 use Rattle.std.proofs.Common.{◌≡◌, ℕ, ◌+◌, take, flat_map, slice_get, Some}
 use Rattle.rv_tree.specs.declared.tree.Decl.{Decl}
-use Rattle.rv_types.specs.Known.{flow_use_in}
-use Rattle.rv_types.specs.Earliest.{first}
+use Rattle.rv_types.specs.{Known.flow_use_in, Earliest.first}
 use Rattle.rv_types.proofs.names.unknown_in_flows.Given as goal
 
 abbrev pub invariant-loop-index : goal.invariant-loop-index

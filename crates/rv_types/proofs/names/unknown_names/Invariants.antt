@@ -1,6 +1,5 @@
 use Rattle.std.proofs.Common.{◌≡◌, take, flat_map}
-use Rattle.rv_types.specs.Names.{is_declared, use_of}
-use Rattle.rv_types.specs.Earliest.{first}
+use Rattle.rv_types.specs.{Names.is_declared, Names.use_of, Earliest.first}
 use Rattle.rv_types.proofs.names.unknown_names.Given as goal
 
 abbrev pub invariant-loop-name : goal.invariant-loop-name

@@ -1,10 +1,7 @@
-use Rattle.std.proofs.Common.{ap, sym, ◌∙◌, Some, slice_get, List}
+use Rattle.std.proofs.{Common.ap, Common.sym, Common.◌∙◌, Common.Some, Common.slice_get, Common.List, lemmas.Option.slice_get-map}
 use Rattle.std.specs.Option.{option_map}
-use Rattle.std.proofs.lemmas.Option.{slice_get-map}
 use Rattle.rv_tree.specs.Tree.{node_tree, program_tree}
-use Rattle.rv_types.specs.declared.typed.Kind.{Kind}
-use Rattle.rv_types.specs.Earliest.{first}
-use Rattle.rv_types.specs.Kinds.{flow_kinds}
+use Rattle.rv_types.specs.{declared.typed.Kind.Kind, Earliest.first, Kinds.flow_kinds}
 use Rattle.rv_types.proofs.MainNode.{main_faults}
 use Rattle.rv_base.proofs.Options.{some_same}
 use Rattle.rv_types.proofs.observer.observer_fault.Goals as goal

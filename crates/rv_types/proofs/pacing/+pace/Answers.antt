@@ -1,5 +1,4 @@
-use Rattle.rv_types.proofs.Joined.{first_append, sooner_assoc}
-use Rattle.rv_types.proofs.Meeting.{meet_assoc}
+use Rattle.rv_types.proofs.{Joined.first_append, Joined.sooner_assoc, Meeting.meet_assoc}
 use Rattle.rv_base.proofs.Lists.{next_of}
 use Rattle.rv_types.proofs.pacing.+pace.Goals as goal
 

@@ -1,9 +1,7 @@
 use Rattle.std.proofs.Common.{◌≡◌, map, drop}
 use Rattle.rv_tree.specs.Tree.{tree_of, trees, node_tree}
-use Rattle.rv_types.specs.Parts.{faults_of_all}
-use Rattle.rv_types.specs.Clocks.{meet, own_clash}
+use Rattle.rv_types.specs.{Parts.faults_of_all, Clocks.meet, Clocks.own_clash, Earliest.first, Earliest.sooner}
 use Rattle.rv_types.specs.Clocks as clocking
-use Rattle.rv_types.specs.Earliest.{first, sooner}
 use Rattle.rv_types.proofs.pacing.+pace.Given as goal
 
 abbrev pub invariant-pace_of_all-loop-e : goal.invariant-pace_of_all-loop-e

@@ -1,8 +1,6 @@
 use Rattle.std.proofs.Common.{ap, ◌∙◌}
 use Rattle.rv_tree.specs.Tree.{tree_of}
-use Rattle.rv_types.specs.Heads.{head_kind}
-use Rattle.rv_types.specs.Readings.{view_of}
-use Rattle.rv_types.specs.Tables.{Tables, scope_of}
+use Rattle.rv_types.specs.{Heads.head_kind, Readings.view_of, Tables.Tables, Tables.scope_of}
 use Rattle.rv_types.proofs.HeadKinds.{head_is}
 use Rattle.rv_types.proofs.reading.head_kind.Goals as goal
 

@@ -1,12 +1,8 @@
 use Rattle.std.proofs.Common.{List, [], ap, sym, ◌∙◌, map, reverse, subst}
 use Rattle.std.specs.List.{Contains}
-use Rattle.rv_tree.specs.declared.tree.TypeDecl.{TypeDecl}
-use Rattle.rv_tree.specs.Tree.{program_tree}
-use Rattle.rv_types.specs.declared.spaces.Spaces.{Spaces}
-use Rattle.rv_types.specs.Names.{type_names, repeated}
-use Rattle.rv_types.specs.TypeTables.{declared_kinds, places_from}
-use Rattle.rv_types.proofs.FirstNames.{all_first}
-use Rattle.rv_types.proofs.RightNames.{all_different, few_labels, tables_are, node_table_is}
+use Rattle.rv_tree.specs.{declared.tree.TypeDecl.TypeDecl, Tree.program_tree}
+use Rattle.rv_types.specs.{declared.spaces.Spaces.Spaces, Names.type_names, Names.repeated, TypeTables.declared_kinds, TypeTables.places_from}
+use Rattle.rv_types.proofs.{FirstNames.all_first, RightNames.all_different, RightNames.few_labels, RightNames.tables_are, RightNames.node_table_is}
 use Rattle.rv_types.proofs.reading.meanings_of.Goals as goal
 
 pub type_tables-requires-clause-names : goal.type_tables-requires-clause-names

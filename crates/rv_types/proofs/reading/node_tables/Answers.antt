@@ -1,11 +1,7 @@
 use Rattle.std.proofs.Common.{List, ap, ◌∙◌}
 use Rattle.rv_tree.specs.Tree.{node_tree}
-use Rattle.rv_types.specs.declared.typed.Kind.{Kind}
-use Rattle.rv_types.specs.Names.{texts}
-use Rattle.rv_types.specs.Tables.{entry_in}
-use Rattle.rv_types.specs.TypeTables.{flow_kinds_by}
-use Rattle.rv_types.proofs.NodeFlows.{flow_space}
-use Rattle.rv_types.proofs.NodeScope.{scope_is}
+use Rattle.rv_types.specs.{declared.typed.Kind.Kind, Names.texts, Tables.entry_in, TypeTables.flow_kinds_by}
+use Rattle.rv_types.proofs.{NodeFlows.flow_space, NodeScope.scope_is}
 use Rattle.rv_types.proofs.reading.node_tables.Goals as goal
 
 pub returns-clause-scope : goal.returns-clause-scope

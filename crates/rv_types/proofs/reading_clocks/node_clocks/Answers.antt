@@ -1,9 +1,7 @@
 use Rattle.std.proofs.Common.{◌<◌, ◌^◌, ◌∙◌, ap, sym, subst, length, List}
-use Rattle.rv_tree.specs.declared.tree.Name.{Name}
-use Rattle.rv_tree.specs.Tree.{node_tree}
+use Rattle.rv_tree.specs.{declared.tree.Name.Name, Tree.node_tree}
 use Rattle.rv_types.specs.Names.{texts}
-use Rattle.rv_types.proofs.NodeFlows.{flow_space, space_few}
-use Rattle.rv_types.proofs.TimingLaws.{timing_of}
+use Rattle.rv_types.proofs.{NodeFlows.flow_space, NodeFlows.space_few, TimingLaws.timing_of}
 use Rattle.rv_types.proofs.reading_clocks.node_clocks.Goals as goal
 
 pub clocks_of-requires-clause-names : goal.clocks_of-requires-clause-names

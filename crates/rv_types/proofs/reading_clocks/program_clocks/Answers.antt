@@ -1,10 +1,8 @@
 use Rattle.std.proofs.Common.{◌≡◌, ◌≤◌, ◌<◌, ◌^◌, rules, arith, map, subst, sym, length}
 use Rattle.rv_base.specs.Limits.{source_limit}
-use Rattle.rv_tree.specs.Tree.{program_tree, node_tree}
-use Rattle.rv_tree.specs.Places.{flows}
+use Rattle.rv_tree.specs.{Tree.program_tree, Tree.node_tree, Places.flows}
 use Rattle.rv_types.specs.Timings.{HaveFlows}
-use Rattle.rv_types.proofs.NodeFlows.{node_right}
-use Rattle.rv_types.proofs.RightNames.{flows_different}
+use Rattle.rv_types.proofs.{NodeFlows.node_right, RightNames.flows_different}
 use Rattle.rv_types.proofs.reading_clocks.program_clocks.Goals as goal
 
 pub clocks_of_nodes-requires : goal.clocks_of_nodes-requires

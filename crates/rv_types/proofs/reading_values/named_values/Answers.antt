@@ -1,10 +1,7 @@
 use Rattle.std.proofs.Common.{◌≡◌, [], reverse, sym, ◌∙◌, subst}
 use Rattle.rv_tree.specs.Tree.{program_tree}
-use Rattle.rv_types.specs.Scopes.{constant_value}
-use Rattle.rv_types.specs.ValueTables.{known_in, AreSmall}
-use Rattle.rv_types.proofs.ConstantMeanings.{values_known}
-use Rattle.rv_types.proofs.ConstantValues.{constants_small}
-use Rattle.rv_types.proofs.NodeScope.{all_before}
+use Rattle.rv_types.specs.{Scopes.constant_value, ValueTables.known_in, ValueTables.AreSmall}
+use Rattle.rv_types.proofs.{ConstantMeanings.values_known, ConstantValues.constants_small, NodeScope.all_before}
 use Rattle.rv_types.proofs.reading_values.named_values.Goals as goal
 
 pub invariant_of-result : goal.invariant_of-result

@@ -1,10 +1,7 @@
 use Rattle.std.proofs.Common.{◌≡◌, reverse, take, drop, sym, ◌∙◌, subst}
 use Rattle.rv_tree.specs.Tree.{program_tree}
-use Rattle.rv_types.specs.Scopes.{constant_value_after}
-use Rattle.rv_types.specs.ValueTables.{known_in, AreSmall}
-use Rattle.rv_types.proofs.ConstantMeanings.{values_known}
-use Rattle.rv_types.proofs.ConstantValues.{small_after}
-use Rattle.rv_types.proofs.Turned.{all_turned}
+use Rattle.rv_types.specs.{Scopes.constant_value_after, ValueTables.known_in, ValueTables.AreSmall}
+use Rattle.rv_types.proofs.{ConstantMeanings.values_known, ConstantValues.small_after, Turned.all_turned}
 use Rattle.rv_types.proofs.reading_values.values_before.Goals as goal
 
 pub invariant_of-result : goal.invariant_of-result

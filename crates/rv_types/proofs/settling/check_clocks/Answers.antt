@@ -1,13 +1,8 @@
 use Rattle.std.proofs.Common.{◌≡◌, ◌≤◌, ◌<◌, ◌^◌, rules, arith, map, subst, sym, None, length}
 use Rattle.rv_base.specs.Limits.{source_limit}
-use Rattle.rv_tree.specs.Tree.{program_tree, node_tree}
-use Rattle.rv_tree.specs.Places.{flows}
-use Rattle.rv_types.specs.Earliest.{first}
-use Rattle.rv_types.specs.Clocks.{clock_faults}
-use Rattle.rv_types.specs.Timings.{HaveFlows}
-use Rattle.rv_types.proofs.FirstLaws.{first_none}
-use Rattle.rv_types.proofs.NodeFlows.{node_right}
-use Rattle.rv_types.proofs.RightNames.{flows_different}
+use Rattle.rv_tree.specs.{Tree.program_tree, Tree.node_tree, Places.flows}
+use Rattle.rv_types.specs.{Earliest.first, Clocks.clock_faults, Timings.HaveFlows}
+use Rattle.rv_types.proofs.{FirstLaws.first_none, NodeFlows.node_right, RightNames.flows_different}
 use Rattle.rv_types.proofs.settling.check_clocks.Goals as goal
 
 pub time_nodes-requires : goal.time_nodes-requires

@@ -1,17 +1,10 @@
 use Rattle.std.proofs.Common.{ℕ, ◌≡◌, ◌<◌, ◌≤◌, ◌^◌, ◌∙◌, ap, sym, subst, rules, arith, true, false, List, length, Some, None}
 use Rattle.std.proofs.lemmas.List.{length-map}
 use Rattle.rv_base.specs.Limits.{source_limit}
-use Rattle.rv_tree.specs.declared.tree.Name.{Name}
-use Rattle.rv_tree.specs.Tree.{ProgramTree, program_tree}
-use Rattle.rv_tree.specs.Places.{Identifier, index_of}
-use Rattle.rv_types.specs.Names.{texts, is_declared, node_names, name_faults}
-use Rattle.rv_types.specs.Firsts.{firsts}
-use Rattle.rv_types.specs.Earliest.{first}
-use Rattle.rv_types.specs.Settled.{IsNamed}
-use Rattle.rv_types.proofs.FirstNames.{declared_firsts, all_first}
-use Rattle.rv_types.proofs.FirstLaws.{first_none}
-use Rattle.rv_types.proofs.RightNames.{all_different}
-use Rattle.rv_types.proofs.Refusals.{no_node, of_names}
+use Rattle.rv_tree.specs.{declared.tree.Name.Name, Tree.ProgramTree, Tree.program_tree, Places.Identifier, Places.index_of}
+use Rattle.rv_types.specs.{Names.texts, Names.is_declared, Names.node_names, Names.name_faults, Firsts.firsts, Earliest.first, Settled.IsNamed}
+use Rattle.rv_types.proofs.{FirstNames.declared_firsts, FirstNames.all_first, FirstLaws.first_none, RightNames.all_different, Refusals.no_node}
+use Rattle.rv_types.proofs.{Refusals.of_names}
 use Rattle.rv_types.proofs.settling.check_declared.Goals as goal
 
 -- the nodes of a program without a fault of names are those of its space

@@ -1,7 +1,6 @@
 use Rattle.std.proofs.Common.{◌≡◌, [], rules}
 use Rattle.rv_tree.specs.Tree.{program_tree}
-use Rattle.rv_types.specs.Clocks.{clock_faults}
-use Rattle.rv_types.specs.Settled.{HasCause}
+use Rattle.rv_types.specs.{Clocks.clock_faults, Settled.HasCause}
 use Rattle.rv_types.proofs.Refusals.{of_clocks, of_observer}
 use Rattle.rv_types.proofs.settling.check_times.Goals as goal
 

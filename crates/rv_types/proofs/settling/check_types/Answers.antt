@@ -1,9 +1,7 @@
 use Rattle.std.proofs.Common.{◌≡◌, rules, None, Some, inr}
 use Rattle.rv_tree.specs.Tree.{program_tree}
-use Rattle.rv_types.specs.Earliest.{first}
-use Rattle.rv_types.specs.Scopes.{type_faults}
-use Rattle.rv_types.proofs.FirstLaws.{first_none}
-use Rattle.rv_types.proofs.Refusals.{of_types}
+use Rattle.rv_types.specs.{Earliest.first, Scopes.type_faults}
+use Rattle.rv_types.proofs.{FirstLaws.first_none, Refusals.of_types}
 use Rattle.rv_types.proofs.settling.check_types.Goals as goal
 
 pub returns-in-None-clause-right : goal.returns-in-None-clause-right

@@ -1,8 +1,6 @@
 use Rattle.std.proofs.Common.{◌≡◌, map, flat_map, take}
 use Rattle.rv_tree.specs.Tree.{assertion_tree}
-use Rattle.rv_types.specs.Earliest.{first}
-use Rattle.rv_types.specs.NodeTypes.{assertion_by}
-use Rattle.rv_types.specs.Tables.{scope_of}
+use Rattle.rv_types.specs.{Earliest.first, NodeTypes.assertion_by, Tables.scope_of}
 use Rattle.rv_types.proofs.sides.assertions_fault.Given as goal
 
 abbrev pub invariant-loop-a : goal.invariant-loop-a

@@ -1,9 +1,7 @@
 use Rattle.std.proofs.Common.{◌+◌, drop, ◌∙◌, add-one, arith}
-use Rattle.rv_types.specs.NodeTypes.{lefts_by}
-use Rattle.rv_types.specs.Tables.{scope_of}
+use Rattle.rv_types.specs.{NodeTypes.lefts_by, Tables.scope_of}
 use Rattle.rv_types.proofs.Fitting.{fit_more, fit_end, none_left}
-use Rattle.rv_base.proofs.Lists.{next_of}
-use Rattle.rv_base.proofs.Truths.{and_assoc}
+use Rattle.rv_base.proofs.{Lists.next_of, Truths.and_assoc}
 use Rattle.rv_types.proofs.sides.fit_lefts.Goals as goal
 
 pub loop-x-preserved : goal.loop-x-preserved

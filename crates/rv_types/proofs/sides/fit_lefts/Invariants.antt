@@ -1,7 +1,5 @@
 use Rattle.std.proofs.Common.{◌≡◌, ◌&&◌, drop}
-use Rattle.rv_types.specs.NodeTypes.{lefts_by}
-use Rattle.rv_types.specs.Tables.{scope_of}
-use Rattle.rv_types.specs.Types.{fit}
+use Rattle.rv_types.specs.{NodeTypes.lefts_by, Tables.scope_of, Types.fit}
 use Rattle.rv_types.proofs.sides.fit_lefts.Given as goal
 
 abbrev pub invariant-loop-x : goal.invariant-loop-x

@@ -1,10 +1,7 @@
 use Rattle.rv_types.proofs.Grouped.{kept, looked_up}
 use Rattle.std.proofs.Common.{Option}
-use Rattle.rv_tree.specs.declared.tree.Decl.{Decl}
-use Rattle.rv_tree.specs.declared.tree.Name.{Name}
-use Rattle.rv_types.specs.NodeTypes.{local_by}
-use Rattle.rv_types.specs.Tables.{scope_of}
-use Rattle.rv_types.specs.Earliest.{first}
+use Rattle.rv_tree.specs.{declared.tree.Decl.Decl, declared.tree.Name.Name}
+use Rattle.rv_types.specs.{NodeTypes.local_by, Tables.scope_of, Earliest.first}
 use Rattle.rv_types.proofs.sides.local_fault_in.Goals as goal
 
 pub returns-then-goes_on : goal.returns-then-goes_on

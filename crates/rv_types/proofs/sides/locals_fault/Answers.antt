@@ -1,8 +1,6 @@
 use Rattle.std.proofs.Common.{arith}
 use Rattle.rv_tree.specs.declared.tree.Decl.{Decl}
-use Rattle.rv_types.specs.NodeTypes.{local_by}
-use Rattle.rv_types.specs.Tables.{scope_of}
-use Rattle.rv_types.specs.Earliest.{first}
+use Rattle.rv_types.specs.{NodeTypes.local_by, Tables.scope_of, Earliest.first}
 use Rattle.rv_types.proofs.Grouped.{fault_step, here}
 use Rattle.rv_types.proofs.sides.locals_fault.Goals as goal
 

@@ -1,8 +1,6 @@
 use Rattle.std.proofs.Common.{◌≡◌, ℕ, ◌+◌, take, flat_map, slice_get, Some}
 use Rattle.rv_tree.specs.declared.tree.Decl.{Decl}
-use Rattle.rv_types.specs.NodeTypes.{local_by}
-use Rattle.rv_types.specs.Tables.{scope_of}
-use Rattle.rv_types.specs.Earliest.{first}
+use Rattle.rv_types.specs.{NodeTypes.local_by, Tables.scope_of, Earliest.first}
 use Rattle.rv_types.proofs.sides.locals_fault.Given as goal
 
 abbrev pub invariant-loop-index : goal.invariant-loop-index

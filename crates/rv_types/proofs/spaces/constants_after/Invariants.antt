@@ -1,7 +1,6 @@
 use Rattle.std.proofs.Common.{◌≡◌, take, map, flat_map}
-use Rattle.rv_types.specs.Names.{repeated_after}
+use Rattle.rv_types.specs.{Names.repeated_after, Earliest.first}
 use Rattle.rv_tree.specs.Tree.{constant_tree}
-use Rattle.rv_types.specs.Earliest.{first}
 use Rattle.rv_types.proofs.spaces.constants_after.Given as goal
 
 abbrev pub invariant-loop-constant : goal.invariant-loop-constant

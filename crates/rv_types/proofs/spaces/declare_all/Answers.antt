@@ -1,7 +1,6 @@
 use Rattle.std.proofs.Common.{◌≡◌, rules, [], ◌++◌}
 use Rattle.rv_tree.specs.Tree.{program_tree}
-use Rattle.rv_types.specs.Names.{repeated, node_names, type_names, repeated_values}
-use Rattle.rv_types.specs.Earliest.{first}
+use Rattle.rv_types.specs.{Names.repeated, Names.node_names, Names.type_names, Names.repeated_values, Earliest.first}
 use Rattle.rv_types.proofs.spaces.declare_all.Goals as goal
 
 pub returns-clause-fault : goal.returns-clause-fault

@@ -1,8 +1,6 @@
 use Rattle.std.proofs.Common.{◌≡◌, drop, map}
-use Rattle.rv_types.specs.Names.{repeated}
+use Rattle.rv_types.specs.{Names.repeated, Firsts.firsts_after, Earliest.first, Earliest.sooner}
 use Rattle.rv_tree.specs.Tree.{constant_tree}
-use Rattle.rv_types.specs.Firsts.{firsts_after}
-use Rattle.rv_types.specs.Earliest.{first, sooner}
 use Rattle.rv_types.proofs.spaces.declare_constants.Given as goal
 
 abbrev pub invariant-loop-constant : goal.invariant-loop-constant

@@ -1,8 +1,5 @@
 use Rattle.std.proofs.Common.{◌≡◌, drop}
-use Rattle.rv_types.specs.Names.{repeated}
-use Rattle.rv_types.specs.Names.{decl_names}
-use Rattle.rv_types.specs.Firsts.{firsts_after}
-use Rattle.rv_types.specs.Earliest.{first, sooner}
+use Rattle.rv_types.specs.{Names.repeated, Names.decl_names, Firsts.firsts_after, Earliest.first, Earliest.sooner}
 use Rattle.rv_types.proofs.spaces.declare_flows.Given as goal
 
 abbrev pub invariant-loop-decl : goal.invariant-loop-decl

@@ -1,7 +1,5 @@
 use Rattle.std.proofs.Common.{◌≡◌, drop, flat_map}
-use Rattle.rv_types.specs.Names.{repeated, labels_of}
-use Rattle.rv_types.specs.Firsts.{firsts_after}
-use Rattle.rv_types.specs.Earliest.{first, sooner}
+use Rattle.rv_types.specs.{Names.repeated, Names.labels_of, Firsts.firsts_after, Earliest.first, Earliest.sooner}
 use Rattle.rv_types.proofs.spaces.declare_labels.Given as goal
 
 abbrev pub invariant-loop-decl : goal.invariant-loop-decl

@@ -1,7 +1,5 @@
 use Rattle.std.proofs.Common.{◌≡◌, drop}
-use Rattle.rv_types.specs.Names.{repeated}
-use Rattle.rv_types.specs.Firsts.{firsts_after}
-use Rattle.rv_types.specs.Earliest.{first, sooner}
+use Rattle.rv_types.specs.{Names.repeated, Firsts.firsts_after, Earliest.first, Earliest.sooner}
 use Rattle.rv_types.proofs.spaces.declare_names.Given as goal
 
 abbrev pub invariant-loop-name : goal.invariant-loop-name

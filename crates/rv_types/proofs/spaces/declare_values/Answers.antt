@@ -1,7 +1,6 @@
 use Rattle.std.proofs.Common.{◌≡◌, rules, [], ◌++◌, flat_map}
 use Rattle.rv_tree.specs.Tree.{program_tree}
-use Rattle.rv_types.specs.Names.{repeated, repeated_after, constant_names, label_names}
-use Rattle.rv_types.specs.Earliest.{first}
+use Rattle.rv_types.specs.{Names.repeated, Names.repeated_after, Names.constant_names, Names.label_names, Earliest.first}
 use Rattle.rv_types.proofs.spaces.declare_values.Goals as goal
 
 pub returns-clause-fault : goal.returns-clause-fault

@@ -1,7 +1,6 @@
 use Rattle.std.proofs.Common.{◌≡◌, ◌∙◌, ap, rules, map, flat_map}
 use Rattle.rv_tree.specs.Tree.{program_tree, constant_tree}
-use Rattle.rv_types.specs.Names.{repeated_after, constant_names, label_names, labels_of}
-use Rattle.rv_types.specs.Earliest.{first}
+use Rattle.rv_types.specs.{Names.repeated_after, Names.constant_names, Names.label_names, Names.labels_of, Earliest.first}
 use Rattle.rv_types.proofs.FirstNames.{after_firsts}
 use Rattle.rv_types.proofs.spaces.fault_between.Goals as goal
 

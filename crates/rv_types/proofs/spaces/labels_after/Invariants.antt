@@ -1,7 +1,5 @@
 use Rattle.std.proofs.Common.{◌≡◌, take, flat_map}
-use Rattle.rv_types.specs.Names.{repeated_after}
-use Rattle.rv_types.specs.Names.{labels_of}
-use Rattle.rv_types.specs.Earliest.{first}
+use Rattle.rv_types.specs.{Names.repeated_after, Names.labels_of, Earliest.first}
 use Rattle.rv_types.proofs.spaces.labels_after.Given as goal
 
 abbrev pub invariant-loop-decl : goal.invariant-loop-decl

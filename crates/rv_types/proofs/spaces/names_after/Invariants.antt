@@ -1,6 +1,5 @@
 use Rattle.std.proofs.Common.{◌≡◌, take, flat_map}
-use Rattle.rv_types.specs.Names.{repeated_after}
-use Rattle.rv_types.specs.Earliest.{first}
+use Rattle.rv_types.specs.{Names.repeated_after, Earliest.first}
 use Rattle.rv_types.proofs.spaces.names_after.Given as goal
 
 abbrev pub invariant-loop-name : goal.invariant-loop-name

@@ -1,9 +1,7 @@
 use Rattle.std.proofs.Common.{◌∙◌}
 use Rattle.rv_tree.specs.Tree.{node_tree, program_tree}
-use Rattle.rv_types.specs.Kinds.{flow_kinds}
-use Rattle.rv_types.specs.Scopes.{types_in_node}
-use Rattle.rv_types.proofs.RightNames.{all_different, flows_different}
-use Rattle.rv_types.proofs.NodeScope.{one_node, one_fault_more, node_here}
+use Rattle.rv_types.specs.{Kinds.flow_kinds, Scopes.types_in_node}
+use Rattle.rv_types.proofs.{RightNames.all_different, RightNames.flows_different, NodeScope.one_node, NodeScope.one_fault_more, NodeScope.node_here}
 use Rattle.rv_types.proofs.types.flow_types.Goals as goal
 
 pub loop-node-preserved : goal.loop-node-preserved

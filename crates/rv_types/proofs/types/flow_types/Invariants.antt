@@ -1,8 +1,6 @@
 use Rattle.std.proofs.Common.{◌≡◌, map, flat_map, take}
 use Rattle.rv_tree.specs.Tree.{node_tree, program_tree}
-use Rattle.rv_types.specs.Earliest.{first}
-use Rattle.rv_types.specs.Kinds.{flow_kinds}
-use Rattle.rv_types.specs.Scopes.{types_in_node}
+use Rattle.rv_types.specs.{Earliest.first, Kinds.flow_kinds, Scopes.types_in_node}
 use Rattle.rv_types.proofs.types.flow_types.Given as goal
 
 abbrev pub invariant-loop-node : goal.invariant-loop-node

@@ -1,10 +1,7 @@
 use Rattle.std.proofs.Common.{ap, ◌∙◌}
 use Rattle.rv_tree.specs.Tree.{node_tree}
-use Rattle.rv_types.specs.Earliest.{first}
-use Rattle.rv_types.specs.TypeTables.{flow_kinds_by}
-use Rattle.rv_types.specs.NodeTypes.{types_by}
-use Rattle.rv_types.proofs.ConstantMeanings.{types_named}
-use Rattle.rv_types.proofs.NodeScope.{scope_is, types_are}
+use Rattle.rv_types.specs.{Earliest.first, TypeTables.flow_kinds_by, NodeTypes.types_by}
+use Rattle.rv_types.proofs.{ConstantMeanings.types_named, NodeScope.scope_is, NodeScope.types_are}
 use Rattle.rv_types.proofs.types.node_types.Goals as goal
 
 pub returns-clause-kinds : goal.returns-clause-kinds

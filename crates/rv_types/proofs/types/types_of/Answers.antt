@@ -1,13 +1,10 @@
 use Rattle.std.proofs.Common.{List, [], ap, sym, ◌∙◌, map, reverse, refl, subst}
-use Rattle.rv_tree.specs.declared.tree.TypeDecl.{TypeDecl}
-use Rattle.rv_tree.specs.Tree.{program_tree, node_tree}
+use Rattle.rv_tree.specs.{declared.tree.TypeDecl.TypeDecl, Tree.program_tree, Tree.node_tree}
 use Rattle.std.specs.List.{Contains}
-use Rattle.rv_types.specs.declared.spaces.Spaces.{Spaces}
-use Rattle.rv_types.specs.Names.{type_names, repeated}
 use Rattle.rv_types.specs.TypeTables.{declared_kinds, places_from, signature_by}
-use Rattle.rv_types.proofs.FirstNames.{all_first}
+use Rattle.rv_types.specs.{declared.spaces.Spaces.Spaces, Names.type_names, Names.repeated}
 use Rattle.rv_types.proofs.RightNames.{all_different, few_labels, tables_are, node_table_is}
-use Rattle.rv_types.proofs.ConstantMeanings.{types_named}
+use Rattle.rv_types.proofs.{FirstNames.all_first, ConstantMeanings.types_named}
 use Rattle.rv_types.proofs.types.types_of.Goals as goal
 
 pub type_tables-requires-clause-names : goal.type_tables-requires-clause-names

@@ -1,11 +1,8 @@
 use Rattle.std.proofs.Common.{map, drop, ap, ◌∙◌, add-one, ◌+◌, arith}
 use Rattle.rv_tree.specs.Tree.{tree_of, trees}
-use Rattle.rv_types.specs.Types.{kinds_of_all, kind_of}
-use Rattle.rv_types.specs.Tables.{scope_of}
-use Rattle.rv_types.proofs.Joined.{first_append, sooner_assoc}
-use Rattle.rv_types.proofs.Fitting.{typed_more, fit_more, fit_end, nothing_left}
-use Rattle.rv_base.proofs.Lists.{next_of}
-use Rattle.rv_base.proofs.Truths.{and_assoc}
+use Rattle.rv_types.specs.{Types.kinds_of_all, Types.kind_of, Tables.scope_of}
+use Rattle.rv_types.proofs.{Joined.first_append, Joined.sooner_assoc, Fitting.typed_more, Fitting.fit_more, Fitting.fit_end, Fitting.nothing_left}
+use Rattle.rv_base.proofs.{Lists.next_of, Truths.and_assoc}
 use Rattle.rv_types.proofs.typing.+judge.Goals as goal
 
 pub judge_all-loop-e-preserved : goal.judge_all-loop-e-preserved

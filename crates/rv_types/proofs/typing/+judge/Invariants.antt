@@ -1,10 +1,7 @@
 use Rattle.std.proofs.Common.{◌≡◌, ◌&&◌, map, drop}
 use Rattle.rv_tree.specs.Tree.{tree_of, trees}
-use Rattle.rv_types.specs.Earliest.{first, sooner}
-use Rattle.rv_types.specs.Parts.{faults_of_all}
 use Rattle.rv_types.specs.Types.{all_typed, all_suit, are_constant, fit, kinds_of_all, own_type_fault}
-use Rattle.rv_types.specs.Tables.{scope_of}
-use Rattle.rv_types.specs.declared.typed.Kind.TheVariants.{Bool}
+use Rattle.rv_types.specs.{Earliest.first, Earliest.sooner, Parts.faults_of_all, Tables.scope_of, declared.typed.Kind.TheVariants.Bool}
 use Rattle.rv_types.proofs.typing.+judge.Given as goal
 
 abbrev pub invariant-judge_all-loop-e : goal.invariant-judge_all-loop-e

@@ -1,7 +1,6 @@
 use Rattle.std.proofs.Common.{◌≡◌, ◌&&◌, not, map, drop}
 use Rattle.rv_tree.specs.Tree.{tree_of, trees}
-use Rattle.rv_types.specs.Constants.{flags_of_all, at_most_one}
-use Rattle.rv_types.specs.ValueTables.{known_in, at_most_after}
+use Rattle.rv_types.specs.{Constants.flags_of_all, Constants.at_most_one, ValueTables.known_in, ValueTables.at_most_after}
 use Rattle.rv_types.proofs.values.+evaluate.Given as goal
 
 abbrev pub invariant-is_at_most_one-loop-e : goal.invariant-is_at_most_one-loop-e

@@ -1,8 +1,7 @@
-use Rattle.std.proofs.Common.{◌≡◌, ◌*ℤ◌, rules}
+use Rattle.std.proofs.{Common.◌≡◌, Common.◌*ℤ◌, Common.rules, lemmas.Int.to_z-of_z, lemmas.Int.fits_signed_mul}
 use mir.Val.{SFits, to_z, of_z}
 use mir.Syntax.{w128}
 use lib.IntN.{ℤ}
-use Rattle.std.proofs.lemmas.Int.{to_z-of_z, fits_signed_mul}
 use Rattle.rv_base.specs.Limits.{too_heavy}
 use Rattle.rv_types.proofs.weighing.product.Goals as goal
 

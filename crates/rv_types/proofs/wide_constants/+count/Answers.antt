@@ -1,8 +1,7 @@
 use Rattle.std.proofs.Common.{◌+◌, ◌∷◌, ◌&&◌, not, map, drop, sym, ap, ◌∙◌}
 use Rattle.rv_tree.specs.Tree.{tree_of, trees}
-use Rattle.rv_types.specs.Constants.{flag_in, flags_of_all}
-use Rattle.rv_types.specs.ValueTables.{at_most_after, value_by}
 use Rattle.rv_types.specs.WideConstants.{lesser, first_wide, first_wide_of_all}
+use Rattle.rv_types.specs.{Constants.flag_in, Constants.flags_of_all, ValueTables.at_most_after, ValueTables.value_by}
 use Rattle.rv_types.proofs.WideParts.{rest_is, seen_more, lesser_more}
 use Rattle.rv_types.proofs.wide_constants.+count.Goals as goal
 

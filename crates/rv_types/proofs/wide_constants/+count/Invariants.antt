@@ -1,9 +1,7 @@
 use Rattle.std.proofs.Common.{◌≡◌, ◌+◌, ◌*◌, ◌&&◌, not, max, map, drop}
-use Rattle.rv_tree.specs.declared.tree.Expr.{size-Expr}
-use Rattle.rv_tree.specs.Tree.{tree_of, trees}
-use Rattle.rv_types.specs.Constants.{flags_of_all, at_most_one}
-use Rattle.rv_types.specs.ValueTables.{at_most_after, value_by}
-use Rattle.rv_types.specs.WideConstants.{lesser, first_wide_of_all}
+use Rattle.rv_tree.specs.{declared.tree.Expr.size-Expr, Tree.tree_of, Tree.trees}
+use Rattle.rv_types.specs.{Constants.flags_of_all, Constants.at_most_one, ValueTables.at_most_after, ValueTables.value_by, WideConstants.lesser}
+use Rattle.rv_types.specs.{WideConstants.first_wide_of_all}
 use Rattle.rv_types.proofs.wide_constants.+count.Given as goal
 
 abbrev pub invariant-count_all-loop-e : goal.invariant-count_all-loop-e

@@ -1,10 +1,8 @@
 use Rattle.std.proofs.Common.{◌≡◌, ◌<◌, List, length, take, reverse, get_or, sym, ap, ◌∙◌, subst, arith}
 use Rattle.std.proofs.lemmas.List.{length-take-le, length-map}
-use Rattle.rv_tree.specs.declared.tree.ConstDecl.{ConstDecl}
-use Rattle.rv_tree.specs.Tree.{constant_tree, program_tree, tree_of}
+use Rattle.rv_tree.specs.{declared.tree.ConstDecl.ConstDecl, Tree.constant_tree, Tree.program_tree, Tree.tree_of}
 use Rattle.rv_types.specs.WideConstants.{lesser, first_wide, first_wide_constant}
-use Rattle.rv_types.proofs.Turned.{one_mapped}
-use Rattle.rv_types.proofs.WideParts.{values_sized, first_values}
+use Rattle.rv_types.proofs.{Turned.one_mapped, WideParts.values_sized, WideParts.first_values}
 use Rattle.rv_types.proofs.wide_constants.wide_constant.Goals as goal
 
 pub slice_bounds-values_before-end : goal.slice_bounds-values_before-end

@@ -1,9 +1,7 @@
 use Rattle.std.proofs.Common.{◌∙◌, ◌<◌, Bool, List, Option, Some, None, length, subst, sym, arith, below_more}
-use Rattle.rv_diagram.specs.Nodes.{Diagrams, Valuation}
-use Rattle.rv_diagram.specs.declared.frozen.Frozen.{Frozen}
+use Rattle.rv_diagram.specs.{Nodes.Diagrams, Nodes.Valuation, declared.frozen.Frozen.Frozen}
 use Rattle.rv_proofs.specs.Ranges.{IsControlSet}
-use Rattle.rv_symbolic.specs.Represented.{IsRelationOf}
-use Rattle.rv_symbolic.specs.Words.{IsLeastOf, IsLeastWord, IsFalseIn}
+use Rattle.rv_symbolic.specs.{Represented.IsRelationOf, Words.IsLeastOf, Words.IsLeastWord, Words.IsFalseIn}
 use Rattle.rv_walk.specs.Trails.{layer_at}
 use Rattle.rv_walk.proofs.Trailing.{layer_control}
 use Rattle.rv_walk.proofs.path.first_failing.Goals as goal

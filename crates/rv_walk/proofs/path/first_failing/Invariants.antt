@@ -1,8 +1,7 @@
 use Rattle.std.proofs.Common.{◌≡◌, ◌<◌, ℕ}
 use Rattle.rv_diagram.specs.Nodes.{Valuation}
 use Rattle.rv_proofs.specs.Systems.{System}
-use Rattle.rv_symbolic.specs.Represented.{IsRelationOf}
-use Rattle.rv_symbolic.specs.Words.{IsFalseIn}
+use Rattle.rv_symbolic.specs.{Represented.IsRelationOf, Words.IsFalseIn}
 use Rattle.rv_walk.specs.Trails.{layer_at, AreControlSets}
 use Rattle.rv_walk.proofs.path.first_failing.Given as goal
 

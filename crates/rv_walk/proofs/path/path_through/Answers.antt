@@ -1,8 +1,7 @@
 use Rattle.std.proofs.Common.{Bool, List, Option, Some, None, subst, sym, inr}
 use Rattle.rv_diagram.specs.Nodes.{Diagrams}
 use Rattle.rv_symbolic.specs.Represented.{IsRelationOf}
-use Rattle.rv_walk.specs.declared.path.Failing.{Failing}
-use Rattle.rv_walk.specs.Trails.{IsFailing, IsFirstFailing, IsTrailed}
+use Rattle.rv_walk.specs.{declared.path.Failing.Failing, Trails.IsFailing, Trails.IsFirstFailing, Trails.IsTrailed}
 use Rattle.rv_walk.proofs.path.path_through.Goals as goal
 
 pub trail-requires : goal.trail-requires

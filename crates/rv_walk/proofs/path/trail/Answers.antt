@@ -1,11 +1,8 @@
 use Rattle.std.proofs.Common.{◌≡◌, ◌∙◌, ◌+◌, ◌-◌, ◌∷◌, [], Bool, List, Option, Some, None, length, length-append, get_or, ap, subst, sym, arith}
 use Rattle.std.proofs.lemmas.Option.{get_or_from_slice_get}
-use Rattle.rv_diagram.specs.Nodes.{Diagrams, Valuation}
-use Rattle.rv_diagram.specs.declared.frozen.Frozen.{Frozen}
-use Rattle.rv_proofs.specs.Systems.{System}
-use Rattle.rv_proofs.specs.Ranges.{IsControlSet}
-use Rattle.rv_symbolic.specs.Represented.{IsRelationOf}
-use Rattle.rv_symbolic.specs.Words.{IsLeastOf, IsLeastWord, LeadsTo}
+use Rattle.rv_diagram.specs.{Nodes.Diagrams, Nodes.Valuation, declared.frozen.Frozen.Frozen}
+use Rattle.rv_proofs.specs.{Systems.System, Ranges.IsControlSet}
+use Rattle.rv_symbolic.specs.{Represented.IsRelationOf, Words.IsLeastOf, Words.IsLeastWord, Words.LeadsTo}
 use Rattle.rv_walk.specs.Trails.{IsTrail}
 use Rattle.rv_walk.proofs.Trailing.{layer_control, trail_more, trail_broken}
 use Rattle.rv_walk.proofs.path.trail.Goals as goal

@@ -2,8 +2,7 @@ use Rattle.std.proofs.Common.{◌≡◌, Option, false}
 use Rattle.std.specs.Prelude.{MatchOption}
 use Rattle.rv_diagram.specs.Nodes.{Valuation}
 use Rattle.rv_symbolic.proofs.Extending.{map_ok}
-use Rattle.rv_walk.specs.declared.sets.Extended.{Extended}
-use Rattle.rv_walk.specs.Extended.{fresh_of, IsExtended}
+use Rattle.rv_walk.specs.{declared.sets.Extended.Extended, Extended.fresh_of, Extended.IsExtended}
 use Rattle.rv_walk.proofs.Joining.{extended_found}
 use Rattle.rv_walk.proofs.sets.extend.Goals as goal
 

@@ -1,13 +1,9 @@
 use Rattle.std.proofs.Common.{Bool, true, sym, subst}
 use Rattle.rv_diagram.specs.Nodes.{Diagrams}
-use Rattle.rv_proofs.specs.Cases.{AreCases}
+use Rattle.rv_proofs.specs.{Cases.AreCases, Ranges.IsControlSet}
 use Rattle.rv_symbolic.specs.Represented.{IsRelationOf}
-use Rattle.rv_proofs.specs.Ranges.{IsControlSet}
-use Rattle.rv_walk.specs.Ends.{has, IsGoodCertificate}
-use Rattle.rv_walk.specs.Plain.{ArePlain}
-use Rattle.rv_walk.specs.Walks.{IsDone}
-use Rattle.rv_walk.proofs.Certifying.{plain}
-use Rattle.rv_walk.proofs.Ending.{done_bad, done_good}
+use Rattle.rv_walk.specs.{Ends.has, Ends.IsGoodCertificate, Plain.ArePlain, Walks.IsDone}
+use Rattle.rv_walk.proofs.{Certifying.plain, Ending.done_bad, Ending.done_good}
 use Rattle.rv_walk.proofs.walking.end_of.Goals as goal
 
 pub returns-then-not-good-clause-ends : goal.returns-then-not-good-clause-ends

@@ -1,12 +1,9 @@
 use Rattle.std.proofs.Common.{◌≡◌, ◌∙◌, ◌++◌, ◌∷◌, [], ℕ, true, List, ap, sym, subst}
-use Rattle.rv_diagram.specs.Nodes.{IsOrderedOver, value_of}
-use Rattle.rv_diagram.specs.declared.frozen.Frozen.{Frozen}
+use Rattle.rv_diagram.specs.{Nodes.IsOrderedOver, Nodes.value_of, declared.frozen.Frozen.Frozen}
 use Rattle.rv_symbolic.specs.Represented.{IsRelationOf}
-use Rattle.rv_symbolic.proofs.Extending.{grows_extends}
-use Rattle.rv_symbolic.proofs.Scheduling.{relation_after}
+use Rattle.rv_symbolic.proofs.{Extending.grows_extends, Scheduling.relation_after}
 use Rattle.rv_walk.specs.Walks.{IsWalk}
-use Rattle.rv_walk.proofs.Rounds.{explored_of}
-use Rattle.rv_walk.proofs.Stages.{walk_start}
+use Rattle.rv_walk.proofs.{Rounds.explored_of, Stages.walk_start}
 use Rattle.rv_walk.proofs.walking.explore_in.Goals as goal
 
 pub thaw-requires : goal.thaw-requires

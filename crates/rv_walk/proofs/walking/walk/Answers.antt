@@ -1,9 +1,7 @@
 use Rattle.std.proofs.Common.{subst, Result, IfOk}
 use Rattle.rv_diagram.specs.declared.store.StoreFault.{StoreFault}
 use Rattle.rv_symbolic.proofs.Extending.{map_ok}
-use Rattle.rv_walk.specs.declared.end.BoxEnd.{BoxEnd}
-use Rattle.rv_walk.specs.Ends.{IsEnd}
-use Rattle.rv_walk.specs.Plain.{IsPlainEnd}
+use Rattle.rv_walk.specs.{declared.end.BoxEnd.BoxEnd, Ends.IsEnd, Plain.IsPlainEnd}
 use Rattle.rv_walk.proofs.Ending.{good_exactly, good_decides}
 use Rattle.rv_walk.proofs.walking.walk.Goals as goal
 

@@ -1,7 +1,6 @@
 use Rattle.std.proofs.Common.{◌≡◌, ◌+◌, ◌∙◌, ◌++◌, ◌∷◌, [], List, length, subst, sym, ap, ℕ}
 use Rattle.std.proofs.lemmas.List.{length_push}
-use Rattle.rv_proofs.specs.declared.certificate.Entry.{Entry}
-use Rattle.rv_proofs.specs.declared.report.Case.{Case}
+use Rattle.rv_proofs.specs.{declared.certificate.Entry.Entry, declared.report.Case.Case}
 use Rattle.rv_widen.specs.Ranged.{IsRangedEntry, AreRangedEntries}
 use Rattle.rv_widen.proofs.Assembling.{entries_more}
 use Rattle.rv_base.proofs.Lists.{none_left, seam_along, seam_at}

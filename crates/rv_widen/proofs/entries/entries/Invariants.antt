@@ -1,7 +1,6 @@
 use Rattle.std.proofs.Common.{◌≡◌, ◌+◌, ◌++◌, length}
 use Rattle.rv_proofs.specs.Systems.{System}
-use Rattle.rv_widen.specs.Given.{IsPlan, AreCasesOf}
-use Rattle.rv_widen.specs.Ranged.{AreRangedEntries}
+use Rattle.rv_widen.specs.{Given.IsPlan, Given.AreCasesOf, Ranged.AreRangedEntries}
 use Rattle.rv_widen.proofs.entries.entries.Given as goal
 
 abbrev pub invariant-loop-case : goal.invariant-loop-case

@@ -2,8 +2,7 @@ use Rattle.std.proofs.Common.{◌+◌, List, subst, sym}
 use Rattle.rv_rows.specs.declared.farkas.Multipliers.{Multipliers}
 use Rattle.rv_proofs.specs.Ranges.{IsRecord}
 use Rattle.rv_widen.specs.Ranged.{AreReach}
-use Rattle.rv_widen.proofs.Assembling.{reach_more}
-use Rattle.rv_widen.proofs.Fitting.{kept_at}
+use Rattle.rv_widen.proofs.{Assembling.reach_more, Fitting.kept_at}
 use Rattle.rv_widen.proofs.entries.reach_rows.Goals as goal
 
 pub reach_row-requires-clause-system : goal.reach_row-requires-clause-system

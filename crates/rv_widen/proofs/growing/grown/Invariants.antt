@@ -1,5 +1,4 @@
-use Rattle.rv_proofs.specs.Systems.{System}
-use Rattle.rv_proofs.specs.Ranges.{AreKept}
+use Rattle.rv_proofs.specs.{Systems.System, Ranges.AreKept}
 use Rattle.rv_widen.specs.Given.{IsSized, AreCasesOf}
 use Rattle.rv_widen.proofs.growing.grown.Given as goal
 

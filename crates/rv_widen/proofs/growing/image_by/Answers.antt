@@ -1,6 +1,5 @@
 use Rattle.std.proofs.Common.{length}
-use Rattle.rv_widen.proofs.Fitting.{many_updates, one_width}
-use Rattle.rv_widen.proofs.Joining.{kept_poly, kept_columns, poly_kept}
+use Rattle.rv_widen.proofs.{Fitting.many_updates, Fitting.one_width, Joining.kept_poly, Joining.kept_columns, Joining.poly_kept}
 use Rattle.rv_widen.proofs.growing.image_by.Goals as goal
 
 pub after-requires-clause-poly : goal.after-requires-clause-poly

@@ -1,6 +1,5 @@
 use Rattle.std.specs.Prelude.{IfSome}
-use Rattle.rv_proofs.specs.Systems.{System}
-use Rattle.rv_proofs.specs.Ranges.{AreKept}
+use Rattle.rv_proofs.specs.{Systems.System, Ranges.AreKept}
 use Rattle.rv_widen.specs.Given.{IsSized, AreCasesOf}
 use Rattle.rv_widen.proofs.growing.images_of.Given as goal
 

@@ -1,6 +1,5 @@
 use Rattle.std.proofs.Common.{◌≤◌, length, All}
-use Rattle.rv_proofs.specs.Systems.{System}
-use Rattle.rv_proofs.specs.Ranges.{AreKept}
+use Rattle.rv_proofs.specs.{Systems.System, Ranges.AreKept}
 use Rattle.rv_widen.specs.Given.{IsKeptRow}
 use Rattle.rv_widen.proofs.thinning.further.Given as goal
 

@@ -1,5 +1,4 @@
-use Rattle.rv_proofs.specs.Systems.{System}
-use Rattle.rv_proofs.specs.Ranges.{AreKept}
+use Rattle.rv_proofs.specs.{Systems.System, Ranges.AreKept}
 use Rattle.rv_widen.proofs.thinning.thinned.Given as goal
 
 abbrev pub invariant-loop-place : goal.invariant-loop-place

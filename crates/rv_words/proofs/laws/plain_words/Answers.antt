@@ -1,8 +1,7 @@
 use Rattle.std.proofs.Common.{◌≡◌, ◌∙◌, ℕ, List, [], ◌∷◌, Some, true, codes, option_map, refl}
 use Rattle.std.specs.List.{fold}
 use Rattle.clap.specs.Faults.{defaults_fault}
-use Rattle.rv_words.specs.Asked.{check, make, prove, replay, tour}
-use Rattle.rv_words.specs.Words.{digits_of}
+use Rattle.rv_words.specs.{Asked.check, Asked.make, Asked.prove, Asked.replay, Asked.tour, Words.digits_of}
 use Rattle.rv_words.proofs.Levels.{by_check, by_make, by_prove, by_replay, by_tour, by_words, leaf, meant, start}
 use Rattle.rv_words.proofs.Plain.{placed, plain_fault}
 use Rattle.rv_words.proofs.laws.plain_words.Goals as goal

@@ -1,6 +1,5 @@
 use Rattle.std.proofs.Common.{refl}
-use Rattle.clap.specs.Walk.{nothing_held}
-use Rattle.clap.specs.Simple.{argument_words, built}
+use Rattle.clap.specs.{Walk.nothing_held, Simple.argument_words, Simple.built}
 use Rattle.rv_words.specs.Reaver.{reaver}
 use Rattle.rv_words.proofs.Takes.{built_free}
 use Rattle.rv_words.proofs.laws.taken_words.Goals as goal

@@ -1,10 +1,8 @@
 use Rattle.std.proofs.Common.{◌≡◌, ◌∙◌, ◌++◌, ap, ap₂, ℕ, List, [], ◌∷◌, Some, None, true, codes, option_map, refl}
 use Rattle.std.specs.List.{fold}
-use Rattle.clap.specs.Faults.{turn_fault, walk_fault}
-use Rattle.clap.specs.Walk.{Walk, option, settled, walked}
+use Rattle.clap.specs.{Faults.turn_fault, Faults.walk_fault, Walk.Walk, Walk.option, Walk.settled, Walk.walked}
 use Rattle.clap.proofs.OnLiterals.{clap_on_literals}
-use Rattle.rv_words.specs.Asked.{prove}
-use Rattle.rv_words.specs.Words.{digits_of}
+use Rattle.rv_words.specs.{Asked.prove, Words.digits_of}
 use Rattle.rv_words.proofs.Levels.{by_plain, by_prove, leaf, meant, no_more, past_word, start}
 use Rattle.rv_words.proofs.Plain.{placed, plain_fault, plain_walk, plain_walk_fault}
 use Rattle.rv_words.proofs.laws.words_with_nodes.Goals as goal

@@ -1,6 +1,5 @@
 use Rattle.std.proofs.Common.{◌∙◌, rules}
-use Rattle.clap.specs.declared.parser.matches.ArgMatches.TheViews.{out-ArgMatches}
-use Rattle.clap.specs.Words.{rows_of, found_of}
+use Rattle.clap.specs.{declared.parser.matches.ArgMatches.TheViews.out-ArgMatches, Words.rows_of, Words.found_of}
 use Rattle.rv_words.specs.Words.{texts}
 use Rattle.rv_words.proofs.Parsed.{name_and_rows, parsed, refused}
 use Rattle.rv_words.proofs.reading.read_words.Goals as goal

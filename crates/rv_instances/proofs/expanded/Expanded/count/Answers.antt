@@ -1,7 +1,5 @@
 use Rattle.std.proofs.Common.{◌≤◌, length, ap, sym, ◌∙◌, subst, arith}
-use Rattle.rv_tree.specs.Bounded.{most}
-use Rattle.rv_tree.specs.Places.{flows}
-use Rattle.rv_tree.specs.Tree.{NodeTree, program_tree}
+use Rattle.rv_tree.specs.{Bounded.most, Places.flows, Tree.NodeTree, Tree.program_tree}
 use Rattle.rv_types.specs.Instances.{name_at}
 use Rattle.rv_instances.proofs.ExpandedLaws.{node_few}
 use Rattle.rv_instances.proofs.expanded.Expanded.count.Goals as goal

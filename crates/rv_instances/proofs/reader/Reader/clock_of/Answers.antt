@@ -1,10 +1,7 @@
 use Rattle.std.proofs.Common.{sym, ◌∙◌, ap, subst}
 use Rattle.rv_tree.specs.Tree.{tree_of}
-use Rattle.rv_types.specs.Clocks.{pace}
-use Rattle.rv_types.specs.Instances.{taken}
-use Rattle.rv_types.specs.declared.typed.Clock.TheVariants.{Base}
-use Rattle.rv_instances.specs.NumberedNeeds.{node_read, numbers_of}
-use Rattle.rv_instances.specs.Layouts.{IsWithin}
+use Rattle.rv_types.specs.{Clocks.pace, Instances.taken, declared.typed.Clock.TheVariants.Base}
+use Rattle.rv_instances.specs.{NumberedNeeds.node_read, NumberedNeeds.numbers_of, Layouts.IsWithin}
 use Rattle.rv_instances.proofs.ClockBounds.{low_within, taken_low, pace_low}
 use Rattle.rv_instances.proofs.reader.Reader.clock_of.Goals as goal
 

@@ -1,8 +1,7 @@
 use Rattle.std.proofs.Common.{sym, subst}
 use Rattle.rv_tree.specs.Places.{site_of}
 use Rattle.rv_types.specs.Instances.{clock_of}
-use Rattle.rv_instances.specs.Layouts.{IsWithin}
-use Rattle.rv_instances.specs.NumberedNeeds.{node_read, numbers_of}
+use Rattle.rv_instances.specs.{Layouts.IsWithin, NumberedNeeds.node_read, NumberedNeeds.numbers_of}
 use Rattle.rv_instances.proofs.ClockBounds.{low_within, clock_low}
 use Rattle.rv_instances.proofs.reader.Reader.clock_of_flow.Goals as goal
 

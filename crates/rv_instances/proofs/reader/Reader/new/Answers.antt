@@ -1,12 +1,7 @@
 use Rattle.std.proofs.Common.{length, ap, ◌∙◌, arith}
-use Rattle.rv_tree.specs.Places.{flows}
-use Rattle.rv_tree.specs.Tree.{NodeTree}
-use Rattle.rv_instances.specs.declared.layout.Laid.{Laid}
-use Rattle.rv_instances.specs.Expanded.{program_of, main_of}
-use Rattle.rv_instances.proofs.BaseClocks.{first_few}
-use Rattle.rv_instances.proofs.ExpandedLaws.{node_few}
-use Rattle.rv_instances.proofs.LaidFlows.{laid_size}
-use Rattle.rv_instances.proofs.LayoutLaws.{laid_there}
+use Rattle.rv_tree.specs.{Places.flows, Tree.NodeTree}
+use Rattle.rv_instances.specs.{declared.layout.Laid.Laid, Expanded.program_of, Expanded.main_of}
+use Rattle.rv_instances.proofs.{BaseClocks.first_few, ExpandedLaws.node_few, LaidFlows.laid_size, LayoutLaws.laid_there}
 use Rattle.rv_instances.proofs.reader.Reader.new.Goals as goal
 
 pub returns-clause-reader : goal.returns-clause-reader

@@ -1,9 +1,8 @@
 use Rattle.std.proofs.Common.{◌+◌, ◌<◌, length, arith, sym, ap, ◌∙◌, subst}
-use Rattle.rv_invfile.specs.Ahead.{after_one}
-use Rattle.rv_invfile.specs.Readers.{Ahead}
+use Rattle.rv_invfile.specs.{Ahead.after_one, Readers.Ahead}
 use Rattle.rv_invfile.proofs.Taking.{kept, took, stands, goes-on}
-use Rattle.rv_invfile.proofs.records.Records.advance.Goals as goal
 use Rattle.rv_invfile.proofs.records.Records.advance.Goals.{in-Ok, in-Err}
+use Rattle.rv_invfile.proofs.records.Records.advance.Goals as goal
 
 pub invariant_of-self : goal.invariant_of-self
 invariant_of-self c =

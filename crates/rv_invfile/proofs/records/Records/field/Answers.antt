@@ -1,7 +1,5 @@
 use Rattle.std.proofs.Common.{ap, ◌∙◌}
-use Rattle.rv_invfile.specs.Readers.{Ahead}
-use Rattle.rv_invfile.specs.Forms.{field}
-use Rattle.rv_invfile.specs.Ahead.{here}
+use Rattle.rv_invfile.specs.{Readers.Ahead, Forms.field, Ahead.here}
 use Rattle.rv_invfile.proofs.Taking.{standing-field, standing-none}
 use Rattle.rv_invfile.proofs.records.Records.field.Goals as goal
 

@@ -1,9 +1,7 @@
 use Rattle.std.proofs.Common.{◌≡◌, ◌++◌, List, length, refl, subst, All}
-use Rattle.rv_rows.specs.declared.linear.Row.{Row}
-use Rattle.rv_rows.specs.Forms.{values}
+use Rattle.rv_rows.specs.{declared.linear.Row.Row, Forms.values}
 use Rattle.rv_poly.specs.Images.{IsImage, IsNarrow, StaysWithin}
-use Rattle.rv_poly.proofs.ListLemmas.{met-fits, met-few, met-contains, met-whole}
-use Rattle.rv_poly.proofs.ImageLemmas.{both-narrow}
+use Rattle.rv_poly.proofs.{ListLemmas.met-fits, ListLemmas.met-few, ListLemmas.met-contains, ListLemmas.met-whole, ImageLemmas.both-narrow}
 use Rattle.rv_poly.proofs.poly.Poly.after.Goals as goal
 
 pub updated_rows-requires-clause-fits : goal.updated_rows-requires-clause-fits

@@ -1,7 +1,6 @@
 use Rattle.std.proofs.Common.{ap, ◌∙◌, true≢false}
 use Rattle.std.specs.Prelude.{is_some}
-use Rattle.rv_poly.proofs.WholeLemmas.{none-left}
-use Rattle.rv_poly.proofs.GuideLemmas.{whole-has, whole-replay, whole-size}
+use Rattle.rv_poly.proofs.{WholeLemmas.none-left, GuideLemmas.whole-has, GuideLemmas.whole-replay, GuideLemmas.whole-size}
 use Rattle.rv_poly.proofs.poly.Poly.whole_point.Goals as goal
 
 pub candidate-requires-clause-fits : goal.candidate-requires-clause-fits

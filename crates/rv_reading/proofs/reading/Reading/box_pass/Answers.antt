@@ -1,7 +1,6 @@
 use Rattle.std.proofs.Common.{◌≤◌, ◌^◌, ◌↔◌, List, ℤ, All, IfOk, sym, subst}
 use Rattle.std.specs.Int.RustNames.{unsigned_abs}
-use Rattle.rv_proofs.specs.Boxes.{BoxClaim, HasGoodBox}
-use Rattle.rv_proofs.specs.Reached.{IsLeastClosed, AreLayers}
+use Rattle.rv_proofs.specs.{Boxes.BoxClaim, Boxes.HasGoodBox, Reached.IsLeastClosed, Reached.AreLayers}
 use Rattle.rv_walk.specs.Ends.{IsGoodEnd}
 use Rattle.rv_reading.specs.Read.{system_read}
 use Rattle.rv_reading.proofs.Representing.{is_pass}

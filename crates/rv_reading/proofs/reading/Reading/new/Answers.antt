@@ -1,7 +1,6 @@
 use Rattle.rv_control.specs.Control.{control_of}
 use Rattle.rv_proofs.specs.Systems.{IsSystem}
-use Rattle.rv_reading.proofs.Columns.{columns_many}
-use Rattle.rv_reading.proofs.Representing.{questions_kept}
+use Rattle.rv_reading.proofs.{Columns.columns_many, Representing.questions_kept}
 use Rattle.rv_reading.proofs.reading.Reading.new.Goals as goal
 
 pub returns-clause-read : goal.returns-clause-read

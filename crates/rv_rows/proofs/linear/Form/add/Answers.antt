@@ -1,8 +1,6 @@
-use Rattle.std.proofs.Common.{rules, ◌+ℤ◌, FitsSigned}
+use Rattle.std.proofs.{Common.rules, Common.◌+ℤ◌, Common.FitsSigned, lemmas.Int.to_z-of_z}
 use Rattle.std.specs.Int.{w128}
-use Rattle.std.proofs.lemmas.Int.{to_z-of_z}
-use Rattle.rv_rows.proofs.IntLemmas.{fits_below}
-use Rattle.rv_rows.proofs.FormLemmas.{sum_value}
+use Rattle.rv_rows.proofs.{IntLemmas.fits_below, FormLemmas.sum_value}
 use Rattle.rv_rows.proofs.linear.Form.add.Goals as goal
 
 pub returns-clause-at_points : goal.returns-clause-at_points

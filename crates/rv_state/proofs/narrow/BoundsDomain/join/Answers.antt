@@ -1,5 +1,4 @@
-use Rattle.rv_state.proofs.JoinLemmas.{both-one-width}
-use Rattle.rv_state.proofs.NarrowLemmas.{spans-narrowed, points-narrowed}
+use Rattle.rv_state.proofs.{JoinLemmas.both-one-width, NarrowLemmas.spans-narrowed, NarrowLemmas.points-narrowed}
 use Rattle.rv_state.proofs.narrow.BoundsDomain.join.Goals as goal
 
 pub joined-requires-clause-widths : goal.joined-requires-clause-widths

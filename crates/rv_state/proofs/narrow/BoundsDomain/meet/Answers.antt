@@ -1,5 +1,4 @@
-use Rattle.rv_state.proofs.JoinLemmas.{both-one-width}
-use Rattle.rv_state.proofs.NarrowLemmas.{spans-narrowed, points-narrowed}
+use Rattle.rv_state.proofs.{JoinLemmas.both-one-width, NarrowLemmas.spans-narrowed, NarrowLemmas.points-narrowed}
 use Rattle.rv_state.proofs.narrow.BoundsDomain.meet.Goals as goal
 
 pub meet-requires-clause-widths : goal.meet-requires-clause-widths

@@ -1,6 +1,5 @@
 use Rattle.std.proofs.Common.{refl}
-use Rattle.rv_state.proofs.PointLemmas.{updated-there}
-use Rattle.rv_state.proofs.CaseLemmas.{only-updated, successors-there, successors-only}
+use Rattle.rv_state.proofs.{PointLemmas.updated-there, CaseLemmas.only-updated, CaseLemmas.successors-there, CaseLemmas.successors-only}
 use Rattle.rv_state.proofs.value.Abstract.post.Goals as goal
 
 pub returns-clause-contains : goal.returns-clause-contains

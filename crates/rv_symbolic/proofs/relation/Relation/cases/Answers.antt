@@ -1,6 +1,5 @@
-use Rattle.rv_symbolic.proofs.Extending.{map_ok}
+use Rattle.rv_symbolic.proofs.{Extending.map_ok, Parting.parted_both}
 use Rattle.rv_symbolic.specs.Parted.{HasSides}
-use Rattle.rv_symbolic.proofs.Parting.{parted_both}
 use Rattle.rv_symbolic.proofs.relation.Relation.cases.Goals as goal
 
 pub returns-clause-parted : goal.returns-clause-parted

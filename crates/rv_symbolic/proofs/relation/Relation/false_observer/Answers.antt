@@ -1,6 +1,5 @@
 use Rattle.rv_symbolic.specs.Words.{IsFirstOf, IsFalseAt}
-use Rattle.rv_symbolic.proofs.Extending.{map_ok}
-use Rattle.rv_symbolic.proofs.Wording.{false_least}
+use Rattle.rv_symbolic.proofs.{Extending.map_ok, Wording.false_least}
 use Rattle.rv_symbolic.proofs.relation.Relation.false_observer.Goals as goal
 
 pub returns-clause-exact : goal.returns-clause-exact

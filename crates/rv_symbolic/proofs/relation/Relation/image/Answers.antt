@@ -1,9 +1,7 @@
 use Rattle.std.proofs.Common.{List, subst, sym}
-use Rattle.rv_diagram.specs.declared.store.several.Part.{Part}
-use Rattle.rv_symbolic.specs.Linked.{AreMet, quantified}
-use Rattle.rv_diagram.specs.Several.{ArePartRefs, IsSchedule}
+use Rattle.rv_diagram.specs.{declared.store.several.Part.Part, Several.ArePartRefs, Several.IsSchedule}
+use Rattle.rv_symbolic.specs.{Linked.AreMet, Linked.quantified, Stepped.IsProjected}
 use Rattle.rv_proofs.specs.Scopes.{IsIn}
-use Rattle.rv_symbolic.specs.Stepped.{IsProjected}
 use Rattle.rv_symbolic.proofs.Projecting.{forth, copies_above, image_of}
 use Rattle.rv_symbolic.proofs.relation.Relation.image.Goals as goal
 

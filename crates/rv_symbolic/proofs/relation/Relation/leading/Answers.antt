@@ -1,10 +1,7 @@
 use Rattle.std.proofs.Common.{List, subst, sym}
-use Rattle.rv_diagram.specs.Several.{ArePartRefs}
-use Rattle.rv_diagram.specs.declared.store.several.Part.{Part}
+use Rattle.rv_diagram.specs.{Several.ArePartRefs, declared.store.several.Part.Part}
 use Rattle.rv_symbolic.specs.Words.{IsFirstOf, LeadsAt}
-use Rattle.rv_symbolic.proofs.Extending.{map_ok}
-use Rattle.rv_symbolic.proofs.Projecting.{forth}
-use Rattle.rv_symbolic.proofs.Wording.{leading_least}
+use Rattle.rv_symbolic.proofs.{Extending.map_ok, Projecting.forth, Wording.leading_least}
 use Rattle.rv_symbolic.proofs.relation.Relation.leading.Goals as goal
 
 pub returns-clause-exact : goal.returns-clause-exact

@@ -1,7 +1,6 @@
 use Rattle.std.proofs.Common.{ℕ, List, length, subst, arith}
 use Rattle.rv_diagram.specs.Nodes.{valuation_of}
-use Rattle.rv_symbolic.specs.Variables.{AreAllBut}
-use Rattle.rv_symbolic.specs.Linked.{AreParted, AreScheduled}
+use Rattle.rv_symbolic.specs.{Variables.AreAllBut, Linked.AreParted, Linked.AreScheduled}
 use Rattle.rv_symbolic.proofs.Scheduling.{scheduled_links, have_after, parts_after}
 use Rattle.rv_symbolic.proofs.relation.Relation.new.Goals as goal
 

@@ -1,12 +1,8 @@
 use Rattle.std.proofs.Common.{List, subst, sym}
-use Rattle.rv_diagram.specs.Nodes.{IsOrderedOver, Diagrams}
-use Rattle.rv_diagram.specs.Several.{ArePartRefs, IsSchedule}
-use Rattle.rv_diagram.specs.declared.store.several.Part.{Part}
-use Rattle.rv_symbolic.specs.Linked.{AreMet, quantified}
+use Rattle.rv_diagram.specs.{Nodes.IsOrderedOver, Nodes.Diagrams, Several.ArePartRefs, Several.IsSchedule, declared.store.several.Part.Part}
+use Rattle.rv_symbolic.specs.{Linked.AreMet, Linked.quantified, Stepped.IsProjected}
 use Rattle.rv_proofs.specs.Scopes.{IsIn}
-use Rattle.rv_symbolic.specs.Stepped.{IsProjected}
-use Rattle.rv_symbolic.proofs.Extending.{map_ok}
-use Rattle.rv_symbolic.proofs.Projecting.{back, copied_control, raised_ordered, preimage_of}
+use Rattle.rv_symbolic.proofs.{Extending.map_ok, Projecting.back, Projecting.copied_control, Projecting.raised_ordered, Projecting.preimage_of}
 use Rattle.rv_symbolic.proofs.relation.Relation.preimage.Goals as goal
 
 pub projected-answer-requires-clause-set : goal.projected-answer-requires-clause-set

@@ -1,8 +1,6 @@
 use Rattle.std.proofs.Common.{List, subst, sym}
-use Rattle.rv_diagram.specs.Several.{ArePartRefs, IsSchedule}
-use Rattle.rv_diagram.specs.declared.store.several.Part.{Part}
-use Rattle.rv_symbolic.specs.Linked.{quantified}
-use Rattle.rv_symbolic.specs.Stepped.{IsProjected, IsAStep}
+use Rattle.rv_diagram.specs.{Several.ArePartRefs, Several.IsSchedule, declared.store.several.Part.Part}
+use Rattle.rv_symbolic.specs.{Linked.quantified, Stepped.IsProjected, Stepped.IsAStep}
 use Rattle.rv_symbolic.proofs.Projecting.{forth, copies_above, next_of}
 use Rattle.rv_symbolic.proofs.relation.Relation.step.Goals as goal
 

@@ -1,25 +1,20 @@
 use Rattle.std.proofs.Common.{false, [], ◌∷◌, ◌++◌, map, length, refl, sym, ap, ◌∙◌, arith}
+use Rattle.std.proofs.{lemmas.Result.err_from_is_err_and, lemmas.List.map_push}
 use Rattle.std.specs.Prelude.{Ok, Err}
-use Rattle.std.proofs.lemmas.Result.{err_from_is_err_and}
-use Rattle.std.proofs.lemmas.List.{map_push}
 use Rattle.rv_syntax.specs.declared.token.Mark.TheVariants as mark
 use Rattle.rv_syntax.specs.declared.parser.Start.TheVariants as start
 use Rattle.rv_syntax.specs.declared.parser.Link.TheVariants as link
-use Rattle.rv_syntax.specs.declared.fault.Why.TheVariants.{Offends}
-use Rattle.rv_tree.specs.Tree.{tree_of}
 use Rattle.rv_syntax.specs.Grammar.{Function, Hash, Invoked}
 use Rattle.rv_syntax.specs.Machine.{Brackets, Under, After, Asked, Else, Within, held, whole, Want, Have, Hashed}
-use Rattle.rv_syntax.specs.Limited.{counts, leave}
-use Rattle.rv_syntax.specs.Marks.{is_mark}
-use Rattle.rv_syntax.specs.Parse.{starts}
-use Rattle.rv_syntax.specs.Reads.{Around, from, Wanting, Choosing, next_frame, part_from}
-use Rattle.rv_syntax.specs.Reads.{Calling, argued_from, held_of, linked, joined_held, sampled_held, chosen_held}
+use Rattle.rv_syntax.specs.Reads.{Around, from, Wanting, Choosing, next_frame, part_from, Calling, argued_from, held_of, linked, joined_held, sampled_held}
+use Rattle.rv_syntax.specs.Reads.{chosen_held}
+use Rattle.rv_syntax.specs.{declared.fault.Why.TheVariants.Offends, Limited.counts, Limited.leave, Marks.is_mark, Parse.starts}
+use Rattle.rv_tree.specs.Tree.{tree_of}
 use Rattle.rv_syntax.proofs.Complete.{below-eight}
 use Rattle.rv_syntax.proofs.Steps.{operator-goes, operator-deep, bracket-goes, bracket-deep, none-begins, leaf-goes, leaf-none, link-goes, link-deep, leaves}
-use Rattle.rv_syntax.proofs.Steps.{close-goes, comma-goes, last-goes, close-missing, last-missing}
-use Rattle.rv_syntax.proofs.Steps.{part-goes, part-missing, part-wanted, as-test, as-yes, made-read}
-use Rattle.rv_syntax.proofs.Steps.{clock-missing, clock-goes, calling, call-goes, call-deep, call-none, hash-goes, hash-deep, hash-missing, deep-stop}
-use Rattle.rv_syntax.proofs.Steps.{pass-stop, name-stop, stop-from, tail-short, wanted}
+use Rattle.rv_syntax.proofs.Steps.{close-goes, comma-goes, last-goes, close-missing, last-missing, part-goes, part-missing, part-wanted, as-test, as-yes}
+use Rattle.rv_syntax.proofs.Steps.{made-read, clock-missing, clock-goes, calling, call-goes, call-deep, call-none, hash-goes, hash-deep, hash-missing}
+use Rattle.rv_syntax.proofs.Steps.{deep-stop, pass-stop, name-stop, stop-from, tail-short, wanted}
 use Rattle.rv_syntax.proofs.parser.Parser.+parser.Goals as goal
 
 -- ---- expr

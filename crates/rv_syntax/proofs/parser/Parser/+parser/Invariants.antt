@@ -1,8 +1,7 @@
 use Rattle.std.proofs.Common.{◌≡◌, ◌≤◌, length, map, ◌+◌, ◌*◌, [], ◌∷◌}
 use Rattle.rv_tree.specs.Tree.{tree_of}
-use Rattle.rv_syntax.specs.Machine.{Within, Want, Have}
-use Rattle.rv_syntax.specs.Limited.{counts, leave}
 use Rattle.rv_syntax.specs.Reads.{held_of, Wanting, Calling, from, argued_from}
+use Rattle.rv_syntax.specs.{Machine.Within, Machine.Want, Machine.Have, Limited.counts, Limited.leave}
 use Rattle.rv_syntax.proofs.parser.Parser.+parser.Given as goal
 
 abbrev pub decreases-linked : goal.decreases-linked

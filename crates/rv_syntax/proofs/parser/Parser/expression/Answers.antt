@@ -1,14 +1,9 @@
-use Rattle.std.proofs.Common.{◌≡◌, List, [], refl, sym, ap, ◌∙◌}
+use Rattle.std.proofs.{Common.◌≡◌, Common.List, Common.[], Common.refl, Common.sym, Common.ap, Common.◌∙◌, lemmas.Result.err_from_is_err_and}
 use Rattle.std.specs.Prelude.{Err}
-use Rattle.std.proofs.lemmas.Result.{err_from_is_err_and}
-use Rattle.rv_syntax.specs.declared.token.Token.{Token}
-use Rattle.rv_tree.specs.declared.tree.Expr.{Expr}
-use Rattle.rv_syntax.specs.declared.fault.Stop.{Stop}
-use Rattle.rv_syntax.specs.declared.fault.Stop.TheVariants as stop
-use Rattle.rv_tree.specs.Tree.{tree_of}
-use Rattle.rv_syntax.specs.Machine.{Want}
-use Rattle.rv_syntax.specs.Limited.{counts, limited}
 use Rattle.rv_syntax.specs.Reads.{Ahead, Stops, Wanting, from, Reads, expression}
+use Rattle.rv_syntax.specs.{declared.token.Token.Token, declared.fault.Stop.Stop, Machine.Want, Limited.counts, Limited.limited}
+use Rattle.rv_tree.specs.{declared.tree.Expr.Expr, Tree.tree_of}
+use Rattle.rv_syntax.specs.declared.fault.Stop.TheVariants as stop
 use Rattle.rv_syntax.proofs.Steps.{wanted}
 use Rattle.rv_syntax.proofs.parser.Parser.expression.Goals as goal
 

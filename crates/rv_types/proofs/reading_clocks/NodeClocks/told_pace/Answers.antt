@@ -1,6 +1,5 @@
 use Rattle.std.proofs.Common.{ap, ◌∙◌}
-use Rattle.rv_tree.specs.declared.tree.Node.{Node}
-use Rattle.rv_tree.specs.Tree.{tree_of, node_tree}
+use Rattle.rv_tree.specs.{declared.tree.Node.Node, Tree.tree_of, Tree.node_tree}
 use Rattle.rv_types.specs.ToldPaces.{told_pace}
 use Rattle.rv_types.proofs.ToldPaces.{told_is}
 use Rattle.rv_types.proofs.reading_clocks.NodeClocks.told_pace.Goals as goal

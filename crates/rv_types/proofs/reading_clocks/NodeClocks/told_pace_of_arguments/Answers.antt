@@ -1,6 +1,5 @@
 use Rattle.std.proofs.Common.{map, ap, ◌∙◌}
-use Rattle.rv_tree.specs.declared.tree.Node.{Node}
-use Rattle.rv_tree.specs.Tree.{tree_of, trees, node_tree}
+use Rattle.rv_tree.specs.{declared.tree.Node.Node, Tree.tree_of, Tree.trees, Tree.node_tree}
 use Rattle.rv_types.specs.ToldPaces.{told_pace_of_all}
 use Rattle.rv_types.proofs.ToldPaces.{all_is}
 use Rattle.rv_types.proofs.reading_clocks.NodeClocks.told_pace_of_arguments.Goals as goal

@@ -1,5 +1,4 @@
-use Rattle.std.proofs.Common.{not, cond, Some, sym, ◌∙◌, ap}
-use Rattle.std.proofs.Common.{None as Nothing}
+use Rattle.std.proofs.Common.{not, cond, Some, sym, ◌∙◌, ap, None as Nothing}
 use Rattle.rv_base.specs.declared.value.Value.TheVariants.{Flag}
 use Rattle.rv_types.proofs.ConstantValues.{at_most_form}
 use Rattle.rv_types.proofs.reading_values.Trues.at_most_one.Goals as goal

@@ -1,10 +1,8 @@
 use Rattle.std.proofs.Common.{◌≡◌, ◌∙◌, ap, sym, rules, not, cond, true, false, is_some, None, ◌∷◌, ◌++◌, [], nat_eq}
-use Rattle.std.specs.Map.{lookup}
-use Rattle.std.specs.Cmp.Lexicographic.{pointwise}
+use Rattle.std.specs.{Map.lookup, Cmp.Lexicographic.pointwise}
 use Rattle.indexmap.specs.IndexMap.{insert_entry}
 use Rattle.indexmap.proofs.CallerLemmas.{insert_entry-new}
-use Rattle.rv_types.specs.Names.{is_declared}
-use Rattle.rv_types.specs.Firsts.{with_name}
+use Rattle.rv_types.specs.{Names.is_declared, Firsts.with_name}
 use Rattle.rv_types.proofs.Spaced.{declared_looked, entry_added}
 use Rattle.rv_types.proofs.space.Space.declare.Goals as goal
 

@@ -1,7 +1,5 @@
-use Rattle.std.proofs.Common.{◌≡◌, ◌∙◌, ap, sym, rules, false, length}
-use Rattle.std.proofs.lemmas.List.{length-map}
-use Rattle.rv_types.specs.Entries.{named}
-use Rattle.rv_types.specs.Names.{is_declared}
+use Rattle.std.proofs.{Common.◌≡◌, Common.◌∙◌, Common.ap, Common.sym, Common.rules, Common.false, Common.length, lemmas.List.length-map}
+use Rattle.rv_types.specs.{Entries.named, Names.is_declared}
 use Rattle.rv_types.proofs.Spaced.{index_absent}
 use Rattle.rv_types.proofs.space.Space.index.Goals as goal
 

@@ -1,6 +1,5 @@
 use Rattle.std.proofs.Common.{◌≡◌, ◌∙◌, ap, sym, rules, Some, None, nat_eq}
-use Rattle.std.specs.Map.{lookup}
-use Rattle.std.specs.Cmp.Lexicographic.{pointwise}
+use Rattle.std.specs.{Map.lookup, Cmp.Lexicographic.pointwise}
 use Rattle.rv_types.specs.Names.{stands_before}
 use Rattle.rv_types.proofs.Spaced.{before_looked, is_less}
 use Rattle.rv_types.proofs.space.Space.is_before.Goals as goal
