@@ -1,22 +1,17 @@
 -- The instances of an expanded program by their numbers, and what is found of them, one after the other.
-use Rattle.std.proofs.Common.{◌≡◌, inl, inr, ℕ, zero, suc, ◌+◌, ◌<◌, Bool, true, false, ◌||◌, cond, List, [], ◌∷◌, ◌++◌, map, flat_map, length, get_or, refl}
-use Rattle.std.proofs.Common.{sym, ◌∙◌, ap, subst, arith, unwrap_or, Some, IsSome, length-append}
-use Rattle.std.proofs.lemmas.List.Elements.{Contains-append_left, Contains-append_right, Contains-append_cases, Contains-get_or}
-use Rattle.std.proofs.{lemmas.Bool.cases_order, lemmas.List.get_or_default, lemmas.List.length-map}
+use Rattle.std.proofs.Common.{◌≡◌, inl, inr, ℕ, zero, suc, ◌+◌, ◌<◌, true, List, [], ◌∷◌, ◌++◌, map, flat_map, length, get_or, refl}
+use Rattle.std.proofs.Common.{◌∙◌, ap, subst, arith}
+use Rattle.std.proofs.lemmas.List.Elements.{Contains-append_left, Contains-append_right, Contains-append_cases}
+use Rattle.std.proofs.{lemmas.Bool.cases_order, lemmas.List.length-map}
 use Rattle.std.specs.List.{Contains}
-use Rattle.rv_tree.specs.{Tree.NodeTree, Tree.ProgramTree, Places.Identifier, Places.is_same, Places.is_among, Places.index_of}
-use Rattle.rv_types.specs.Instances.{calls, Instance, no_node, callee, IsInstance, is_main, is_callee, IsNode}
+use Rattle.rv_tree.specs.{Tree.NodeTree, Tree.ProgramTree, Places.Identifier, Places.is_among, Places.index_of}
+use Rattle.rv_types.specs.Instances.{IsNode}
 use Rattle.rv_types.specs.Names.{texts, decls, decl_names, lefts, repeated, repeated_values, node_names, type_names, alias_use, constant_uses, names_in_node}
 use Rattle.rv_types.specs.Names.{name_faults, undefined_unless, flow_use, clock_use, equation_uses, assertion_uses}
-use Rattle.rv_types.specs.{Kinds.node_among, Needs.IsBefore, Settled.node_number}
-use Rattle.rv_instances.specs.{declared.answer.Instance.Instance as Numbered, AllInstances.numbered, Expanded.IsExpanded, Expanded.no_instance, Layouts.node_at}
-use Rattle.rv_instances.specs.{Layouts.path_at}
+use Rattle.rv_instances.specs.{declared.answer.Instance.Instance as Numbered, Expanded.IsExpanded, Expanded.no_instance}
 use Rattle.rv_flatten.specs.NodeReaders.{lists_to}
-use Rattle.rv_flat.proofs.Earliest.{not_itself}
-use Rattle.rv_flatten.proofs.WellInstances as well
-use Rattle.rv_instances.proofs.{FlowPlaces.snoc_parts, Known.each_nil}
-use Rattle.rv_meaning.proofs.NameLemmas.{same_text}
-use Rattle.rv_types.proofs.{Members.among_from, Members.in_map, Members.index_there, Members.nothing_in, RightNames.both_empty, ChainLaws.no_flag}
+use Rattle.rv_instances.proofs.{ExpandedLaws.instance_at, ExpandedLaws.node_in, Known.each_nil}
+use Rattle.rv_types.proofs.{Members.among_from, Members.in_map, Members.index_there, Members.nothing_in, RightNames.both_empty}
 
 -- Lists.
 
@@ -64,97 +59,18 @@ pub name_texts : (ns : List NodeTree) → texts (map (λ (n : NodeTree). n.name)
 name_texts [] = refl
 name_texts (n ∷ ns) = ap (λ l. n.name.text ∷ l) (name_texts ns)
 
--- a name that some node has is there
-some_among : (ns : List NodeTree) (f : Identifier) → is_among (texts (map (λ (n : NodeTree). n.name) ns)) f ≡ true → IsSome (node_among ns f)
-some_among [] f h = no_flag h
-some_among (n ∷ ns) f h = tested (is_same n.name.text f) h (some_among ns f)
-  where
-    tested : (b : Bool) → (b || is_among (texts (map (λ (n : NodeTree). n.name) ns)) f) ≡ true
-        → (is_among (texts (map (λ (n : NodeTree). n.name) ns)) f ≡ true → IsSome (node_among ns f)) → IsSome (cond b (Some n) (node_among ns f))
-    tested true h again = refl
-    tested false h again = again h
-
--- the first node of a name has the name, and its number
-first_named : (ns : List NodeTree) (f : Identifier) → IsSome (node_among ns f)
-    → ((unwrap_or (node_among ns f) no_node).name.text ≡ f) × (get_or ns (index_of (texts (map (λ (n : NodeTree). n.name) ns)) f) no_node ≡ unwrap_or
-    (node_among ns f) no_node)
-first_named [] f h = no_flag h
-first_named (n ∷ ns) f h = tested (is_same n.name.text f) refl h (first_named ns f)
-  where
-    tested : (b : Bool) → is_same n.name.text f ≡ b → IsSome (cond b (Some n) (node_among ns f))
-        → (IsSome (node_among ns f) → ((unwrap_or (node_among ns f) no_node).name.text ≡ f)
-        × (get_or ns (index_of (texts (map (λ (n : NodeTree). n.name) ns)) f) no_node ≡ unwrap_or (node_among ns f) no_node))
-        → ((unwrap_or (cond b (Some n) (node_among ns f)) no_node).name.text ≡ f)
-        × (get_or (n ∷ ns) (cond b 0 (index_of (texts (map (λ (n : NodeTree). n.name) ns)) f + 1)) no_node ≡ unwrap_or (cond b (Some n) (node_among ns f))
-        no_node)
-    tested true is h again = (same_text n.name.text f is, refl)
-    tested false is h again =
-        let r = again h in
-        let next : index_of (texts (map (λ (n : NodeTree). n.name) ns)) f + 1 ≡ suc (index_of (texts (map (λ (n : NodeTree). n.name) ns)) f) = omega arith in
-        (r.0, ap (λ k. get_or (n ∷ ns) k no_node) next ∙ r.1)
-
 module _ (p : ProgramTree) (main : Identifier) (instances : List Numbered) (known : IsExpanded p main instances) where
   pub is_node : IsNode p main
   is_node = subst (λ (xs : List Identifier). is_among xs main ≡ true) (name_texts p.nodes) known.declared
 
-  -- the node of an instance is one of the program
-  pub node_in : (i : Instance) → IsInstance p main i → Contains p.nodes i.node
-  node_in i is = well.node_in p main known.well is_node i is
-
-  -- the instance with a number
-  pub instance_at : (m : ℕ) → m < length instances → (i : Instance) × IsInstance p main i × (get_or instances m no_instance ≡ numbered p i)
-  instance_at m lt = known.all.only (get_or instances m no_instance) (Contains-get_or instances m no_instance lt)
-
-  -- the number of an instance
-  pub number_at : (i : Instance) → IsInstance p main i → (m : ℕ) × (m < length instances) × (get_or instances m no_instance ≡ numbered p i)
-  number_at i is = let w = known.all.all i is in (w.0, w.1, get_or_default instances w.0 no_instance (numbered p i) w.1 ∙ w.2)
-
-  pub path_is : (m : ℕ) (i : Instance) → get_or instances m no_instance ≡ numbered p i → path_at instances m ≡ i.path
-  path_is m i e = ap (λ (x : Numbered). x.path) e
-
-  -- two numbers of one path are one
-  pub same_number : (m k : ℕ) → m < length instances → k < length instances → path_at instances m ≡ path_at instances k → m ≡ k
-  same_number m k lt less e = elim (cases_order m k) [
-    | inl same ↦ same
-    | inr other ↦ elim other [
-      | inl before ↦ absurd (not_itself (path_at instances k) (subst (λ q. IsBefore q (path_at instances k)) e (known.all.rising m k no_instance before less)))
-      | inr after ↦ absurd (not_itself (path_at instances m) (subst (λ q. IsBefore q (path_at instances m)) (sym e)
-          (known.all.rising k m no_instance after lt)))
-    ]
-  ]
-
-  -- the node of an instance stands where its number says
-  number_node : (i : Instance) → IsInstance p main i → get_or p.nodes (node_number p i.node.name.text) no_node ≡ i.node
-  number_node _ is_main =
-      let r = first_named p.nodes main (some_among p.nodes main known.declared) in
-      ap (λ x. get_or p.nodes (node_number p x) no_node) r.0 ∙ r.1
-  number_node _ (is_callee {i = i} c is at) =
-      let r = first_named p.nodes c.name ((known.well.formed i.node (node_in i is)).known c at) in
-      ap (λ x. get_or p.nodes (node_number p x) no_node) r.0 ∙ r.1
-
-  -- so it is that of the instance with its number
-  pub node_is : (m : ℕ) (i : Instance) → IsInstance p main i → get_or instances m no_instance ≡ numbered p i → node_at p instances m ≡ i.node
-  node_is m i is e = ap (λ (x : Numbered). get_or p.nodes x.node no_node) e ∙ number_node i is
-
-  -- and it is among the numbers of nodes
+  -- the node of an instance is among the numbers of nodes
   pub node_within : (m : ℕ) → m < length instances → (get_or instances m no_instance).node < length p.nodes
   node_within m lt =
-      let r = instance_at m lt in
+      let r = instance_at p main instances known m lt in
       let names = map (λ (n : NodeTree). n.name.text) p.nodes in
-      let there = among_from names r.0.node.name.text (in_map (λ (n : NodeTree). n.name.text) p.nodes r.0.node (node_in r.0 r.1)) in
+      let there = among_from names r.0.node.name.text (in_map (λ (n : NodeTree). n.name.text) p.nodes r.0.node (node_in p main instances known r.0 r.1)) in
       let at = (index_there names r.0.node.name.text there).0 in
       let many = length-map p.nodes (λ (n : NodeTree). n.name.text) in
       let same : (get_or instances m no_instance).node ≡ index_of names r.0.node.name.text =
       ap (λ (x : Numbered). x.node) r.2 ∙ ap (λ (xs : List Identifier). index_of xs r.0.node.name.text) (name_texts p.nodes) in
       omega (arith, at, many, same)
-
-  -- the call sites determine an instance
-  pub same_instance : (i j : Instance) → IsInstance p main i → IsInstance p main j → i.path ≡ j.path → i ≡ j
-  same_instance _ _ is_main is_main e = refl
-  same_instance _ _ is_main (is_callee {i = j} d q at) e = let long = ap length e in absurd (omega (arith, long, length-append j.path (d.site ∷ [])))
-  same_instance _ _ (is_callee {i = i} c q at) is_main e = let long = ap length e in absurd (omega (arith, long, length-append i.path (c.site ∷ [])))
-  same_instance _ _ (is_callee {i = i} c q at) (is_callee {i = j} d r at') e =
-      let s = snoc_parts i.path j.path c.site d.site e in
-      let up = same_instance i j q r s.0 in
-      let one = (known.well.formed j.node (node_in j r)).sites c d (subst (λ (i : Instance). Contains (calls i.node) c) up at) at' s.1 in
-      λ k. callee p (up k) (one k)

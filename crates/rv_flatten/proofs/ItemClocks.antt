@@ -13,10 +13,10 @@ use Rattle.rv_types.specs.{declared.typed.Kind.Kind, declared.typed.Clock.TheVar
 use Rattle.rv_agreement.specs.Trees.{System, nth_item}
 use Rattle.rv_agreement.specs.Translation.{Numbers, clock_number, giver_item, IsTranslated, IsClockOf}
 use Rattle.rv_flat.proofs.PlaceNumbers.{its_number}
-use Rattle.rv_flatten.proofs.WellInstances.{formed}
 use Rattle.rv_instances.proofs.FlowPlaces.{snoc_parts}
 use Rattle.rv_meaning.proofs.Acceptable.{suits_taken}
 use Rattle.rv_types.proofs.Members.{among_from, index_there}
+use Rattle.rv_meaning.proofs.{Acceptable.formed, Defined.same_instance}
 
 -- inputs and outputs are on the base clock
 all_base : (ds es : List Decl) (m : ℕ) → get_or (map base_clock ds ++ map base_clock es) m Base ≡ Base
@@ -47,17 +47,6 @@ given_site n m lt =
     omega (arith, lt, a, b, c, u, v)
 
 module _ (program : ProgramTree) (main : Identifier) (well : AreWell program) (named : IsNode program main) where
-  -- the call sites determine an instance
-  pub same_instance : (i j : Instance) → IsInstance program main i → IsInstance program main j → i.path ≡ j.path → i ≡ j
-  same_instance _ _ is_main is_main e = refl
-  same_instance _ _ is_main (is_callee {i = j} d q at) e = let long = ap length e in absurd (omega (arith, long, length-append j.path (d.site ∷ [])))
-  same_instance _ _ (is_callee {i = i} c q at) is_main e = let long = ap length e in absurd (omega (arith, long, length-append i.path (c.site ∷ [])))
-  same_instance _ _ (is_callee {i = i} c q at) (is_callee {i = j} d r at') e =
-      let s = snoc_parts i.path j.path c.site d.site e in
-      let up = same_instance i j q r s.0 in
-      let one = (formed program main well named j r).sites c d (subst (λ (i : Instance). Contains (calls i.node) c) up at) at' s.1 in
-      λ k. callee program (up k) (one k)
-
   -- a flow of an instance by its site
   pub flow_there : (i : Instance) (m : ℕ) → IsInstance program main i → m < length (flows_of i.node) → IsFlow program main (i.path ++ m ∷ [])
   flow_there i m of lt =
@@ -71,24 +60,24 @@ module _ (program : ProgramTree) (main : Identifier) (well : AreWell program) (n
         → (giver_item program numbers g).clock ≡ clock_number numbers (absolute i (clock_at i.node m))
     giver_clock q _ i m (given j lt at) of e =
         let r = snoc_parts [] i.path j m (at ∙ e) in
-        let one = same_instance (main_instance program main) i is_main of r.0 in
+        let one = same_instance program main well named (main_instance program main) i is_main of r.0 in
         sym (ap (λ c. clock_number numbers (absolute (main_instance program main) c)) (base_at (node_of program main) j (omega (arith, lt))))
         ∙ (λ t. clock_number numbers (absolute (one t) (clock_at (one t).node (r.1 t))))
     giver_clock q _ i m (by_equation a x (Body e) inst right at) of is =
         let r = snoc_parts a.path i.path (site_of a.node x) m (at ∙ is) in
-        let one = same_instance a i inst of r.0 in
+        let one = same_instance program main well named a i inst of r.0 in
         ap (λ c. clock_number numbers (absolute a c)) (suits_taken (clock_of a.node x) (pace a.node e)
         ((formed program main well named a inst).body_clock x e right))
         ∙ (λ t. clock_number numbers (absolute (one t) (clock_at (one t).node (r.1 t))))
     giver_clock q _ i m (by_equation a x (Output c j) inst right at) of is =
         let r = snoc_parts a.path i.path (site_of a.node x) m (at ∙ is) in
-        let one = same_instance a i inst of r.0 in
+        let one = same_instance program main well named a i inst of r.0 in
         ap (λ c. clock_number numbers (absolute a c)) ((formed program main well named a inst).output_clock x c j right)
         ∙ (λ t. clock_number numbers (absolute (one t) (clock_at (one t).node (r.1 t))))
     giver_clock q _ i m (by_call a c j e inst called arg at) of is =
         let below = (formed program main well named a inst).no_more c j e called arg in
         let r = snoc_parts (a.path ++ c.site ∷ []) i.path j m (append_assoc a.path (c.site ∷ []) (j ∷ []) ∙ at ∙ is) in
-        let one = same_instance (callee program a c) i (is_callee c inst called) of r.0 in
+        let one = same_instance program main well named (callee program a c) i (is_callee c inst called) of r.0 in
         ap (λ k. clock_number numbers (absolute a k)) (suits_taken (clock_of_arguments a c.args) (pace a.node e)
         ((formed program main well named a inst).argument_clock c j e called arg))
         ∙ sym (ap (λ k. clock_number numbers (absolute (callee program a c) k)) (base_at (node_of program c.name) j (omega (arith, below))))

@@ -21,7 +21,8 @@ use Rattle.rv_agreement.specs.Translation.{Numbers, clock_number}
 use Rattle.rv_flat.proofs.TypedParts.{some_is}
 use Rattle.rv_flatten.proofs.ReadItems.{is_frame, giver_clock, body_given, output_given}
 use Rattle.rv_flatten.proofs.ReadTables.{path_is, clock_read_is, own_clock_is, output_is}
-use Rattle.rv_flatten.proofs.{Standing.stands_in, Standing.operand_stands, Standing.as_assertion, WellInstances.typed, MainNames.is_node}
+use Rattle.rv_flatten.proofs.{Standing.stands_in, Standing.operand_stands, Standing.as_assertion, MainNames.is_node}
+use Rattle.rv_meaning.proofs.Acceptable.{typed}
 
 -- what a layout has of an instance
 abbrev pub HasNumbers : Type 0

@@ -8,10 +8,12 @@ use Rattle.rv_tree.specs.{Tree.ProgramTree, Places.Identifier, Places.Sites, Pla
 use Rattle.rv_types.specs.{Instances.Instance, Instances.IsInstance, Lists.AreRising, Lists.MemoryAt, Lists.memory_at, Lists.delay_place}
 use Rattle.rv_instances.specs.{declared.answer.Instance.Instance as Numbered, Expanded.IsExpanded, Layouts.IsNumberOf, Layouts.path_at}
 use Rattle.rv_flatten.specs.{declared.kept.Kept.Kept, Kept.kept_memory, Kept.AreKept}
-use Rattle.rv_flatten.proofs.{InstanceNumbers.path_is, InstanceNumbers.same_number, KeptMemories.kept_places}
+use Rattle.rv_flatten.proofs.{KeptMemories.kept_places}
 use Rattle.rv_flat.proofs.TickList.{number_at}
 use Rattle.rv_instances.proofs.FlowPlaces.{snoc_parts}
 use Rattle.rv_base.proofs.Lists.{from_map}
+use Rattle.rv_instances.proofs.ExpandedLaws.{path_is}
+use Rattle.rv_instances.proofs.ExpandedLaws.{same_number}
 
 -- a test of two numbers
 same_pair : (a b m s : ℕ) → Decides (nat_eq a m && nat_eq b s) ((a ≡ m) × (b ≡ s))

@@ -1,16 +1,16 @@
 -- Two `pre` or `current` with one place are alike: both are one of one instance, or both operands name one flow of it.
-use Rattle.std.proofs.Common.{◌≡◌, ◌⊎◌, inl, inr, ℕ, ◌<◌, Bool, true, false, cond, [], ◌∷◌, length, get_or, refl, sym, ◌∙◌, ap, subst, arith, length-append}
+use Rattle.std.proofs.Common.{◌≡◌, ◌⊎◌, inl, inr, ℕ, ◌<◌, Bool, true, false, cond, [], length, get_or, refl, sym, ◌∙◌, ap, subst, arith}
 use Rattle.std.proofs.Common.{unwrap_or, Option, Some, None as Nothing}
 use Rattle.std.specs.List.{Contains}
 use Rattle.rv_tree.specs.{Tree.Tree, Tree.Node, Tree.Named, Tree.NodeTree, Tree.ProgramTree, Places.Identifier, Places.flows, Places.is_flow, Places.site_of}
 use Rattle.rv_tree.specs.{Places.memory_site, Delays.Delay, Delays.node_delays, Delays.IsNumbered}
-use Rattle.rv_types.specs.Instances.{calls, Instance, callee, IsInstance, is_main, is_callee, IsNode}
+use Rattle.rv_types.specs.Instances.{Instance, IsInstance, IsNode}
 use Rattle.rv_types.specs.{Lists.delay_place, WellFormed.AreWell}
 use Rattle.rv_agreement.specs.{Trees.Item, Translation.Numbers, Translation.delay_item}
 use Rattle.rv_flatten.specs.Readings.{RawItem, raw_delay}
-use Rattle.rv_flatten.proofs.WellInstances.{node_in, formed}
 use Rattle.rv_instances.proofs.FlowPlaces.{snoc_parts}
 use Rattle.rv_types.proofs.Members.{index_there}
+use Rattle.rv_meaning.proofs.{Acceptable.node_in, Defined.same_instance}
 
 -- the operand is a flow of this name
 abbrev pub IsName : NodeTree → Tree → Identifier → Type 0
@@ -49,17 +49,6 @@ module _ (n : NodeTree) (numbered : IsNumbered n) where
       numbered.own d e w v (s.1 ∙ ap (λ k. Some k) same ∙ sym r.1)
 
 module _ (program : ProgramTree) (main : Identifier) (well : AreWell program) (named : IsNode program main) where
-  -- the call sites determine an instance
-  pub one_instance : (i j : Instance) → IsInstance program main i → IsInstance program main j → i.path ≡ j.path → i ≡ j
-  one_instance _ _ is_main is_main e = refl
-  one_instance _ _ is_main (is_callee {i = j} d q at) e = let long = ap length e in absurd (omega (arith, long, length-append j.path (d.site ∷ [])))
-  one_instance _ _ (is_callee {i = i} c q at) is_main e = let long = ap length e in absurd (omega (arith, long, length-append i.path (c.site ∷ [])))
-  one_instance _ _ (is_callee {i = i} c q at) (is_callee {i = j} d r at') e =
-      let s = snoc_parts i.path j.path c.site d.site e in
-      let up = one_instance i j q r s.0 in
-      let one = (formed program main well named j r).sites c d (subst (λ (i : Instance). Contains (calls i.node) c) up at) at' s.1 in
-      λ k. callee program (up k) (one k)
-
   -- What is told of each `pre` and `current`, and where its operand is the name of a flow by that flow alone, is one for all
   -- that have one place.
   module _ (X : Type 0) (told : Instance → Delay → X) (of_flow : Instance → Identifier → X)
@@ -84,7 +73,7 @@ module _ (program : ProgramTree) (main : Identifier) (well : AreWell program) (n
         → delay_place i d ≡ delay_place j e → told i d ≡ told j e
     one_of_place i j d e a b w v same =
         let r = snoc_parts i.path j.path (memory_site i.node d.site d.operand) (memory_site j.node e.site e.operand) same in
-        let one = one_instance i j a b r.0 in
+        let one = same_instance program main well named i j a b r.0 in
         let within : Contains (node_delays j.node) d = subst (λ (i : Instance). Contains (node_delays i.node) d) one w in
         let site : memory_site j.node d.site d.operand ≡ memory_site j.node e.site e.operand = ap (λ (i : Instance). memory_site i.node d.site d.operand)
         (sym one) ∙ r.1 in

@@ -38,7 +38,7 @@ use Rattle.rv_flatten.proofs.ClockKinds.{IsTrueClock, clock_taken, clock_taken_o
 use Rattle.rv_flatten.proofs.FlowKinds.{HasFlow, is_flow as flow_there, kinds_many, signature_is, flow_of_site, clock_flow, output_flow, input_flow, main_input}
 use Rattle.rv_flatten.proofs.KindNumbers.{IsBelow, kind_declared, kind_itself, among_kinds, value_fits}
 use Rattle.rv_flatten.proofs.{ArrowClocks.arrow_true, ComparedParts.has_site, ItemClocks.number_at, ItemClocks.number_within, ItemClocks.item_clock}
-use Rattle.rv_flatten.proofs.{ItemClocks.output_clock, SuitedParts.suits_when, WellInstances.node_in, WellInstances.formed, WellInstances.typed}
+use Rattle.rv_flatten.proofs.{ItemClocks.output_clock, SuitedParts.suits_when}
 use Rattle.rv_flat.proofs.TypedParts.{some_is, IsTyped, named_typed, not_typed, minus_typed, pre_typed, current_typed, when_typed, binary_typed, if_typed}
 use Rattle.rv_flat.proofs.TypedParts.{most_typed, call_typed}
 use Rattle.rv_flat.proofs.{Earliest.not_itself, PlaceNumbers.its_number}
@@ -47,6 +47,9 @@ use Rattle.rv_meaning.proofs.{Suiting.ground_taken, Suiting.suits_both, Suiting.
 use Rattle.rv_types.proofs.Members.{among_contains, among_from, at_head, in_map, in_tail, index_there}
 use Rattle.rv_types.proofs.{ConstantContents.kind_same, ChainLaws.no_flag}
 use Rattle.rv_base.proofs.Truths.{both_of, less_told}
+use Rattle.rv_meaning.proofs.Acceptable.{node_in}
+use Rattle.rv_meaning.proofs.Acceptable.{formed}
+use Rattle.rv_meaning.proofs.Acceptable.{typed}
 
 -- a clock is itself
 same_told : (c d : Option ℕ) → d ≡ c → same_clock c d ≡ true

@@ -30,12 +30,13 @@ use Rattle.rv_flat.specs.RawTree as raw
 use Rattle.rv_flatten.specs.Readings.{IsRead, presence, assertion_of, no_assumption}
 use Rattle.rv_flatten.proofs.Standing.{Stands, body_stands, as_assertion, argument_stands, operand_stands}
 use Rattle.rv_flatten.proofs.Translated.{AreAlike, is_translated, memory_is, whole_shown, mapped_at, memory_there}
-use Rattle.rv_flatten.proofs.{AgreedLaws.Laws, NamedParts.names_in, NamedParts.products_in, WellInstances.typed, WellInstances.is_light}
+use Rattle.rv_flatten.proofs.{AgreedLaws.Laws, NamedParts.names_in, NamedParts.products_in, WellInstances.is_light}
 use Rattle.rv_flat.proofs.PlaceNumbers.{made_at, row_agrees, instant_agrees, instant_places}
 use Rattle.rv_flat.proofs.{TypedParts.some_is, TypedParts.IsTyped, Typing.value_kth}
 use Rattle.rv_agreement.proofs.Meanings.{held_same, on_same}
 use Rattle.rv_types.proofs.{Members.among_from, Members.index_there, ChainLaws.no_flag}
 use Rattle.rv_base.proofs.Lists.{item_at}
+use Rattle.rv_meaning.proofs.Acceptable.{typed}
 
 -- what a giver makes of an instant
 abbrev pub expected_now : ProgramTree → Brought → (ℕ → Value) → Instant → Giver → Option Value

@@ -20,9 +20,12 @@ use Rattle.rv_flatten.specs.{declared.frame.Frame.Frame, Frames.IsFrame, Frames.
 use Rattle.rv_agreement.specs.Translation.{Numbers}
 use Rattle.rv_flatten.proofs.Standing.{stands_in, body_stands, argument_stands, output_call}
 use Rattle.rv_flatten.proofs.ClockKinds.{IsTrueClock, clock_taken, clock_is_true, paces_are_true}
-use Rattle.rv_flatten.proofs.{WellInstances.node_in, WellInstances.formed, WellInstances.typed, ReadTables.clock_known, MainNames.is_node}
+use Rattle.rv_flatten.proofs.{ReadTables.clock_known, MainNames.is_node}
 use Rattle.rv_meaning.proofs.{Acceptable.suits_taken, NameLemmas.same_text}
 use Rattle.rv_types.proofs.ChainLaws.{no_flag}
+use Rattle.rv_meaning.proofs.Acceptable.{node_in}
+use Rattle.rv_meaning.proofs.Acceptable.{formed}
+use Rattle.rv_meaning.proofs.Acceptable.{typed}
 
 -- The number of a node that is there.
 known_name : (ns : List NodeTree) (f : Identifier) → IsSome (node_among ns f) → (unwrap_or (node_among ns f) no_node).name.text ≡ f

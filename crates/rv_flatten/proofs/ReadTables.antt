@@ -29,11 +29,13 @@ use Rattle.rv_agreement.specs.Programs.{spot, operator_place, coefficient}
 use Rattle.rv_agreement.specs.Translation.{Numbers, clock_number, tick_number}
 use Rattle.rv_flatten.proofs.Standing.{Stands, as_child, of_not, of_minus, of_when, of_left, of_right, of_condition, of_first, of_second, of_operand, own_delay}
 use Rattle.rv_flatten.proofs.Standing.{own_current, own_call, stands_in}
-use Rattle.rv_flatten.proofs.{PartsStand.standing, PartsStand.calling, PartsStand.part_is, TimedParts.stands_timed, WellInstances.formed, WellInstances.typed}
+use Rattle.rv_flatten.proofs.{PartsStand.standing, PartsStand.calling, PartsStand.part_is, TimedParts.stands_timed}
 use Rattle.rv_flatten.proofs.{ClockKinds.IsTrueClock, ClockKinds.clock_taken, ClockKinds.pace_is_true, FlowKinds.kinds_many, FlowKinds.signature_is}
 use Rattle.rv_flatten.proofs.{ToldTests.told_is, MainNames.is_node, NamedParts.scaled_product}
 use Rattle.rv_flat.proofs.TypedParts.{some_is, IsTyped, not_typed, minus_typed, when_typed, binary_typed, if_typed, most_typed, call_typed}
 use Rattle.rv_meaning.proofs.Told.{index_past}
+use Rattle.rv_meaning.proofs.Acceptable.{formed}
+use Rattle.rv_meaning.proofs.Acceptable.{typed}
 
 -- the expressions of a list, each made flat
 pub each_read : (x : Frame) (es : List Expr) → raw_trees (map (λ e. tree_read x (tree_of e)) es) ≡ trees_read x (trees (map tree_of es))

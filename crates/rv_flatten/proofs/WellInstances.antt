@@ -1,27 +1,13 @@
--- The instances of a program that keeps the rules: their nodes are well formed and well typed, and what stands there is light.
+-- What stands in the instances of a program that is not too wide is light.
 use Rattle.std.proofs.Common.{◌≡◌, inl, inr, ℕ, ◌≤◌, Bool, true, false, cond, nat_lt, List, [], ◌∷◌, refl, ◌∙◌, ap, subst, arith, Option}
 use Rattle.std.proofs.{lemmas.Bool.Decides.nat_tests, lemmas.List.Elements.Contains-append_left, lemmas.List.Elements.Contains-append_right}
 use Rattle.std.specs.List.{Contains}
 use Rattle.rv_tree.specs.{Tree.Tree, Tree.Node, Tree.Form, Tree.ProgramTree, Places.Identifier, Places.Sites}
-use Rattle.rv_types.specs.Instances.{Instance, IsInstance, is_main, is_callee, IsNode}
-use Rattle.rv_types.specs.WellFormed.{IsWellFormed, IsWellTyped, AreWell}
+use Rattle.rv_types.specs.Instances.{Instance, IsInstance}
 use Rattle.rv_base.specs.Limits.{heaviest}
 use Rattle.rv_instances.specs.Weights.{weight, too_wide, weighed, IsTooWide}
 use Rattle.rv_flatten.proofs.Standing.{Stands, stands_weighed}
-use Rattle.rv_meaning.proofs.Acceptable.{named_among, some_among}
 use Rattle.rv_types.proofs.{Members.at_head, Members.cons_cases, Members.nothing_in, ChainLaws.no_flag}
-
-module _ (program : ProgramTree) (main : Identifier) (well : AreWell program) (named : IsNode program main) where
-  -- the node of each instance is one of the nodes
-  pub node_in : (i : Instance) → IsInstance program main i → Contains program.nodes i.node
-  node_in _ is_main = named_among program.nodes main (some_among program.nodes main named)
-  node_in _ (is_callee {i = i} c p at) = named_among program.nodes c.name ((well.formed i.node (node_in i p)).known c at)
-
-  pub formed : (i : Instance) → IsInstance program main i → IsWellFormed program i.node
-  formed i p = well.formed i.node (node_in i p)
-
-  pub typed : (i : Instance) → IsInstance program main i → IsWellTyped program i.node
-  typed i p = well.typed i.node (node_in i p)
 
 -- an expression above the limit is told
 too_wide_told : (w : Tree → ℕ) (es : List Tree) (at : ℕ) (site : Option ℕ) (form : Form) → Contains es (Node at site form)

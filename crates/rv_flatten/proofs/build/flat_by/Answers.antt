@@ -8,8 +8,9 @@ use Rattle.rv_flatten.proofs.Assembled.{same_flows}
 use Rattle.rv_flatten.proofs.CountedVariables.{few_integers, few_variables, few_labels as few_label_lists}
 use Rattle.rv_flatten.proofs.ReadKeeps.{ends, flows_are, memories_are, assertions_are, clocks_are, ticks_are_apart, memories_are_apart, comparisons_are_apart}
 use Rattle.rv_flatten.proofs.ReadKeeps.{flows_are_light, memories_are_light, assertions_are_light}
-use Rattle.rv_flatten.proofs.{FlowTotals.some_instance, InstanceNumbers.node_in, AgreedLaws.Laws, ReadFlat.is_flat_of, VariableCount.counted_variables}
+use Rattle.rv_flatten.proofs.{FlowTotals.some_instance, AgreedLaws.Laws, ReadFlat.is_flat_of, VariableCount.counted_variables}
 use Rattle.rv_types.proofs.Members.{text_itself}
+use Rattle.rv_instances.proofs.ExpandedLaws.{node_in}
 use Rattle.rv_flatten.proofs.build.flat_by.Goals as goal
 
 pub node-main-requires-clause-within : goal.node-main-requires-clause-within
