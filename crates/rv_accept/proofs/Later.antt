@@ -55,10 +55,6 @@ module _ (a b : Diagrams) (e : Extends a b) where
 
 -- WHAT IS GIVEN
 
-pub control_ordered : (s : System) (d : Diagrams) (p : Parts) (c : Certificate) (k : ℕ) (l : Location) → IsHeld s d p → IsInRange s c
-    → slice_get c.locations k ≡ Some l → IsOrderedOver d.variables l.control
-control_ordered s d p c k l held range at = subst (λ (m : ℕ). IsOrderedOver m l.control) (sym held.means.variables) (range.locations k l at).control.ordered
-
 pub condition_ordered : (s : System) (d : Diagrams) (p : Parts) (c : Certificate) (k j : ℕ) (l : Location) (e : Entry) → IsHeld s d p → IsInRange s c
     → slice_get c.locations k ≡ Some l → slice_get l.entries j ≡ Some e → IsOrderedOver d.variables e.condition
 condition_ordered s d p c k j l e held range at there = subst (λ (m : ℕ). IsOrderedOver m e.condition) (sym held.means.variables)

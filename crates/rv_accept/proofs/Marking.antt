@@ -1,8 +1,8 @@
 -- Flags that are marked one after another.
-use Rattle.std.proofs.Common.{ℕ, ◌+◌, ◌-◌, ◌<◌, ◌≤◌, ◌≡◌, ◌↔◌, ◌⊎◌, Bool, true, false, List, [], ◌++◌, take, drop, length, set, get_or, refl, sym, ap, ◌∙◌}
-use Rattle.std.proofs.Common.{subst, ⊎_elim, inl, inr, arith, Some, slice_get}
-use Rattle.std.proofs.lemmas.List.{length-set, get_or-set_same, get_or-set_other, append-nil, drop_all, take_all}
-use Rattle.std.proofs.{lemmas.Bool.cases_lt, lemmas.Bool.cases_eq, lemmas.Option.same_Some, lemmas.Option.slice_get_within}
+use Rattle.std.proofs.Common.{ℕ, ◌+◌, ◌-◌, ◌<◌, ◌≤◌, ◌≡◌, ◌↔◌, ◌⊎◌, Bool, true, false, List, [], ◌++◌, take, drop, length, refl, sym, ap, ◌∙◌, subst, ⊎_elim}
+use Rattle.std.proofs.Common.{inl, inr, arith, Some, slice_get}
+use Rattle.std.proofs.lemmas.List.{append-nil, drop_all, take_all}
+use Rattle.std.proofs.{lemmas.Bool.cases_lt, lemmas.Option.same_Some, lemmas.Option.slice_get_within}
 use Rattle.rv_accept.specs.Needs.{SomeAt, IsMarked, AreFlags, flag_at}
 use Rattle.rv_base.proofs.Truths.{clash}
 
@@ -27,16 +27,6 @@ marked_then p q a b c m n = record {
 
 pub marked_none : (p : ℕ → Type 0) (a : List Bool) → ((t : ℕ) → t < length a → p t → ⊥) → IsMarked p a a
 marked_none p a none = record { size = refl; exact = λ t low. (λ h. inl h, λ h. ⊎_elim (λ l. l) (λ r. absurd (none t low r)) h) }
-
-pub set_marked : (a : List Bool) (i : ℕ) → i < length a → IsMarked (λ t. t ≡ i) a (set a i true)
-set_marked a i inside = record { size = length-set a i true; exact = λ t low. ⊎_elim (same t) (other t) (cases_eq t i) }
-  where
-    same : (t : ℕ) → t ≡ i → (flag_at (set a i true) t ≡ true) ↔ ((flag_at a t ≡ true) ⊎ (t ≡ i))
-    same t e = (λ h. inr e, λ h. ap (λ k. flag_at (set a i true) k) e ∙ get_or-set_same a i true false inside)
-
-    other : (t : ℕ) → (t ≡ i → ⊥) → (flag_at (set a i true) t ≡ true) ↔ ((flag_at a t ≡ true) ⊎ (t ≡ i))
-    other t n = let kept : flag_at (set a i true) t ≡ flag_at a t = get_or-set_other a i t true false n in
-        (λ h. inl (sym kept ∙ h), λ h. ⊎_elim (λ l. kept ∙ l) (λ e. absurd (n e)) h)
 
 -- where none was marked before, the flags are those that are marked
 pub flags_of : (n : ℕ) (p : ℕ → Type 0) (a b : List Bool) → length a ≡ n → ((t : ℕ) → flag_at a t ≡ false) → IsMarked p a b → AreFlags n p b
@@ -102,22 +92,6 @@ module _ (so : ℕ → Type 0) where
 
   pub count_end : (i : ℕ) (a b : List Bool) → length a ≤ i → IsMarked (λ t. (t < i) × so t) a b → IsMarked so a b
   count_end i a b past m = marked_as (λ t. (t < i) × so t) so a b (λ t low. (λ (less, is). is, λ is. (omega (arith, low), is))) m
-
--- a premise that is the test of a flag, or none
-pub premise_marked : (a : List Bool) (given premise : ℕ) → given ≤ premise → premise < given + length a
-    → IsMarked (λ t. premise ≡ given + t) a (set a (premise - given) true)
-premise_marked a given premise after low = marked_as (λ t. t ≡ premise - given) (λ t. premise ≡ given + t) a (set a (premise - given) true)
-    (λ t less. (λ e. omega (arith, e), λ e. omega (arith, e))) (set_marked a (premise - given) (omega arith))
-
-pub premise_apart : (a : List Bool) (given premise : ℕ) → premise < given → IsMarked (λ t. premise ≡ given + t) a a
-premise_apart a given premise before = marked_none (λ t. premise ≡ given + t) a (λ t low e. absurd (omega (arith, e)))
-
-pub asked_marked : (a : List Bool) (k : ℕ) (asked : Bool) → asked ≡ true → k < length a → IsMarked (λ t. (t ≡ k) × (asked ≡ true)) a (set a k true)
-asked_marked a k asked on low = marked_as (λ t. t ≡ k) (λ t. (t ≡ k)
-    × (asked ≡ true)) a (set a k true) (λ t less. (λ e. (e, on), λ (e, o). e)) (set_marked a k low)
-
-pub unasked_marked : (a : List Bool) (k : ℕ) (asked : Bool) → asked ≡ false → IsMarked (λ t. (t ≡ k) × (asked ≡ true)) a a
-unasked_marked a k asked no' = marked_none (λ t. (t ≡ k) × (asked ≡ true)) a (λ t low (e, on). clash asked on no')
 
 -- flags that were handed out as a slice, and marked
 pub flags_taken : (n : ℕ) (p : ℕ → Type 0) (items new : List Bool) (len : ℕ) → len ≡ length items → length items ≡ n → ((t : ℕ) → flag_at items t ≡ false)

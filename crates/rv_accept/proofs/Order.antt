@@ -118,19 +118,6 @@ some_inclusion (reason.Observer k' j' w') k rest e = absurd (apart 2 _ _ e refl)
 some_inclusion (reason.Target k' j' w') k rest e = absurd (apart 2 _ _ e refl)
 some_inclusion (reason.Multipliers k' j' n') k rest e = absurd (apart 2 _ _ e refl)
 
-pub some_multipliers : (q : Reason) (k : ℕ) (j : ℕ) (rest : List ℕ) → place q ≡ 1 ∷ k ∷ 2 ∷ j ∷ 3 ∷ rest → (n : ℕ) × (q ≡ reason.Multipliers k j n)
-some_multipliers (reason.NoInitial w') k j rest e = absurd (apart 0 _ _ e refl)
-some_multipliers (reason.Inclusion k' n') k j rest e = absurd (apart 2 _ _ e refl)
-some_multipliers (reason.Uncovered k' w') k j rest e = absurd (apart 2 _ _ e refl)
-some_multipliers (reason.Unsettled k' j') k j rest e = absurd (apart 4 _ _ e refl)
-some_multipliers (reason.Observer k' j' w') k j rest e = absurd (apart 4 _ _ e refl)
-some_multipliers (reason.Target k' j' w') k j rest e = absurd (apart 4 _ _ e refl)
-some_multipliers (reason.Multipliers k' j' n') k j rest e = (
-  n',
-  ap (λ z. reason.Multipliers z j' n') (nth 1 _ _ e)
-      ∙ ap (λ z. reason.Multipliers k z n') (nth 3 _ _ e),
-)
-
 unlike : (a b : List ℕ) → a ≡ b → (length a == length b) ≡ false → ⊥
 unlike a b e h = clash (length a == length b) (eq-eqb (length a) (length b) (ap (λ l. length l) e)) h
 

@@ -1,10 +1,9 @@
 -- What the counts and ranges of a certificate say of the implications of an entry, kind by kind.
-use Rattle.std.proofs.Common.{ℕ, zero, suc, ◌+◌, ◌<◌, ◌≤◌, ◌≡◌, ◌≢◌, ◌⊎◌, ◌^◌, pos, Bool, List, [], ◌∷◌, ◌++◌, length, length-append, All, refl, sym, ◌∙◌}
-use Rattle.std.proofs.Common.{subst, ⊎_elim, inr, arith, Option, Some, slice_get}
+use Rattle.std.proofs.Common.{ℕ, zero, suc, ◌+◌, ◌<◌, ◌≤◌, ◌≡◌, ◌≢◌, ◌⊎◌, ◌^◌, pos, Bool, List, [], ◌∷◌, ◌++◌, length, length-append, All, refl, sym, subst}
+use Rattle.std.proofs.Common.{⊎_elim, inr, arith, Option, Some, slice_get}
 use Rattle.std.proofs.lemmas.List.Elements.{All-append, All-weaker}
 use Rattle.std.proofs.lemmas.Option.{none-some, same_Some, slice_get_within}
-use Rattle.rv_rows.specs.Rows.{RowWithin, coefficient}
-use Rattle.rv_rows.specs.{declared.linear.Row.Row, declared.farkas.Weight.Weight, declared.farkas.Multipliers.Multipliers, Tight.Fits}
+use Rattle.rv_rows.specs.{Rows.RowWithin, Rows.coefficient, declared.linear.Row.Row, declared.farkas.Weight.Weight, declared.farkas.Multipliers.Multipliers}
 use Rattle.rv_proofs.specs.Ranges.{AreKept, IsRecord, HasDivisor, IsInRange, IsLocationInRange}
 use Rattle.rv_proofs.specs.Scopes.{Wanted, refutation, before, after, Implication, each, implications, rows_into, NamesTest, NeedsUpdate}
 use Rattle.rv_proofs.specs.declared.certificate.EntryKind.TheVariants.{Dead, Go, Loop}
@@ -14,7 +13,7 @@ use Rattle.rv_proofs.proofs.Records.{kept_within}
 use Rattle.rv_accept.specs.{Needs.SomeAt, Needs.IsNamed, Needs.IsNeeded, Needs.Names, Needs.IsMarked, Passing.AreAsked, Passing.AreKindAsked}
 use Rattle.rv_accept.proofs.Listing.{get_left, get_right, all_at, all_from, contains_get, get_contains, some_append, asks, each_at, named_each, needed_each}
 use Rattle.rv_accept.proofs.Listing.{needed_never}
-use Rattle.rv_accept.proofs.Marking.{marked_as, marked_then, marked_none}
+use Rattle.rv_accept.proofs.Marking.{marked_as, marked_then}
 use Rattle.rv_base.proofs.Lists.{item_at}
 
 -- an implication is within the limits
@@ -181,24 +180,3 @@ needed_both xs ys a b c m n = marked_as (λ k. IsNeeded xs k ⊎ IsNeeded ys k) 
 pub there_of : (n m : ℕ) (ms : List Multipliers) → n ≡ m → All (IsRecord n) ms → All (λ (x : Multipliers). All (λ (w : Weight). w.premise < m) x.weights) ms
 there_of n m ms e h = subst (λ (k : ℕ). All (λ (x : Multipliers). All (λ (w : Weight). w.premise < k) x.weights) ms) e
     (All-weaker (IsRecord n) (λ (x : Multipliers). All (λ (w : Weight). w.premise < n) x.weights) (λ x r. r.there) ms h)
-
--- the rows that are asked are as wide as there are memories
-pub asked_wide : (s : System) (given wanted : List Row) (by : List Multipliers) (n : ℕ) → n ≡ s.memories → AreAsked s given wanted by
-    → All (λ (r : Row). length r.coefficients ≡ n) wanted
-asked_wide s given wanted by n e a = All-weaker (λ (r : Row). (length r.coefficients ≡ s.memories)
-    × Fits r) (λ (r : Row). length r.coefficients ≡ n) (λ r k. k.0 ∙ sym e) wanted a.kept.0
-
--- a refutation needs no update
-pub needed_nothing : (a : List Bool) (given : List Row) (by : Multipliers) → IsMarked (IsNeeded (record {
-  given = given;
-  wanted = refutation;
-  by = by;
-} ∷ [])) a a
-needed_nothing a given by = marked_none (IsNeeded (one ∷ [])) a none
-  where
-    one : Implication
-    one = record { given = given; wanted = refutation; by = by }
-
-    none : (k : ℕ) → k < length a → IsNeeded (one ∷ []) k → ⊥
-    none k low (zero, i, at, need) = subst (λ (x : Implication). NeedsUpdate x.wanted k) (sym (same_Some one i at)) need
-    none k low (suc n, i, at, need) = none-some i at

@@ -1,5 +1,5 @@
 -- Each comparison is on the clock that it is given: its expression is on that clock, or is free and takes it.
-use Rattle.std.proofs.Common.{◌≡◌, ◌⊎◌, inl, inr, ℕ, Bool, true, false, cond, nat_eq, List, ◌++◌, length, refl, sym, ◌∙◌, subst, Option}
+use Rattle.std.proofs.Common.{◌≡◌, ◌⊎◌, inl, inr, ℕ, Bool, true, false, cond, nat_eq, List, ◌++◌, length, refl, subst, Option}
 use Rattle.std.proofs.lemmas.List.Elements.{Contains-append_cases}
 use Rattle.std.specs.List.{Contains}
 use Rattle.rv_tree.specs.{declared.tree.Op.Op, Tree.Tree, Tree.Form, Tree.Trees, Tree.NodeTree, Tree.ProgramTree, Places.Sites, Places.site_of}
@@ -14,10 +14,6 @@ use Rattle.rv_agreement.specs.Programs.{operator_place, operation, Compared, own
 use Rattle.rv_agreement.proofs.Matching.{in_own}
 use Rattle.rv_meaning.proofs.Suiting.{suits_both as suits_meet, suits_ground, suits_seen}
 use Rattle.rv_types.proofs.{Members.nothing_in, Paces.clock_same}
-
-pub suits_both : (k c d : Clock) (b : Bool) → same_clock c d ≡ b → Suits k (cond b (At c) Differ) → (c ≡ k) × (d ≡ k)
-suits_both k c d true e h = (h, sym (clock_same c d e) ∙ h)
-suits_both k c d false e h = absurd h
 
 pub suits_binary : (k : Clock) (o : Op) (p q : Pace) → Suits k (binary_pace o p q) → Suits k p × Suits k q
 suits_binary k op.Arrow p q h = suits_meet k p q (suits_ground k (meet p q) h)

@@ -4,8 +4,7 @@ use Rattle.std.proofs.lemmas.List.{length-map, get_or-map, get_or_default}
 use Rattle.std.specs.List.{Contains}
 use Rattle.rv_tree.specs.Places.{Sites}
 use Rattle.rv_types.specs.{Lists.AreRising, Needs.IsBefore}
-use Rattle.rv_invfile.proofs.MemoryLists.{both_before}
-use Rattle.rv_types.proofs.Members.{at_head, cons_cases, in_tail, nothing_in}
+use Rattle.rv_types.proofs.{Members.at_head, Members.cons_cases, Members.in_tail, Members.nothing_in, PlaceOrders.not_both}
 
 module _ (A : Type 0) (Before : A → A → Type 0) where
   -- Each element stands before those after it.
@@ -56,7 +55,7 @@ pub one_rising : {A : Type 0} (place : A → Sites) (xs ys : List A) → AreRisi
     → ((z : A) → Contains xs z → Contains ys z)
     → ((z : A) → Contains ys z → Contains xs z) → xs ≡ ys
 one_rising {A = A} place xs ys p q to from =
-    one_sorted A (λ x y. IsBefore (place x) (place y)) (λ x y. both_before (place x) (place y)) xs ys (rising_sorted place xs p) (rising_sorted place ys q) to
+    one_sorted A (λ x y. IsBefore (place x) (place y)) (λ x y. not_both (place x) (place y)) xs ys (rising_sorted place xs p) (rising_sorted place ys q) to
     from
 
 -- the same of places themselves
@@ -64,7 +63,7 @@ pub one_places : (ps qs : List Sites) → AreRising ps → AreRising qs → ((z 
     → ((z : Sites) → Contains qs z → Contains ps z)
     → ps ≡ qs
 one_places ps qs a b to from =
-    one_sorted Sites IsBefore both_before ps qs (places_sorted ps a) (places_sorted qs b) to from
+    one_sorted Sites IsBefore not_both ps qs (places_sorted ps a) (places_sorted qs b) to from
   where
     places_sorted : (ps : List Sites) → AreRising ps → AreSorted Sites IsBefore ps
     places_sorted ps rising = sorted_by Sites IsBefore ps

@@ -1,32 +1,18 @@
 -- Assertions read in their order.
 use Rattle.std.proofs.Common.{◌≡◌, ℕ, ◌+◌, ◌<◌, ◌≤◌, Bool, true, false, ◌&&◌, cond, List, ◌∷◌, length, drop, refl, sym, ◌∙◌, ap, Option, Some, None as Nothing}
 use Rattle.std.proofs.Math.ListN.{drop_of_length-le}
-use Rattle.rv_base.specs.declared.value.Value.TheVariants.{Flag}
 use Rattle.rv_types.specs.declared.typed.Kind.TheVariants as kind
 use Rattle.rv_diagram.specs.Nodes.{Valuation, Diagrams, Answers, IsRef, value_of}
 use Rattle.rv_agreement.specs.Valuations.{Reading, Truth, holds_true, read, IsSymbolic}
 use Rattle.rv_agreement.specs.{Agreement.ItemFits, Agreement.IsNamed, Trees.FlatTree, Trees.Item}
 use Rattle.rv_control.specs.{Control.all_met, Named.named}
-use Rattle.rv_flat.specs.{declared.flat.Flat.Flat, FlatInstants.system_of, RawTree.RawTree, RawTree.Node, RawTree.Constant, RawTree.Flow, Systems.asserted_on}
+use Rattle.rv_flat.specs.{declared.flat.Flat.Flat, FlatInstants.system_of}
 use Rattle.rv_symbolic.specs.Growing.{Extends, Makes}
 use Rattle.rv_symbolic.proofs.Extending.{extends_trans}
-use Rattle.rv_bits.specs.Asserted.{is_true_tree, guard_tree, guarded, met_at, IsMetRead, AreMetRead}
-use Rattle.rv_bits.specs.{declared.around.FlowRefs.FlowRefs, Bits.bit, Shown.clock_bit, Shown.is_there_at, Shown.AreFlowRefs, Shown.ReadsTo}
+use Rattle.rv_bits.specs.Shown.{clock_bit, is_there_at, AreFlowRefs, ReadsTo}
+use Rattle.rv_bits.specs.{Asserted.met_at, Asserted.IsMetRead, Asserted.AreMetRead, declared.around.FlowRefs.FlowRefs, Bits.bit}
 use Rattle.rv_bits.specs.declared.assertions.Guard.TheVariants as guard
 use Rattle.rv_bits.proofs.{Showing.shows_truth, Labels.and_step}
-
-neither : (b : Bool) (whole body : RawTree) → guarded whole (cond b guard.Neither guard.Neither) body ≡ (Nothing, whole)
-neither true whole body = refl
-neither false whole body = refl
-
--- a choice on a clock, or the whole
-pub choice_same : (whole there body absent : RawTree) → guarded whole (cond (is_true_tree absent) (guard_tree there) guard.Neither) body ≡ asserted_on whole
-    there body absent
-choice_same whole (Node at (Constant (Flag true))) body (Node other (Constant (Flag true))) = refl
-choice_same whole (Node at (Constant (Flag true))) body (Node other form) = refl
-choice_same whole (Node at (Flow c)) body (Node other (Constant (Flag true))) = refl
-choice_same whole (Node at (Flow c)) body (Node other form) = refl
-choice_same whole there body absent = neither (is_true_tree absent) whole body
 
 pub met_made : (f : Flat) (a b c : Diagrams) (r : FlowRefs) (clock : Option ℕ) (t : FlatTree) (bits : List ℕ) (one : ℕ) → ReadsTo f a b t bits
     → AreFlowRefs f b.nodes r → IsNamed (length r.on) clock

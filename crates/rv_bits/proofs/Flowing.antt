@@ -11,9 +11,9 @@ use Rattle.rv_agreement.specs.{Agreement.Fits, Agreement.IsNamed, Agreement.IsWe
 use Rattle.rv_flat.specs.{declared.flat.Flat.Flat, FlatInstants.system_of}
 use Rattle.rv_control.specs.Named.{named}
 use Rattle.rv_symbolic.specs.{Growing.Extends, Linked.AreRefs}
-use Rattle.rv_symbolic.proofs.Extending.{extends_refl, extends_trans, refs_after}
+use Rattle.rv_symbolic.proofs.Extending.{extends_trans, refs_after}
 use Rattle.rv_bits.specs.Shown.{Shows, refs_at, is_there_at, clock_bit, AreFlowRefs, IsAfter, ReadsTo}
-use Rattle.rv_bits.specs.{declared.around.FlowRefs.FlowRefs, Bits.bit, Flows.on_bit, Flows.AreFlowsRead, Flows.AreAfters, Reads.ShowsTo}
+use Rattle.rv_bits.specs.{declared.around.FlowRefs.FlowRefs, Bits.bit, Flows.on_bit, Flows.AreAfters, Reads.ShowsTo}
 use Rattle.rv_bits.proofs.{Making.any_ref, Making.refs_more, Making.ref_before, Making.ref_last, Making.bits_kept, Showing.shows_kept, Showing.shows_truth}
 use Rattle.rv_bits.proofs.{Keeping.flows_kept, Keeping.one_after_kept, Listing.element_before, Listing.element_last, Fitting.fits_more}
 use Rattle.rv_base.proofs.Options.{some_same}
@@ -145,19 +145,6 @@ module _ (f : Flat) (well : IsWell (system_of f)) (a b : Diagrams) (r : FlowRefs
               (subst (AreRefs b.nodes) (sym (element_last r.bits bits [] n (are.size ∙ size))) reads.are_refs)
           past (inl beyond) = subst (AreRefs b.nodes) (sym (get_or-eq_default (r.bits ++ bits ∷ []) []
               (omega (arith, length-append r.bits (bits ∷ []), are.size)))) (λ i lt. absurd (omega arith))
-
-pub flows_none : (f : Flat) (a : Diagrams) (n : ℕ) (r : FlowRefs) → n ≡ 0 → r.on ≡ [] → r.bits ≡ [] → AreFlowsRead f a a n r
-flows_none f a n r e on bits = record {
-  extends = extends_refl a;
-  size = ap (λ (l : List ℕ). length l) on ∙ sym e;
-  flows = record {
-    size = ap (λ (l : List (List ℕ)). length l) bits ∙ sym (ap (λ (l : List ℕ). length l) on);
-    on_refs = subst (AreRefs a.nodes) (sym on) (λ i lt. absurd (omega arith));
-    bit_refs = λ k. subst (λ (l : List (List ℕ)). AreRefs a.nodes (refs_at l k)) (sym bits) (λ i lt. absurd (omega arith));
-    on_shows = λ k v row lt instant. let none : length r.on ≡ 0 = ap (λ (l : List ℕ). length l) on in absurd (omega arith);
-    shows = λ k v row x lt instant is. let none : length r.on ≡ 0 = ap (λ (l : List ℕ). length l) on in absurd (omega arith);
-  };
-}
 
 pub after_pushed : (f : Flat) (a b c : Diagrams) (n : ℕ) (lists : List (List ℕ)) (refs : List ℕ) → AreAfters f a b n lists → ShowsTo f b c n refs
     → AreAfters f a c (n + 1) (lists ++ refs ∷ [])

@@ -107,15 +107,6 @@ list_pushed labels names owned kinds a b c n lists refs are size s = record {
   ];
 }
 
-pub lists_none : (labels : List ℕ) (names : List Variable) (owned : ℕ → ℕ → Variable) (kinds : ℕ → Kind) (a : Diagrams) (n : ℕ) (lists : List (List ℕ)) → n ≡ 0
-    → lists ≡ [] → AreBitLists labels names owned kinds a a n lists
-lists_none labels names owned kinds a n lists e is = record {
-  extends = extends_refl a;
-  size = ap (λ (l : List (List ℕ)). length l) is
-      ∙ sym e;
-  each = λ m lt. absurd (omega arith);
-}
-
 -- what a list says of the item of a loop over it
 pub item_in : {A B : Type 0} (g : A → B) (list items : List A) (k : ℕ) (item : A) (d : B) → items ≡ list → k < length items → item ≡ slice_index_or items k item
     → slice_index_or (map g list) k d ≡ g item

@@ -1,7 +1,7 @@
 -- What calls of the store make of references.
-use Rattle.std.proofs.Common.{◌≡◌, ℕ, suc, ◌+◌, ◌-◌, ◌*◌, ◌/◌, ◌%◌, ◌^◌, ◌<◌, ◌≤◌, Bool, true, false, not, ◌&&◌, ◌||◌, cond, nat_eq, nat_le, nat_lt, max, List}
-use Rattle.std.proofs.Common.{[], ◌∷◌, ◌++◌, length, refl, sym, ◌∙◌, ap, subst, arith, length-append, inl, inr}
-use Rattle.std.proofs.Math.Nat.{pow-succ', le-max_left, le-max_right, mul_comm, div-div-eq-div-mul, lt-div-mul-add}
+use Rattle.std.proofs.Common.{◌≡◌, ℕ, suc, ◌+◌, ◌-◌, ◌*◌, ◌/◌, ◌%◌, ◌^◌, ◌<◌, ◌≤◌, Bool, true, false, not, ◌&&◌, ◌||◌, cond, nat_eq, nat_le, nat_lt, List, []}
+use Rattle.std.proofs.Common.{◌∷◌, ◌++◌, length, refl, sym, ◌∙◌, ap, subst, arith, length-append, inl, inr}
+use Rattle.std.proofs.Math.Nat.{pow-succ', mul_comm, div-div-eq-div-mul, lt-div-mul-add}
 use Rattle.std.proofs.{lemmas.Bool.cases_lt, lemmas.List.get_or_append_left, Math.ListN.get_or-eq_default, Math.Seq.get_or-append_seam, lemmas.Nat.pow_pos}
 use Rattle.rv_diagram.specs.{declared.Triple.Triple, Nodes.Valuation, Nodes.Diagrams, Nodes.Answers, Nodes.IsRef, Nodes.value_of, Nodes.choice, Several.ref_at}
 use Rattle.rv_diagram.proofs.Calls.{value_of-false, value_of-true}
@@ -198,19 +198,6 @@ below_quotient number k e =
 -- no bit is left of a number of which nothing is left
 pub no_bit : (number k b : ℕ) → 0 ≡ number / 2 ^ k → k ≤ b → bit_of number b ≡ false
 no_bit number k b e le = bit_past number k b (below_quotient number k e) le
-
--- a choice between what is past both lists
-pub chosen_past : (nodes : List Triple) (condition : ℕ) (first second : List ℕ) (n : ℕ) (v : Valuation) → max (length first) (length second) ≤ n
-    → cond (value_of nodes condition v) (bit nodes first v n) (bit nodes second v n) ≡ false
-chosen_past nodes condition first second n v le =
-    let one : length first ≤ max (length first) (length second) = le-max_left (length first) (length second) in
-    let two : length second ≤ max (length first) (length second) = le-max_right (length first) (length second) in
-    (λ i. cond (value_of nodes condition v) (bit_none nodes first v n (omega arith) i) (bit_none nodes second v n (omega arith) i))
-    ∙ cond-same (value_of nodes condition v)
-  where
-    cond-same : (b : Bool) → cond b false false ≡ false
-    cond-same true = refl
-    cond-same false = refl
 
 -- a negation of what was made
 pub not_made : (a b c : Diagrams) (f : Valuation → Bool) (p r : ℕ) → Makes a b f p → Answers b c (λ v. not (value_of b.nodes p v)) r

@@ -1,7 +1,7 @@
 -- Variables found by their names, and how many bits a type has.
 use Rattle.std.proofs.Common.{◌≡◌, ◌⊎◌, ℕ, zero, suc, ◌+◌, ◌-◌, ◌^◌, ◌<◌, ◌≤◌, true, false, cond, nat_le, List, [], ◌∷◌, length, map, get_or, refl, sym, ◌∙◌}
 use Rattle.std.proofs.Common.{ap, subst, arith, inl, inr, Some, None as Nothing}
-use Rattle.std.proofs.lemmas.Bool.{and_parts, leb-true, le-leb, cases_Bool}
+use Rattle.std.proofs.lemmas.Bool.{and_parts, leb-true, cases_Bool}
 use Rattle.std.specs.Prelude.{slice_get}
 use Rattle.rv_types.specs.{Lists.Variable, Lists.Next, Variables.bits_from}
 use Rattle.rv_diagram.specs.Nodes.{Valuation}
@@ -43,14 +43,6 @@ bits_more count b lt =
         by : (nat_le m n ≡ true) ⊎ (nat_le m n ≡ false) → nat_le m n ≡ false
         by (inl e) = let le : m ≤ n = leb-true m n e in absurd (omega arith)
         by (inr e) = e
-
--- these bits are enough
-pub bits_done : (count b : ℕ) → count ≤ 2 ^ b → bits_from (count - b) b count ≡ b
-bits_done count b le = by (count - b)
-  where
-    by : (more : ℕ) → bits_from more b count ≡ b
-    by zero = refl
-    by (suc more) = ap (λ t. cond t b (bits_from more (b + 1) count)) (le-leb count (2 ^ b) le)
 
 pub few_at : (limit : ℕ) (ls : List (List (List ℕ))) (i : ℕ) (x : List (List ℕ)) → all_few limit ls ≡ true → slice_get ls i ≡ Some x → length x ≤ limit
 few_at limit [] i x few e = let bad : Nothing ≡ Some x = e in absurd (cc)

@@ -2,7 +2,6 @@
 use Rattle.std.proofs.Common.{◌≡◌, ℕ, zero, suc, ◌^◌, ◌<◌, ◌≤◌, Bool, true, false, not, ◌&&◌, ◌||◌, cond, nat_eq, nat_le, max, List, [], ◌∷◌, length, refl, sym}
 use Rattle.std.proofs.Common.{◌∙◌, ap, subst, arith, Option, Some, None as Nothing}
 use Rattle.std.proofs.Math.Nat.{le-max_left, le-max_right}
-use Rattle.std.specs.Prelude.{ℤ}
 use Rattle.rv_base.specs.declared.value.Value.{Value}
 use Rattle.rv_base.specs.declared.value.Value.TheVariants.{Flag, Label, Whole}
 use Rattle.rv_tree.specs.{declared.tree.Op.Op, Places.Sites}
@@ -12,9 +11,9 @@ use Rattle.rv_types.specs.declared.typed.Kind.TheVariants as kind
 use Rattle.rv_diagram.specs.{declared.Triple.Triple, Nodes.Valuation, Nodes.Diagrams, Nodes.IsRef, Nodes.value_of, Several.ref_at}
 use Rattle.rv_diagram.proofs.Calls.{value_of-false}
 use Rattle.rv_agreement.specs.Agreement.{Fits, HasKind, IsRule, IsPlaced, IsNamed, IsWell}
-use Rattle.rv_agreement.specs.Evaluation.{is_on, held, nth}
-use Rattle.rv_agreement.specs.Trees.{FlatTree, Node, FlatTrees, Constant, Flow, Memory, Ticked, Input, Not, Binary, Scale, If, AtMostOne, When, Current, Item}
-use Rattle.rv_agreement.specs.Trees.{nth_item, memory_items, memory_kinds, kind_at}
+use Rattle.rv_agreement.specs.Evaluation.{is_on, nth}
+use Rattle.rv_agreement.specs.Trees.{FlatTree, Node, FlatTrees, Constant, Memory, Ticked, Not, Binary, If, AtMostOne, When, Item, nth_item, memory_items}
+use Rattle.rv_agreement.specs.Trees.{memory_kinds, kind_at}
 use Rattle.rv_agreement.specs.Valuations.{Reading, Truth, Name, Linear, holds_true, is_linear, is_placed, is_same, operated, constant_reading, width, reads_at}
 use Rattle.rv_agreement.specs.Valuations.{read, updated, IsSymbolic}
 use Rattle.rv_flat.specs.{declared.flat.Flat.Flat, FlatInstants.system_of}
@@ -104,33 +103,11 @@ module _ (f : Flat) (v : Valuation) (row : List (Option Reading)) where
       by true e = refl
       by false e = no_flag (sym (ap (is_on Reading (reads_at (system_of f) (named f v))) e) ∙ on)
 
-pub reads_flow : (f : Flat) (d : Diagrams) (at : Sites) (n : ℕ) (r : FlowRefs) → AreFlowRefs f d.nodes r → n < length r.on
-    → ReadsTo f d d (Node at (Flow n)) (refs_at r.bits n)
-reads_flow f d at n r are lt = record {
-  extends = extends_refl d;
-  are_refs = are.bit_refs n;
-  shows = λ v row k j instant fits there.
-      let here : nth Reading (reads_at (system_of f) (named f v)) row n ≡ Some (read (system_of f) (named f v) row (nth_item (system_of f).flows n).body) =
-      flow_here f v row instant n fits.0 (ap (is_there_at f v row) fits.2 ∙ there) in
-      let shown : Shows d.nodes v (kind_at (system_of f).kinds n) (refs_at r.bits n) (read (system_of f) (named f v) row (nth_item (system_of f).flows n).body)
-      =
-      are.shows n v row (read (system_of f) (named f v) row (nth_item (system_of f).flows n).body) lt instant here in
-      subst (λ (x : Kind). Shows d.nodes v x (refs_at r.bits n) (read (system_of f) (named f v) row (Node at (Flow n)))) fits.1
-      (subst (Shows d.nodes v (kind_at (system_of f).kinds n) (refs_at r.bits n)) (sym (ap (held Reading (reads_at (system_of f) (named f v))) here)) shown);
-}
-
 pub reads_memory : (f : Flat) (d : Diagrams) (at : Sites) (m : ℕ) (t : Tables) → AreTables f d.nodes t → ReadsTo f d d (Node at (Memory m)) (refs_at t.kept m)
 reads_memory f d at m t are = record {
   extends = extends_refl d;
   are_refs = are.kept_refs m;
   shows = λ v row k j instant fits there. subst (λ (x : Kind). Shows d.nodes v x (refs_at t.kept m) ((found f v).kept m)) fits.1 (are.kept m v fits.0);
-}
-
-pub reads_input : (f : Flat) (d : Diagrams) (at : Sites) (i : ℕ) (t : Tables) → AreTables f d.nodes t → ReadsTo f d d (Node at (Input i)) (refs_at t.given i)
-reads_input f d at i t are = record {
-  extends = extends_refl d;
-  are_refs = are.given_refs i;
-  shows = λ v row k j instant fits there. subst (λ (x : Kind). Shows d.nodes v x (refs_at t.given i) ((found f v).given i)) fits.1 (are.given i v fits.0);
 }
 
 one_ref : (nodes : List Triple) (r : ℕ) → IsRef nodes r → AreRefs nodes (r ∷ [])
@@ -149,14 +126,6 @@ reads_tick f d at n t are = record {
   shows = λ v row k j instant fits there. shows_single d.nodes v j (ref_at t.ticks n) ((found f v).ticked n) fits.1 (are.ticks n v fits.0);
 }
 
-pub reads_scale : (f : Flat) (d : Diagrams) (at : Sites) (z : ℤ) (e : FlatTree) → ReadsTo f d d (Node at (Scale z e)) []
-reads_scale f d at z e = record {
-  extends = extends_refl d;
-  are_refs = λ k lt. absurd (omega arith);
-  shows = λ v row k j instant fits there. subst (λ (x : Kind). Shows d.nodes v x [] (read (system_of f) (named f v) row (Node at (Scale z e))))
-      (sym fits.0) refl;
-}
-
 pub reads_when : (f : Flat) (a b : Diagrams) (at : Sites) (c : ℕ) (e : FlatTree) (refs : List ℕ) → ReadsTo f a b e refs
     → ReadsTo f a b (Node at (When c e)) refs
 reads_when f a b at c e refs r = record {
@@ -164,18 +133,6 @@ reads_when f a b at c e refs r = record {
   are_refs = r.are_refs;
   shows = λ v row k j instant fits there. r.shows v row (nth_item (system_of f).flows c).clock j instant fits.2
       (clock_here f v row instant c fits.1 (ap (is_there_at f v row) (sym fits.0) ∙ there));
-}
-
-pub reads_current : (f : Flat) (a b : Diagrams) (at : Sites) (m : ℕ) (i : Option ℕ) (e : FlatTree) (refs : List ℕ) → ShowsTo f a b m refs
-    → ReadsTo f a b (Node at (Current m i e)) refs
-reads_current f a b at m i e refs s = record {
-  extends = s.extends;
-  are_refs = s.is_after.are_refs;
-  shows = λ v row k j instant fits there.
-      let same : updated (system_of f) (named f v) row m ≡ read (system_of f) (named f v) row (Node at (Current m i e)) =
-      ap (λ (x : Item). cond (is_there_at f v row x.clock) (read (system_of f) (named f v) row x.body) ((found f v).kept m)) fits.2 in
-      subst (λ (x : Kind). Shows b.nodes v x refs (read (system_of f) (named f v) row (Node at (Current m i e)))) fits.1
-      (subst (Shows b.nodes v (kind_at (memory_kinds (system_of f)) m) refs) same (s.is_after.shows v row fits.0 instant));
 }
 
 -- OPERATORS

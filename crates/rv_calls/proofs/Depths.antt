@@ -1,9 +1,9 @@
 -- How a search in depth goes on, whatever it finds.
-use Rattle.std.proofs.Common.{◌≡◌, ℕ, ◌+◌, ◌-◌, ◌<◌, inl, inr, true, false, List, [], ◌∷◌, ◌++◌, length, get_or, set, take, replicate, sym, ◌∙◌, ap, subst}
-use Rattle.std.proofs.Common.{arith, length-take-le}
-use Rattle.std.proofs.lemmas.List.{length-replicate, length-set}
+use Rattle.std.proofs.Common.{◌≡◌, ℕ, ◌+◌, ◌-◌, ◌<◌, inl, inr, true, false, List, [], ◌∷◌, ◌++◌, length, get_or, set, take, sym, ◌∙◌, ap, subst, arith}
+use Rattle.std.proofs.Common.{length-take-le}
+use Rattle.std.proofs.lemmas.List.{length-set}
 use Rattle.rv_calls.specs.{Graphs.Graph, Graphs.falses, declared.graph.Walk.Walk, Components.AreVertices, Components.IsDepth}
-use Rattle.rv_calls.proofs.Walks.{snoc_at, snoc_front, snoc_last, snoc_length, get_or-take_below, set_falses}
+use Rattle.rv_calls.proofs.Walks.{snoc_at, snoc_length, get_or-take_below, set_falses}
 
 vertices_snoc : (g : Graph) (vs : List ℕ) (v : ℕ) → AreVertices g vs → v < length g → AreVertices g (vs ++ v ∷ [])
 vertices_snoc g vs v are within i lt = elim (snoc_at vs v i lt) [
@@ -16,36 +16,6 @@ vertices_front g vs are i lt =
     let n = length-take-le (length vs - 1) vs (omega arith) in
     let below : i < length vs - 1 = omega (arith, n, lt) in
     subst (λ u. u < length g) (sym (get_or-take_below vs (length vs - 1) i 0 below)) (are i (omega (arith, below)))
-
--- the last vertex apart
-pub vertices_rest : (g : Graph) (vs rest : List ℕ) (v : ℕ) → AreVertices g vs → vs ≡ rest ++ v ∷ []
-    → AreVertices g rest × (v < length g) × (length rest < length vs)
-vertices_rest g vs rest v are is = (
-  (λ i lt. subst (λ u. u < length g) (at i lt) (are i (let n = size in omega (arith, n, lt)))),
-  subst (λ u. u < length g) last (are (length rest) (let n = size in omega (arith, n))),
-  (let n = size in omega (arith, n)),
-)
-  where
-    size : length vs ≡ length rest + 1
-    size = ap length is ∙ snoc_length rest v
-
-    at : (i : ℕ) → i < length rest → get_or vs i 0 ≡ get_or rest i 0
-    at i lt = ap (λ l. get_or l i 0) is ∙ snoc_front rest v i lt
-
-    last : get_or vs (length rest) 0 ≡ v
-    last = ap (λ l. get_or l (length rest) 0) is ∙ snoc_last rest v
-
--- the search at its start
-pub depth_start : (g : Graph) (w : Walk)
-    → (w.entered ≡ replicate (length g) false) × (w.finished ≡ replicate (length g) false) × (w.cursor ≡ replicate (length g) 0) × (w.path ≡ [])
-    × (w.order ≡ []) → IsDepth g w
-depth_start g w e = record {
-  entered = ap length e.0 ∙ length-replicate (length g) false;
-  finished = ap length e.1 ∙ length-replicate (length g) false;
-  cursor = ap length e.2 ∙ length-replicate (length g) 0;
-  path = λ i lt. absurd (let n = ap length e.3 in omega (arith, n, lt));
-  order = λ i lt. absurd (let n = ap length e.4 in omega (arith, n, lt));
-}
 
 -- what is left to do
 abbrev pub weight : Walk → ℕ

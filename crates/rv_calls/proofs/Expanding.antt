@@ -1,5 +1,5 @@
 -- A walk over instances that waits for those of which it has not looked at the calls.
-use Rattle.std.proofs.Common.{◌≡◌, ℕ, zero, suc, ◌+◌, ◌<◌, inl, inr, List, [], ◌∷◌, ◌++◌, map, reverse, length, get_or, drop, refl, sym, ◌∙◌, ap, subst, arith}
+use Rattle.std.proofs.Common.{◌≡◌, ℕ, zero, suc, ◌+◌, ◌<◌, inl, inr, List, [], ◌∷◌, ◌++◌, map, reverse, length, get_or, sym, ◌∙◌, ap, subst, arith}
 use Rattle.std.proofs.lemmas.List.{append_assoc, append-nil, reverse-append}
 use Rattle.std.proofs.lemmas.List.Elements.{Contains-append_left, Contains-append_cases, Contains-push}
 use Rattle.std.specs.List.{Contains, flat_map}
@@ -8,8 +8,8 @@ use Rattle.rv_calls.specs.Listing.{called_instance, listed, all_listed, ahead, I
 use Rattle.rv_calls.specs.{declared.calls.Calling.Calling, Graphs.IsGraph, Graphs.IsOrdered, Callings.callees, Callings.call_graph}
 use Rattle.rv_instances.proofs.Lists.{contains_at, length_map}
 use Rattle.rv_calls.proofs.Lowering.{edge_of}
-use Rattle.rv_types.proofs.{Members.cons_cases, Members.nothing_in, ConstantKinds.of_reverse}
-use Rattle.rv_base.proofs.Lists.{flat_map_same, from_map, next_of}
+use Rattle.rv_types.proofs.ConstantKinds.{of_reverse}
+use Rattle.rv_base.proofs.Lists.{flat_map_same, from_map}
 
 module _ (t : List (List Calling)) (order : List ℕ) (ordered : IsOrdered (call_graph t) order) where
   -- more levels than a node's number in the order give nothing more
@@ -55,15 +55,6 @@ ahead_callees t path ws (c ∷ cs) =
     ∙ ap (λ l. all_listed t (path ++ c.site ∷ []) c.callee ++ l) (ahead_callees t path ws cs)
     ∙ sym (append_assoc (all_listed t (path ++ c.site ∷ []) c.callee) (flat_map (λ (c : Calling). all_listed t (path ++ c.site ∷ []) c.callee) cs) (ahead t ws))
 
-pub expansion_start : (t : List (List Calling)) (root : ℕ) → root < length t → IsExpansion t root [] (record { path = []; node = root } ∷ [])
-expansion_start t root lt = record {
-  whole = refl;
-  within = λ w v. elim (cons_cases (record { path = []; node = root }) [] w v) [
-    | inl same ↦ subst (λ (i : Instance). i.node < length t) same lt
-    | inr rest ↦ nothing_in w rest
-  ];
-}
-
 -- the next that waits is a node
 pub expansion_next : (t : List (List Calling)) (root : ℕ) (found waiting rest : List Instance) (i : Instance) → IsExpansion t root found waiting
     → waiting ≡ rest ++ i ∷ [] → i.node < length t
@@ -106,18 +97,3 @@ module _ (t : List (List Calling)) (graph : IsGraph (call_graph t)) (order : Lis
   pub ahead_less : (waiting rest next : List Instance) (i : Instance) → i.node < length t → waiting ≡ rest ++ i ∷ []
       → next ≡ rest ++ reverse (map (called_instance i.path) (get_or t i.node [])) → length (ahead t next) < length (ahead t waiting)
   ahead_less waiting rest next i lt taken is = let e = ap length (ahead_next waiting rest next i lt taken is) in omega (arith, e)
-
--- nothing waits
-pub expansion_end : (t : List (List Calling)) (root : ℕ) (found waiting : List Instance) → IsExpansion t root found waiting → waiting ≡ []
-    → found ≡ all_listed t [] root
-expansion_end t root found waiting is none = sym (append-nil found) ∙ ap (λ l. found ++ ahead t l) (sym none) ∙ is.whole
-
--- a loop over calls from the last to the first
-pub callees_more : (path : List ℕ) (calls : List Calling) (old now : List Instance) (k : ℕ) (c : Calling) → k < length calls → c ≡ get_or calls k c
-    → now ≡ old ++ reverse (map (called_instance path) (drop (k + 1) calls))
-    → now ++ called_instance path c ∷ [] ≡ old ++ reverse (map (called_instance path) (drop k calls))
-callees_more path calls old now k c lt is inv =
-    ap (λ l. l ++ called_instance path c ∷ []) inv
-    ∙ append_assoc old (reverse (map (called_instance path) (drop (k + 1) calls))) (called_instance path c ∷ [])
-    ∙ ap (λ l. old ++ l) (sym (reverse-append (called_instance path c ∷ []) (map (called_instance path) (drop (k + 1) calls))))
-    ∙ ap (λ (l : List Calling). old ++ reverse (map (called_instance path) l)) (sym (next_of calls k c lt is))

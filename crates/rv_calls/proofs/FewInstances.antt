@@ -8,8 +8,8 @@ use Rattle.rv_instances.specs.AllInstances.{names_of, AreInstances, numbered}
 use Rattle.rv_instances.specs.{declared.answer.Instance.Instance as Numbered, Expanded.IsExpanded, Counts.instance_count}
 use Rattle.rv_calls.specs.Reach.{HasNoRecursion}
 use Rattle.rv_calls.proofs.AllInstances.{all_found, pigeonhole}
-use Rattle.rv_instances.proofs.{ExpandedLaws.not_itself, Known.name_declared, Lists.length_map}
-use Rattle.rv_types.proofs.Members.{in_map}
+use Rattle.rv_instances.proofs.{Known.name_declared, Lists.length_map}
+use Rattle.rv_types.proofs.{Members.in_map, PlaceOrders.not_itself}
 
 -- where the elements of a list stand in another
 places_in : (xs ys : List Numbered) → ((x : Numbered) → Contains xs x → Contains ys x) → List ℕ

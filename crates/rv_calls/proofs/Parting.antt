@@ -1,7 +1,6 @@
 -- How roots get their components.
-use Rattle.std.proofs.Common.{◌≡◌, ℕ, zero, suc, ◌<◌, ◌⊎◌, inl, inr, [], length, get_or, replicate, refl, sym, ◌∙◌, ap, subst, arith, Option, Some}
-use Rattle.std.proofs.Common.{None as Nothing}
-use Rattle.std.proofs.lemmas.List.{length-replicate, get_or_past}
+use Rattle.std.proofs.Common.{◌≡◌, ℕ, ◌<◌, ◌⊎◌, inl, inr, [], length, get_or, refl, sym, ◌∙◌, ap, subst, arith, Option, Some, None as Nothing}
+use Rattle.std.proofs.lemmas.List.{get_or_past}
 use Rattle.std.specs.List.{Contains}
 use Rattle.rv_calls.specs.Components.{Marks, mark_of, HasMark, AreComponents, IsReversed, IsReached, IsParted}
 use Rattle.rv_calls.specs.{Graphs.Graph, Graphs.edges, Callings.LeadsTo, Callings.there, Callings.over}
@@ -24,27 +23,12 @@ no_mark o r e n = cc
 pub same_mark : (r s : ℕ) → Some r ≡ Some s → r ≡ s
 same_mark r s e = cc
 
-none_put : (n k : ℕ) → mark_of (replicate n Nothing) k ≡ Nothing
-none_put zero k = refl
-none_put (suc n) zero = refl
-none_put (suc n) (suc k) = none_put n k
-
 -- only a vertex has an edge
 edge_from : (g : Graph) (a j : ℕ) → j < length (edges g a) → a < length g
 edge_from g a j lt = elim (nat_split a (length g)) [
   | inl less ↦ less
   | inr past ↦ absurd (let e = ap length (get_or_past g a [] past) in omega (arith, e, lt))
 ]
-
--- no vertex has a component
-pub parted_none : (g : Graph) → IsParted g (replicate (length g) Nothing) (replicate (length g) Nothing)
-parted_none g = record {
-  seen_size = length-replicate (length g) Nothing;
-  size = length-replicate (length g) Nothing;
-  own = λ k r e. no_mark (mark_of (replicate (length g) Nothing) k) r e (none_put (length g) k);
-  whole = λ k m r e p q. no_mark (mark_of (replicate (length g) Nothing) k) r e (none_put (length g) k);
-  fresh = λ k r e. no_mark (mark_of (replicate (length g) Nothing) k) r e (none_put (length g) k);
-}
 
 -- A root without a component.
 module _ (g h : Graph) (turned : IsReversed g h) (seen parts : Marks) (root : ℕ) (parted : IsParted g seen parts) (free : mark_of parts root ≡ Nothing) where

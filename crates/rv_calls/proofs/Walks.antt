@@ -4,7 +4,7 @@ use Rattle.std.proofs.Common.{replicate, refl, sym, ◌∙◌, ap, subst, arith,
 use Rattle.std.proofs.lemmas.List.{length-replicate, length-set, get_or-set_same, get_or-set_other, get_or-replicate, get_or_append_left, get_or_past}
 use Rattle.std.proofs.lemmas.Bool.{cases_eq}
 use Rattle.std.specs.List.{Contains}
-use Rattle.rv_calls.specs.Graphs.{Graph, edges, IsGraph, IsOrdered, Follows, IsLoop, IsWalk, IsNext, Keeps, falses}
+use Rattle.rv_calls.specs.Graphs.{Graph, edges, IsGraph, Follows, IsLoop, IsWalk, IsNext, Keeps, falses}
 use Rattle.rv_calls.specs.declared.graph.Walk.{Walk}
 use Rattle.rv_instances.proofs.Lists.{contains_at, at_contains, nat_split}
 use Rattle.rv_base.proofs.Lists.{set_keeps}
@@ -512,17 +512,3 @@ root_step g w new v walk none within not is =
       set_here w.entered v
           (subst (λ n. v < n) (sym walk.entered_size) within),
     )
-
--- where all vertices have been entered and the path is empty, they are listed in order
-pub at_end : (g : Graph) (w : Walk) → IsWalk g w → w.path ≡ [] → ((k : ℕ) → k < length g → get_or w.entered k false ≡ true) → IsOrdered g w.order
-at_end g w walk none all = record {
-  once = walk.order_once;
-  size = let c = walk.count in omega (arith, c);
-  all = λ k lt. walk.listed k lt (done k lt (get_or w.finished k false) refl);
-  only = walk.order_in;
-  after = walk.order_after;
-}
-  where
-    done : (k : ℕ) → k < length g → (b : Bool) → get_or w.finished k false ≡ b → get_or w.finished k false ≡ true
-    done k lt true e = e
-    done k lt false e = absurd (let there = walk.on_path k lt (all k lt) e in let less = there.1 in let n = ap length none in omega (arith, n, less))

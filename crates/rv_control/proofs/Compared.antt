@@ -10,7 +10,7 @@ use Rattle.rv_tree.specs.Delays.{Delay, delays, form_delays, delays_of_all, dela
 use Rattle.rv_tree.specs.{declared.tree.Op.Op, Places.Identifier, Places.Sites}
 use Rattle.rv_types.specs.Variables.{is_integer, parts, form_parts, parts_of_all, node_parts}
 use Rattle.rv_types.specs.Instances.{CallTree, calls_in, form_calls, calls_in_all, calls_in_equations, calls_in_assertions, calls, Right, Body, Output, IsRight}
-use Rattle.rv_types.specs.Instances.{alone, in_order, IsArgument, head, tail, clock_of, Instance, IsInstance}
+use Rattle.rv_types.specs.Instances.{alone, in_order, IsArgument, clock_of, Instance, IsInstance}
 use Rattle.rv_types.specs.Needs.{Giver, Given, Of, Gives, given, by_equation, by_call}
 use Rattle.rv_types.specs.{declared.typed.Clock.Clock, Lists.sides_of, Lists.Compares, Types.is_constant, Types.kind_of, Scopes.node_scope, Values.operand_kind}
 use Rattle.rv_types.specs.declared.typed.Kind.TheVariants as kind
@@ -18,12 +18,8 @@ use Rattle.rv_agreement.specs.Valuations.{is_placed}
 use Rattle.rv_agreement.specs.Programs.{spot, is_test, operator_place, Compared, own_compared, compared, form_compared, compared_all, IsComparison, in_flow}
 use Rattle.rv_agreement.specs.Programs.{in_memory, in_assertion}
 use Rattle.rv_agreement.proofs.Suited.{either_of, one_of}
-use Rattle.rv_types.proofs.{Members.at_head, Members.cons_cases, Members.in_flat_map, Members.in_tail, Members.nothing_in, ChainLaws.no_flag}
-
--- The parts of an argument, of an operand of a delay and of an argument of a call are parts.
-argument_parts : (es : Trees) (j : ℕ) (e x : Tree) → IsArgument es j e → Contains (parts e) x → Contains (parts_of_all es) x
-argument_parts _ _ e x (head {es = es}) w = Contains-append_left (parts e) (parts_of_all es) x w
-argument_parts _ _ e x (tail {e = b} {es = es} arg) w = Contains-append_right (parts b) (parts_of_all es) x (argument_parts es _ e x arg w)
+use Rattle.rv_types.proofs.Members.{at_head, cons_cases, in_flat_map, in_tail, nothing_in}
+use Rattle.rv_types.proofs.{ChainLaws.no_flag, CallsWithin.argument_parts}
 
 mutual
   delay_parts : (t : Tree) (d : Delay) (x : Tree) → Contains (delays t) d → Contains (parts d.operand) x → Contains (parts t) x

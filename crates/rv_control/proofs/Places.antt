@@ -14,7 +14,7 @@ use Rattle.rv_control.specs.{Tightening.tightened, Named.same_side, Named.tick_v
 use Rattle.rv_control.proofs.Listed.{IsStateBit, a_tick, a_bit, a_bit_of, IsTestBit, a_test, IsListed}
 use Rattle.rv_control.proofs.{Names.side_told, Names.side_itself, Tightened.tightened_is}
 use Rattle.rv_agreement.proofs.Chosen.{sites_itself, sites_told}
-use Rattle.rv_types.proofs.{Members.cons_cases, Members.in_flat_map, Members.in_tail, Members.nothing_in, ChainLaws.no_flag}
+use Rattle.rv_types.proofs.{Members.cons_cases, Members.in_flat_map, Members.in_tail, Members.nothing_in, ChainLaws.no_flag, NamePlaces.length_copies}
 
 -- Presence.
 has_told : (sides : List Side) (side : Side) → has_side sides side ≡ true → Contains sides side
@@ -161,10 +161,6 @@ all_tests (x ∷ xs) is = elim (is x (0, omega arith, refl)) [
       subst (λ y. order_tests (y ∷ xs) ≡ suc (length xs)) (sym e) (let h = all_tests xs (λ y w. is y (in_tail x xs y w)) in omega (arith, h))
 ]
 
-length-copies : (xs : List Variable) → length (with_copies xs) ≡ 2 * length xs
-length-copies [] = refl
-length-copies (x ∷ xs) = let h = length-copies xs in omega (arith, h)
-
 -- the state bit with a number stands at twice the number
 copied_at : (xs rest : List Variable) (i : ℕ) → i < length xs → slice_index_or (with_copies xs ++ rest) (2 * i) Next ≡ slice_index_or xs i Next
 copied_at [] rest i lt = absurd (omega arith)
@@ -232,7 +228,7 @@ module _ (s : System) (names : List Variable) (listed : IsListed s names) where
   names_are =
       let a = length-append (with_copies listed.bits) (listed.given ++ listed.order) in
       let b = length-append listed.given listed.order in
-      let c = length-copies listed.bits in
+      let c = length_copies listed.bits in
       ap length listed.list ∙ omega (arith, a, b, c)
 
   -- the variable of a state bit
@@ -245,7 +241,7 @@ module _ (s : System) (names : List Variable) (listed : IsListed s names) where
   -- the variable of a test
   pub test_at : (j : ℕ) → j < length listed.order → slice_index_or names (length names - order_tests names + j) Next ≡ slice_index_or listed.order j Next
   test_at j lt =
-      let copies = length-copies listed.bits in
+      let copies = length_copies listed.bits in
       let e : length names - order_tests names + j ≡ length (with_copies listed.bits) + (length listed.given + j) = omega
       (arith, names_are, tests_are, copies) in
       ap (λ k. slice_index_or names k Next) e

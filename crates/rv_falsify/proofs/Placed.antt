@@ -15,7 +15,6 @@ use Rattle.rv_flat.specs.{declared.flat.Flat.Flat, declared.parts.Bit.Bit, decla
 use Rattle.rv_flat.specs.{FlatInstants.system_of, FlatOf.IsFlatOf, Lists.tick_places, Lists.variable_of, Systems.memory_of}
 use Rattle.rv_flat.specs.declared.parts.Bit.TheVariants as bit
 use Rattle.rv_flat.specs.FlatInstants as flats
-use Rattle.rv_flat.proofs.Earliest.{not_itself}
 use Rattle.rv_control.specs.Named.{same_variable, tick_variable, truth_at, variables_of}
 use Rattle.rv_control.proofs.Listed.{IsStateBit, a_tick, a_bit, IsInputBit, a_bit_of, IsTestBit, a_test}
 use Rattle.rv_control.proofs.Order.{bit_from, input_bit, same_bits, state_bit, test_bit}
@@ -23,9 +22,9 @@ use Rattle.rv_control.proofs.{Names.kept_itself, Names.input_itself, Names.state
 use Rattle.rv_replay.proofs.{Orders.one_listing, FlatTraces.places_same}
 use Rattle.rv_falsify.specs.Decoding.{bits_before}
 use Rattle.rv_agreement.proofs.{Chosen.sites_told, Systems.from_map}
-use Rattle.rv_flatten.proofs.CountedVariables.{length_bits, length_copies}
+use Rattle.rv_flatten.proofs.CountedVariables.{length_bits}
 use Rattle.rv_meaning.proofs.NameLemmas.{same_text}
-use Rattle.rv_types.proofs.Members.{at_head, cons_cases, in_tail, of_flat_map}
+use Rattle.rv_types.proofs.{Members.at_head, Members.cons_cases, Members.in_tail, Members.of_flat_map, NamePlaces.length_copies, PlaceOrders.not_itself}
 
 -- Variables without a name are passed over.
 skip : (xs ys : List Variable) (u : Numbered) (x : Variable) → ((y : Variable) → Contains xs y → same_variable y x ≡ false)

@@ -8,6 +8,7 @@ use Rattle.rv_base.specs.declared.value.Place.{Place}
 use Rattle.rv_tree.specs.Places.{Sites}
 use Rattle.rv_types.specs.Needs.{IsBefore}
 use Rattle.rv_flat.specs.{Earliest.is_before, Earliest.sooner, Earliest.IsPicked, Steps.IsLeast, Steps.IsLeastOf}
+use Rattle.rv_types.proofs.PlaceOrders.{not_itself}
 
 -- the test says what the order does
 pub before_tested : (p q : Sites) → is_before p q ≡ true → IsBefore p q
@@ -21,24 +22,6 @@ before_tested (x ∷ xs) (y ∷ ys) e = tested (nat_cmp x y) refl e (before_test
     tested Less is e later = inl (grind (arith, nat_tests))
     tested Equal is e later = inr (grind (arith, nat_tests), later e)
     tested Greater is e later = let bad : false ≡ true = e in absurd (grind arith)
-
-pub not_before_tested : (p q : Sites) → is_before p q ≡ false → IsBefore p q → ⊥
-not_before_tested p [] e b = b
-not_before_tested [] (y ∷ ys) e b = let bad : true ≡ false = e in absurd (grind arith)
-not_before_tested (x ∷ xs) (y ∷ ys) e b = tested (nat_cmp x y) refl e b (not_before_tested xs ys)
-  where
-    tested : (o : Ordering) → nat_cmp x y ≡ o → is_lt (ordering_then o (slice_cmp nat_cmp xs ys)) ≡ false → (x < y) ⊎ ((x ≡ y) × IsBefore xs ys)
-        → (is_before xs ys ≡ false → IsBefore xs ys → ⊥) → ⊥
-    tested Less is e b later = let bad : true ≡ false = e in absurd (grind arith)
-    tested Equal is e (inl lt) later = grind (arith, nat_tests)
-    tested Equal is e (inr (same, b)) later = later e b
-    tested Greater is e (inl lt) later = grind (arith, nat_tests)
-    tested Greater is e (inr (same, b)) later = grind (arith, nat_tests)
-
-pub not_itself : (p : Sites) → IsBefore p p → ⊥
-not_itself [] b = b
-not_itself (x ∷ xs) (inl lt) = absurd (omega arith)
-not_itself (x ∷ xs) (inr (e, b)) = not_itself xs b
 
 chain : (p q r : Sites) → IsBefore p q → IsBefore q r → IsBefore p r
 chain p q [] b c = c

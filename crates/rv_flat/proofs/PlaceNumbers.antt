@@ -10,8 +10,8 @@ use Rattle.rv_base.specs.declared.value.Value.{Value}
 use Rattle.rv_tree.specs.Places.{Sites, is_same, is_among, index_of}
 use Rattle.rv_meaning.specs.Runs.{Instant, flat, cell}
 use Rattle.rv_flat.specs.{FlatInstants.Row, FlatInstants.nth, FlatOf.row_of, FlatOf.instant_of}
-use Rattle.rv_meaning.proofs.{Rows.only_equal, Told.index_past}
-use Rattle.rv_types.proofs.{Members.among_from, Members.index_there, ChainLaws.no_flag}
+use Rattle.rv_meaning.proofs.Rows.{only_equal}
+use Rattle.rv_types.proofs.{Members.among_from, Members.index_there, ChainLaws.no_flag, NamePlaces.index_past}
 
 -- what is made of each of some places, by the number of one of them
 pub made_at : {Y : Type 0} (f : Sites → Y) (ps : List Sites) (p : Sites) (d : Y) → is_among ps p ≡ true → get_or (map f ps) (index_of ps p) d ≡ f p

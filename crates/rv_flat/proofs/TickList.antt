@@ -7,7 +7,8 @@ use Rattle.rv_types.specs.Lists.{memory_variables, input_variables, test_variabl
 use Rattle.rv_types.specs.{declared.typed.Kind.Kind, Variables.kind_bits, Needs.IsBefore, Kinds.decl_kinds, Instances.node_of}
 use Rattle.rv_flat.specs.{declared.parts.Bit.Bit, Lists.tick_places, Lists.variable_of}
 use Rattle.rv_flat.specs.declared.parts.Bit.TheVariants as bit
-use Rattle.rv_flat.proofs.{Earliest.not_itself, PlaceNumbers.its_number}
+use Rattle.rv_flat.proofs.PlaceNumbers.{its_number}
+use Rattle.rv_types.proofs.PlaceOrders.{not_itself}
 
 -- the first number of a place in a list that rises
 module _ (ps : List Sites) where

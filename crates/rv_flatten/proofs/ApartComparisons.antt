@@ -17,12 +17,11 @@ use Rattle.rv_agreement.specs.Valuations.{all_comparisons}
 use Rattle.rv_agreement.specs.{Agreement.AreApart, Programs.spot, Programs.is_test, Programs.operator_place, Programs.coefficient, Programs.operation}
 use Rattle.rv_flatten.proofs.Standing.{Stands, as_child, of_not, of_minus, of_when, of_left, of_right, of_condition, of_first, of_second, of_operand, stands_in}
 use Rattle.rv_flatten.proofs.Standing.{body_stands, argument_stands, operand_stands, as_assertion}
-use Rattle.rv_flatten.proofs.{ComparedParts.one_tree}
+use Rattle.rv_flatten.proofs.ComparedParts.{one_tree}
 use Rattle.rv_instances.proofs.FlowPlaces.{snoc_parts}
 use Rattle.rv_types.proofs.{Members.cons_cases, Members.nothing_in, Members.of_flat_map, ChainLaws.no_flag}
 use Rattle.rv_base.proofs.Truths.{both_of}
-use Rattle.rv_meaning.proofs.Defined.{same_instance}
-use Rattle.rv_meaning.proofs.Acceptable.{node_in}
+use Rattle.rv_meaning.proofs.{Defined.same_instance, Acceptable.node_in}
 
 -- what an operator is itself has a place
 own_is : (o : Op) (r c : Comparison) → Contains (own o r) c → (is_placed r.at ≡ true) × (r ≡ c)

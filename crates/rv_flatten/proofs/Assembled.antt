@@ -26,18 +26,13 @@ use Rattle.rv_flat.specs.{declared.parts.FlatMemory.FlatMemory, Facts.ticks_know
 use Rattle.rv_agreement.specs.{Checks.is_of, Translation.Numbers}
 use Rattle.rv_flatten.specs.Readings as readings
 use Rattle.rv_flatten.proofs.FlowKinds.{HasFlow, is_flow, kinds_many, flow_of_site, base_flow}
-use Rattle.rv_flatten.proofs.{ArrowClocks.node_comes, ArrowClocks.arrow_known, FlowTotals.some_instance, KindNumbers.kind_itself, FewInputs.few_inputs}
-use Rattle.rv_flatten.proofs.{MadeItems.HasNumbers, Translated.mapped_at}
-use Rattle.rv_instances.proofs.LaidFlows.{laid_is}
+use Rattle.rv_flatten.proofs.ArrowClocks.{node_comes, arrow_known}
+use Rattle.rv_flatten.proofs.{FlowTotals.some_instance, KindNumbers.kind_itself, FewInputs.few_inputs, MadeItems.HasNumbers, Translated.mapped_at}
+use Rattle.rv_instances.proofs.{LaidFlows.laid_is, ExpandedLaws.number_at, ExpandedLaws.node_is, ExpandedLaws.node_in}
 use Rattle.rv_flatten.proofs.MainNames as main_names
-use Rattle.rv_meaning.proofs.NameLemmas.{same_text}
+use Rattle.rv_meaning.proofs.{NameLemmas.same_text, Acceptable.formed, Acceptable.typed}
 use Rattle.rv_types.proofs.{ConstantContents.kind_same, Members.among_from, Members.at_head, Members.in_tail, Members.index_there, ChainLaws.no_flag}
 use Rattle.rv_base.proofs.{Lists.item_at, Options.some_same}
-use Rattle.rv_instances.proofs.ExpandedLaws.{number_at}
-use Rattle.rv_instances.proofs.ExpandedLaws.{node_is}
-use Rattle.rv_instances.proofs.ExpandedLaws.{node_in}
-use Rattle.rv_meaning.proofs.Acceptable.{formed}
-use Rattle.rv_meaning.proofs.Acceptable.{typed}
 
 -- Lists.
 

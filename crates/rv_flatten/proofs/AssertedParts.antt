@@ -13,8 +13,7 @@ use Rattle.rv_flatten.specs.{Building.AreAsserted, Readings.assertion_of}
 use Rattle.rv_agreement.specs.Translation.{Numbers}
 use Rattle.rv_types.proofs.Members.{in_map, nothing_in}
 use Rattle.rv_base.proofs.Lists.{from_map}
-use Rattle.rv_instances.proofs.ExpandedLaws.{instance_at}
-use Rattle.rv_instances.proofs.ExpandedLaws.{node_is}
+use Rattle.rv_instances.proofs.ExpandedLaws.{instance_at, node_is}
 
 -- of no instance, none
 pub none_asserted : (x : Expanded) (numbers : Numbers) (es : List FlatExpr) → es ≡ [] → AreAsserted x numbers 0 es

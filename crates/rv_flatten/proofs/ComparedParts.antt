@@ -13,10 +13,10 @@ use Rattle.rv_types.specs.{Scopes.node_scope, Types.Scope, Types.kind_of}
 use Rattle.rv_agreement.specs.Programs.{is_test}
 use Rattle.rv_instances.specs.Timed.{own_operator, operators_told}
 use Rattle.rv_flatten.specs.{declared.comparisons.Tested.Tested, Compared.own_test, Compared.tests_in}
-use Rattle.rv_flatten.proofs.{Apart.IsApart, Apart.apart_told, CountedVariables.total_joined}
+use Rattle.rv_flatten.proofs.Apart.{IsApart, apart_told}
 use Rattle.rv_instances.proofs.TimedParts.{node_operators}
 use Rattle.rv_types.proofs.Members.{at_head, cons_cases, in_flat_map, in_tail, nothing_in, of_flat_map}
-use Rattle.rv_types.proofs.ChainLaws.{no_flag}
+use Rattle.rv_types.proofs.{ChainLaws.no_flag, DifferentPlaces.total_append}
 use Rattle.rv_base.proofs.Truths.{both_of}
 
 -- What is found.
@@ -85,8 +85,8 @@ module _ (marked : Option ℕ → Bool) where
   both_counted : (xs ys : List Tree) (ps qs : List SitedPart) → total own_count xs ≤ total sited_count ps → total own_count ys ≤ total sited_count qs
       → total own_count (xs ++ ys) ≤ total sited_count (ps ++ qs)
   both_counted xs ys ps qs h k =
-      let a = total_joined own_count xs ys in
-      let b = total_joined sited_count ps qs in
+      let a = total_append own_count xs ys in
+      let b = total_append sited_count ps qs in
       omega (arith, h, k, a, b)
 
   mutual
@@ -104,9 +104,9 @@ module _ (marked : Option ℕ → Bool) where
         let own = sited.comparison o at site in
         let x = counted a in
         let y = counted b in
-        let i = total_joined own_count (parts a) (parts b) in
-        let j = total_joined sited_count (sited.parts a) (own ++ sited.parts b) in
-        let k = total_joined sited_count own (sited.parts b) in
+        let i = total_append own_count (parts a) (parts b) in
+        let j = total_append sited_count (sited.parts a) (own ++ sited.parts b) in
+        let k = total_append sited_count own (sited.parts b) in
         omega (arith, x, y, i, j, k)
     counted (Node at site (If a b c)) =
         let h = both_counted (parts a) (parts b ++ parts c) (sited.parts a) (sited.parts b ++ sited.parts c) (counted a)

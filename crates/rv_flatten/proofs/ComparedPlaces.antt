@@ -11,14 +11,9 @@ use Rattle.rv_flatten.specs.{NodeReaders.AreSortedBy, Compared.tests_in, Compare
 use Rattle.rv_flatten.proofs.InstanceNumbers.{in_lists, from_lists, made_of}
 use Rattle.rv_flatten.proofs.ComparedParts.{test_found, found_test, one_operator}
 use Rattle.rv_instances.proofs.FlowPlaces.{snoc_parts}
+use Rattle.rv_instances.proofs.ExpandedLaws.{node_in, instance_at, number_at, path_is, node_is, same as same_instance}
 use Rattle.rv_types.proofs.{Members.in_map, ChainLaws.no_flag}
 use Rattle.rv_base.proofs.Lists.{from_map}
-use Rattle.rv_instances.proofs.ExpandedLaws.{node_in}
-use Rattle.rv_instances.proofs.ExpandedLaws.{instance_at}
-use Rattle.rv_instances.proofs.ExpandedLaws.{number_at}
-use Rattle.rv_instances.proofs.ExpandedLaws.{path_is}
-use Rattle.rv_instances.proofs.ExpandedLaws.{node_is}
-use Rattle.rv_instances.proofs.ExpandedLaws.{same as same_instance}
 
 -- the comparisons are the operators with order tests
 pub has_sides : (o : Op) → is_comparison o ≡ true → 0 < length (sides_of o)

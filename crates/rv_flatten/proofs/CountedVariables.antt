@@ -1,6 +1,6 @@
 -- A program has no more diagram variables than are counted.
-use Rattle.std.proofs.Common.{◌≡◌, ◌⊎◌, inl, inr, ℕ, zero, suc, ◌+◌, ◌*◌, ◌<◌, ◌≤◌, Bool, true, false, ◌&&◌, ◌||◌, cond, nat_eq, List, [], ◌∷◌, ◌++◌, map}
-use Rattle.std.proofs.Common.{flat_map, length, get_or, refl, sym, ◌∙◌, ap, subst, arith, Option, Some, length-append, None as Nothing}
+use Rattle.std.proofs.Common.{◌≡◌, ◌⊎◌, inl, inr, ℕ, zero, suc, ◌+◌, ◌≤◌, Bool, true, false, ◌&&◌, ◌||◌, cond, nat_eq, List, [], ◌∷◌, ◌++◌, map, flat_map}
+use Rattle.std.proofs.Common.{length, get_or, refl, sym, ◌∙◌, ap, subst, arith, Option, Some, length-append, None as Nothing}
 use Rattle.std.proofs.lemmas.List.Elements.{Contains-append_left, Contains-append_right, Contains-append_cases}
 use Rattle.std.proofs.{lemmas.Bool.cases_order, lemmas.Bool.le-leb, lemmas.Bool.Decides.nat_tests, lemmas.List.length-map, lemmas.List.get_or_default}
 use Rattle.std.specs.{Prelude.nat_le, List.Contains}
@@ -12,31 +12,16 @@ use Rattle.rv_types.specs.Lists.{AreRising, AreTicks, AreMemories, AreComparison
 use Rattle.rv_types.specs.Lists.{Tick, Kept, Input, Test, bits, with_copies, memory_variables, input_variables, test_variables, sides_of, memory_places}
 use Rattle.rv_types.specs.Lists.{memory_at}
 use Rattle.rv_types.specs.Variables.{total, is_integer, is_in, memories, memories_beside, node_parts, kind_bits, memory_bits, tests_of, own_tests, order_tests}
-use Rattle.rv_types.specs.Variables.{is_arrow, arrow_clocks, same_place, is_place_in, different, over_instances, ticks, variable_count}
+use Rattle.rv_types.specs.Variables.{is_arrow, arrow_clocks, different, over_instances, ticks, variable_count}
 use Rattle.rv_types.specs.{declared.typed.Kind.Kind, declared.typed.Clock.TheVariants.Base, Kinds.decl_kinds, Names.labels_of, Names.texts, Values.label_count}
 use Rattle.rv_types.specs.{Values.operand_kind, Needs.IsBefore}
 use Rattle.rv_instances.specs.Counts.{integer_memories}
 use Rattle.rv_flat.specs.{declared.parts.Bit.Bit, declared.parts.FlatMemory.FlatMemory, Facts.all_few, Facts.integers, Lists.variable_of, Systems.memory_of}
-use Rattle.rv_flat.proofs.Earliest.{not_itself}
-use Rattle.rv_types.proofs.{Members.at_head, Members.cons_cases, Members.in_flat_map, Members.in_map, Members.in_tail, Members.nothing_in, ChainLaws.no_flag}
-use Rattle.rv_base.proofs.Truths.{both_of}
+use Rattle.rv_types.proofs.Members.{at_head, cons_cases, in_flat_map, in_map, in_tail, nothing_in}
+use Rattle.rv_types.proofs.DifferentPlaces.{total_append, total_map, total_flat_map, still_different}
+use Rattle.rv_types.proofs.{ChainLaws.no_flag, NamePlaces.length_copies, PlaceOrders.not_itself, PlaceOrders.placed}
 
 -- Sums.
-
-pub total_joined : {X : Type 0} (f : X → ℕ) (xs ys : List X) → total f (xs ++ ys) ≡ total f xs + total f ys
-total_joined f [] ys = omega arith
-total_joined f (x ∷ xs) ys = let h = total_joined f xs ys in omega (arith, h)
-
-pub total_flat_map : {X Y : Type 0} (f : Y → ℕ) (g : X → List Y) (xs : List X) → total f (flat_map g xs) ≡ total (λ x. total f (g x)) xs
-total_flat_map f g [] = refl
-total_flat_map f g (x ∷ xs) =
-    let h = total_flat_map f g xs in
-    let a = total_joined f (g x) (flat_map g xs) in
-    omega (arith, h, a)
-
-pub total_map : {X Y : Type 0} (f : Y → ℕ) (g : X → Y) (xs : List X) → total f (map g xs) ≡ total (λ x. f (g x)) xs
-total_map f g [] = refl
-total_map f g (x ∷ xs) = let h = total_map f g xs in omega (arith, h)
 
 total_less : {X : Type 0} (f g : X → ℕ) (xs : List X) → ((x : X) → f x ≤ g x) → total f xs ≤ total g xs
 total_less f g [] less = omega arith
@@ -84,8 +69,8 @@ module _ {X : Type 0} (f : X → ℕ) (key : X → Sites) where
       (λ y v. still_there s.0 s.1 x y (subst (λ l. Contains l y) s.2 (all y (in_tail x xs y v)))
       (λ e. not_itself (key y) (subst (λ z. IsBefore z (key y)) (ap key e) (stands_after x xs up y v)))) in
       let a = ap (total f) s.2 in
-      let b = total_joined f s.0 (x ∷ s.1) in
-      let c = total_joined f s.0 s.1 in
+      let b = total_append f s.0 (x ∷ s.1) in
+      let c = total_append f s.0 s.1 in
       omega (arith, fewer, a, b, c)
 
 -- How long the lists of variables are.
@@ -96,10 +81,6 @@ length_bits make (suc n) =
     let h = length_bits make n in
     let a = length-append (bits make n) (make n ∷ []) in
     omega (arith, h, a)
-
-pub length_copies : (vs : List Variable) → length (with_copies vs) ≡ 2 * length vs
-length_copies [] = refl
-length_copies (v ∷ vs) = let h = length_copies vs in omega (arith, h)
 
 pub length_memories : (p : ProgramTree) (ms : List MemoryAt) → length (memory_variables p ms) ≡ total (λ (m : MemoryAt). kind_bits p m.kind) ms
 length_memories p [] = refl
@@ -129,38 +110,6 @@ length_tests (c ∷ cs) =
     omega (arith, h, a, b)
 
 -- Ticks.
-
-same_places : (p q : Sites) → same_place p q ≡ true → p ≡ q
-same_places [] [] h = refl
-same_places [] (y ∷ ys) h = no_flag h
-same_places (x ∷ xs) [] h = no_flag h
-same_places (x ∷ xs) (y ∷ ys) h =
-    let b = both_of (nat_eq x y) (same_place xs ys) h in
-    let first : x ≡ y = let t = b.0 in grind (arith, nat_tests, t) in
-    let rest = same_places xs ys b.1 in
-    λ i. first i ∷ rest i
-
-in_places : (qs : List Sites) (q : Sites) → is_place_in qs q ≡ true → Contains qs q
-in_places [] q h = no_flag h
-in_places (r ∷ qs) q h = by (same_place r q) refl h (in_places qs q)
-  where
-    by : (b : Bool) → same_place r q ≡ b → (b || is_place_in qs q) ≡ true → (is_place_in qs q ≡ true → Contains qs q) → Contains (r ∷ qs) q
-    by true e h again = subst (λ z. Contains (z ∷ qs) q) (sym (same_places r q e)) (at_head q qs)
-    by false e h again = in_tail r qs q (again h)
-
-still_different : (qs : List Sites) (q : Sites) → Contains qs q → Contains (different qs) q
-still_different [] q w = nothing_in q w
-still_different (r ∷ qs) q w = by (is_place_in qs r) refl (still_different qs)
-  where
-    by : (b : Bool) → is_place_in qs r ≡ b → ((q : Sites) → Contains qs q → Contains (different qs) q) → Contains (cond b (different qs) (r ∷ different qs)) q
-    by true e again = elim (cons_cases r qs q w) [
-      | inl same ↦ again q (subst (λ z. Contains qs z) same (in_places qs r e))
-      | inr rest ↦ again q rest
-    ]
-    by false e again = elim (cons_cases r qs q w) [
-      | inl same ↦ subst (λ z. Contains (z ∷ different qs) q) (sym same) (at_head q (different qs))
-      | inr rest ↦ in_tail r (different qs) q (again q rest)
-    ]
 
 abbrev pub own_clocks : Instance → Tree → List Sites
 own_clocks i e = cond (is_arrow e) (elim (clock_in i Base e) as (λ _. List Sites) [ Nothing ↦ [] | Some p ↦ p ∷ [] ]) []
@@ -226,11 +175,6 @@ has_one n seen (x ∷ ds) d w = by (is_in seen (site n x)) refl (λ s e v. has_o
         | inr new ↦ inr (new.0, in_tail x (memories_beside n (site n x ∷ seen) ds) new.0 new.1, in_tail x ds new.0 new.2, new.3)
       ]
     ]
-
-pub placed : (ms : List MemoryAt) (j : ℕ) (a : MemoryAt) → j < length ms → get_or ms j a ≡ a → get_or (memory_places ms) j [] ≡ a.place
-placed [] j a lt e = absurd (omega (arith, lt))
-placed (m ∷ ms) zero a lt e = ap (λ (m : MemoryAt). m.place) e
-placed (m ∷ ms) (suc j) a lt e = placed ms j a (omega (arith, lt)) e
 
 -- one place is that of one memory
 one_memory : (ms : List MemoryAt) → AreRising (memory_places ms) → (a b : MemoryAt) → Contains ms a → Contains ms b → a.place ≡ b.place → a ≡ b

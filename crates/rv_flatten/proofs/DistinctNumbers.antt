@@ -1,7 +1,7 @@
 -- The numbers of a sorted list, each once.
 use Rattle.std.proofs.Common.{◌≡◌, ◌⊎◌, inl, inr, ℕ, zero, suc, ◌+◌, ◌-◌, ◌<◌, ◌≤◌, ℤ, pos, ◌<ℤ◌, ◌≤ℤ◌, Bool, true, false, cond, List, [], ◌∷◌, ◌++◌, length}
 use Rattle.std.proofs.Common.{get_or, take, slice_get, nat_eq, SFits, to_z, of_z, refl, sym, ◌∙◌, ap, subst, arith, Some}
-use Rattle.std.proofs.lemmas.List.{take_more, length_push, get_or_push, get_or_append_left, get_or_default, take_all}
+use Rattle.std.proofs.lemmas.List.{take_more, length_push, get_or_push, get_or_append_left, get_or_default}
 use Rattle.std.proofs.{lemmas.Bool.cases_order, lemmas.Bool.eqb-true, lemmas.Bool.eq-eqb, lemmas.Int.ints, lemmas.Int.by_lt_z, lemmas.Int.to_z-of_z}
 use Rattle.std.proofs.{lemmas.List.Elements.Contains-append_left, lemmas.List.Elements.Contains-push, lemmas.List.Elements.Contains-push_cases}
 use Rattle.std.proofs.{lemmas.Option.none-some, lemmas.Option.same_Some}
@@ -61,17 +61,6 @@ in_order y z e = by_lt_z z y (λ lt. absurd (let bad : true ≡ false = grind (a
 pub record IsDistinctSoFar (xs : List ℤ) (i : ℕ) (ys : List ℤ) : Type 0 where
   pub distinct : IsDistinctOf (take i xs) ys
   pub last : 0 < i → (0 < length ys) × (last_of ys ≡ get_or xs (i - 1) (pos 0))
-
-pub none_distinct : (xs : List ℤ) → IsDistinctSoFar xs 0 []
-none_distinct xs = record {
-  distinct = record {
-    rising = λ j k lt less. absurd (omega (arith, less));
-    all = λ y w. absurd (omega (arith, w.1));
-    only = λ y w. absurd
-        (omega (arith, w.1));
-  };
-  last = λ lt. absurd (omega (arith, lt));
-}
 
 below_last : (ys : List ℤ) → ((j k : ℕ) → j < k → k < length ys → get_or ys j (pos 0) <ℤ get_or ys k (pos 0)) → (j : ℕ) → j < length ys
     → get_or ys j (pos 0) ≤ℤ last_of ys
@@ -158,7 +147,3 @@ one_more_distinct xs ys i z sorted lt is so_far = by (is_last ys z) refl
             subst (λ y. y <ℤ get_or (ys ++ z ∷ []) k (pos 0)) (sym (get_or_append_left ys (z ∷ []) (pos 0) j (omega (arith, less, before))))
             (subst (λ y. get_or ys j (pos 0) <ℤ y) (sym (get_or_append_left ys (z ∷ []) (pos 0) k before)) (so_far.distinct.rising j k less before))
         pushed j k less within (inr (inr after)) = absurd (let long = length_push ys z in omega (arith, within, after, long))
-
--- the whole list
-pub all_distinct : (xs ys : List ℤ) (i : ℕ) → length xs ≤ i → IsDistinctSoFar xs i ys → IsDistinctOf xs ys
-all_distinct xs ys i le so_far = subst (λ l. IsDistinctOf l ys) (take_all i xs le) so_far.distinct

@@ -8,9 +8,8 @@ use Rattle.rv_types.specs.{Lists.AreRising, Lists.MemoryAt, Needs.IsBefore}
 use Rattle.rv_agreement.specs.Checks.{same_sites, same_flow, is_among, are_distinct}
 use Rattle.rv_agreement.specs.{Translation.Numbers, Translation.IsTranslated, Trees.Kept, Trees.System, Trees.memory_places}
 use Rattle.rv_flatten.proofs.Apart.{IsApart, apart_told, apart_by, apart_map}
-use Rattle.rv_flat.proofs.Earliest.{not_itself}
 use Rattle.rv_agreement.proofs.Chosen.{flow_told, sites_told}
-use Rattle.rv_types.proofs.Members.{at_head, in_tail}
+use Rattle.rv_types.proofs.{Members.at_head, Members.in_tail, PlaceOrders.not_itself}
 use Rattle.rv_base.proofs.Lists.{from_map}
 
 -- What is told apart is found to be.

@@ -11,8 +11,7 @@ use Rattle.rv_tree.specs.Delays.{delays, form_delays, delays_of_all, delays_in_e
 use Rattle.rv_types.specs.Lists.{AreRising, AreMemories, IsAny, MemoryAt, memory_places, delay_place}
 use Rattle.rv_types.specs.{Instances.Instance, Instances.IsInstance, Instances.all_instances, Needs.IsBefore, Variables.total}
 use Rattle.rv_instances.specs.Counts.{size, form_size, size_of_all, node_size, expanded}
-use Rattle.rv_flat.proofs.Earliest.{not_itself}
-use Rattle.rv_types.proofs.Members.{in_flat_map, in_map}
+use Rattle.rv_types.proofs.{Members.in_flat_map, Members.in_map, PlaceOrders.not_itself}
 use Rattle.rv_base.proofs.Lists.{from_map}
 
 -- places that rise are no more than those of a list that has them all

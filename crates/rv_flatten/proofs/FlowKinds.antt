@@ -12,9 +12,8 @@ use Rattle.rv_types.specs.{declared.typed.Kind.Kind, declared.typed.Clock.Clock,
 use Rattle.rv_types.specs.{Types.Signature, Scopes.signature_of, Scopes.signature_named, WellFormed.AreWell}
 use Rattle.rv_types.specs.declared.typed.Kind.TheVariants as kind
 use Rattle.rv_flat.proofs.PlaceNumbers.{its_number}
-use Rattle.rv_flatten.proofs.{ClockKinds.IsTrueClock, ClockKinds.clock_taken, ClockKinds.paces_are_true}
-use Rattle.rv_meaning.proofs.Acceptable.{formed}
-use Rattle.rv_meaning.proofs.Acceptable.{typed}
+use Rattle.rv_flatten.proofs.ClockKinds.{IsTrueClock, clock_taken, paces_are_true}
+use Rattle.rv_meaning.proofs.Acceptable.{formed, typed}
 
 -- a flow of a type stands at the place
 pub record HasFlow (program : ProgramTree) (main : Identifier) (q : Sites) (k : Kind) : Type 0 where

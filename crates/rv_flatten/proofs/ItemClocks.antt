@@ -14,9 +14,8 @@ use Rattle.rv_agreement.specs.Trees.{System, nth_item}
 use Rattle.rv_agreement.specs.Translation.{Numbers, clock_number, giver_item, IsTranslated, IsClockOf}
 use Rattle.rv_flat.proofs.PlaceNumbers.{its_number}
 use Rattle.rv_instances.proofs.FlowPlaces.{snoc_parts}
-use Rattle.rv_meaning.proofs.Acceptable.{suits_taken}
+use Rattle.rv_meaning.proofs.{Acceptable.suits_taken, Acceptable.formed, Defined.same_instance}
 use Rattle.rv_types.proofs.Members.{among_from, index_there}
-use Rattle.rv_meaning.proofs.{Acceptable.formed, Defined.same_instance}
 
 -- inputs and outputs are on the base clock
 all_base : (ds es : List Decl) (m : ℕ) → get_or (map base_clock ds ++ map base_clock es) m Base ≡ Base

@@ -8,14 +8,10 @@ use Rattle.rv_instances.specs.Expanded.{IsExpanded, no_instance}
 use Rattle.rv_instances.specs.{declared.answer.Instance.Instance as Numbered, AllInstances.numbered, Layouts.IsNumberOf}
 use Rattle.rv_flatten.specs.Remembered.{read_by, reads_in, KeptAt, kept_seen, kept_at, kept_in}
 use Rattle.rv_flatten.specs.{declared.kept.Kept.Kept, Kept.kept_memory, Kept.AreKept, Kept.IsKept, NodeReaders.lists_to, NodeReaders.AreSortedBy}
-use Rattle.rv_flatten.proofs.InstanceNumbers.{in_lists, from_lists, made_of, is_node}
-use Rattle.rv_flatten.proofs.OnePlace.{one_of_place}
+use Rattle.rv_flatten.proofs.{InstanceNumbers.in_lists, InstanceNumbers.from_lists, InstanceNumbers.made_of, InstanceNumbers.is_node, OnePlace.one_of_place}
 use Rattle.rv_types.proofs.Members.{in_map}
 use Rattle.rv_base.proofs.Lists.{from_map}
-use Rattle.rv_instances.proofs.ExpandedLaws.{instance_at}
-use Rattle.rv_instances.proofs.ExpandedLaws.{number_at}
-use Rattle.rv_instances.proofs.ExpandedLaws.{path_is}
-use Rattle.rv_instances.proofs.ExpandedLaws.{node_is}
+use Rattle.rv_instances.proofs.ExpandedLaws.{instance_at, number_at, path_is, node_is}
 
 -- the places of memories, as they are found
 pub kept_places : (ks : List Kept) → memory_places (map kept_memory ks) ≡ map (λ (k : Kept). k.place.sites) ks

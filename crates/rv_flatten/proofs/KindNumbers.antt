@@ -12,11 +12,10 @@ use Rattle.rv_tree.specs.{declared.tree.Op.Op, Places.Identifier, Places.is_same
 use Rattle.rv_tree.specs.declared.tree.TypeName.TheVariants as written
 use Rattle.rv_tree.specs.declared.tree.TypeBody.TheVariants as body
 use Rattle.rv_tree.specs.declared.tree.Op.TheVariants as op
-use Rattle.rv_types.specs.Kinds.{written_kind, declared_kind, kind_after, kind_in_program, decl_kinds, flow_kind}
-use Rattle.rv_types.specs.Types.{kind_in, same_kind, both_are, one_of, binary_rule}
-use Rattle.rv_types.specs.{declared.typed.Kind.Kind, declared.fault.Verdict.TheVariants.Has, declared.fault.Verdict.TheVariants.Clashes}
-use Rattle.rv_types.specs.{declared.fault.Verdict.TheVariants.Multiplies, Names.decls, Names.labels_of, Names.texts, Scopes.value_kind, Scopes.constant_kind}
-use Rattle.rv_types.specs.{Scopes.constant_value, Values.HasKind, Values.labels_at, WellFormed.AreWell}
+use Rattle.rv_types.specs.{Kinds.written_kind, Kinds.declared_kind, Kinds.kind_after, Kinds.kind_in_program, Kinds.decl_kinds, Kinds.flow_kind, Types.kind_in}
+use Rattle.rv_types.specs.{Types.same_kind, Types.both_are, Types.one_of, Types.binary_rule, declared.typed.Kind.Kind, declared.fault.Verdict.TheVariants.Has}
+use Rattle.rv_types.specs.{declared.fault.Verdict.TheVariants.Clashes, declared.fault.Verdict.TheVariants.Multiplies, Names.decls, Names.labels_of, Names.texts}
+use Rattle.rv_types.specs.{Scopes.value_kind, Scopes.constant_kind, Scopes.constant_value, Values.HasKind, Values.labels_at, WellFormed.AreWell}
 use Rattle.rv_types.specs.declared.typed.Kind.TheVariants as kind
 use Rattle.rv_agreement.specs.Checks.{enumerations, all_kinds, any_of, constant_fits}
 use Rattle.rv_flat.proofs.TypedParts.{IsTyped, minus_typed, not_typed, pre_typed, current_typed, when_typed, binary_typed, if_typed, most_typed, call_typed}

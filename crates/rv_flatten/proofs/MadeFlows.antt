@@ -15,13 +15,9 @@ use Rattle.rv_flatten.specs.{declared.given.Given.Given, Building.IsGiven, Build
 use Rattle.rv_flat.specs.declared.parts.FlatFlow.{FlatFlow}
 use Rattle.rv_agreement.specs.Translation.{Numbers}
 use Rattle.rv_flatten.proofs.FlowKinds.{kinds_many}
-use Rattle.rv_instances.proofs.FlowPlaces.{snoc_parts}
+use Rattle.rv_instances.proofs.{FlowPlaces.snoc_parts, ExpandedLaws.instance_at, ExpandedLaws.path_is, ExpandedLaws.node_is, ExpandedLaws.same as same_instance}
 use Rattle.rv_types.proofs.Members.{among_from, index_there}
 use Rattle.rv_base.proofs.Lists.{contains_got, push_cases}
-use Rattle.rv_instances.proofs.ExpandedLaws.{instance_at}
-use Rattle.rv_instances.proofs.ExpandedLaws.{path_is}
-use Rattle.rv_instances.proofs.ExpandedLaws.{node_is}
-use Rattle.rv_instances.proofs.ExpandedLaws.{same as same_instance}
 
 -- The flows so far are made, in the order of the sequence.
 pub record AreMadeTo (p : ProgramTree) (main : Identifier) (numbers : Numbers) (sequence : List Sites) (n : ℕ) (fs : List FlatFlow) : Type 0 where

@@ -13,12 +13,10 @@ use Rattle.rv_instances.specs.Layouts.{Here, IsHere, IsNumberOf, IsClockPlaced, 
 use Rattle.rv_instances.specs.{declared.answer.Instance.Instance as Numbered, declared.layout.Layout.Layout, Expanded.IsExpanded, Flowing.place_at}
 use Rattle.rv_instances.specs.{Flowing.AreFlowPlaces, Flowing.IsKnownClock, NumberedNeeds.listed, NumberedNeeds.clock_number}
 use Rattle.rv_flatten.specs.Arrows.{node_arrows, arrow_numbers, arrow_numbers_to, with_marks, marked_from}
-use Rattle.rv_flatten.proofs.ArrowClocks.{node_comes, node_only, arrow_known}
-use Rattle.rv_flatten.proofs.{MainNames.is_node}
+use Rattle.rv_flatten.proofs.{ArrowClocks.node_comes, ArrowClocks.node_only, ArrowClocks.arrow_known, MainNames.is_node}
 use Rattle.rv_types.proofs.Members.{at_head, cons_cases, in_flat_map, in_map, in_tail, nothing_in, of_flat_map}
 use Rattle.rv_base.proofs.Lists.{set_keeps}
-use Rattle.rv_meaning.proofs.Acceptable.{formed}
-use Rattle.rv_meaning.proofs.Acceptable.{typed}
+use Rattle.rv_meaning.proofs.Acceptable.{formed, typed}
 
 -- Marks.
 

@@ -8,12 +8,10 @@ use Rattle.rv_tree.specs.{Tree.ProgramTree, Places.Identifier, Places.Sites, Pla
 use Rattle.rv_types.specs.{Instances.Instance, Instances.IsInstance, Lists.AreRising, Lists.MemoryAt, Lists.memory_at, Lists.delay_place}
 use Rattle.rv_instances.specs.{declared.answer.Instance.Instance as Numbered, Expanded.IsExpanded, Layouts.IsNumberOf, Layouts.path_at}
 use Rattle.rv_flatten.specs.{declared.kept.Kept.Kept, Kept.kept_memory, Kept.AreKept}
-use Rattle.rv_flatten.proofs.{KeptMemories.kept_places}
+use Rattle.rv_flatten.proofs.KeptMemories.{kept_places}
 use Rattle.rv_flat.proofs.TickList.{number_at}
-use Rattle.rv_instances.proofs.FlowPlaces.{snoc_parts}
+use Rattle.rv_instances.proofs.{FlowPlaces.snoc_parts, ExpandedLaws.path_is, ExpandedLaws.same_number}
 use Rattle.rv_base.proofs.Lists.{from_map}
-use Rattle.rv_instances.proofs.ExpandedLaws.{path_is}
-use Rattle.rv_instances.proofs.ExpandedLaws.{same_number}
 
 -- a test of two numbers
 same_pair : (a b m s : ℕ) → Decides (nat_eq a m && nat_eq b s) ((a ≡ m) × (b ≡ s))

@@ -21,8 +21,7 @@ use Rattle.rv_flatten.proofs.Standing.{Stands, as_child, of_not, of_minus, of_cu
 use Rattle.rv_flatten.proofs.Standing.{of_operand, stands_in, own_delay, own_current, body_stands, argument_stands, as_assertion, operand_stands}
 use Rattle.rv_flatten.proofs.{ConstantOperands.same_number, ConstantOperands.constant_now, FlowKinds.kinds_many, WellInstances.is_light}
 use Rattle.rv_flat.proofs.TypedParts.{some_is, IsTyped, not_typed, minus_typed, current_typed, when_typed, binary_typed, if_typed, most_typed}
-use Rattle.rv_meaning.proofs.Told.{index_past}
-use Rattle.rv_types.proofs.{Members.among_contains, ChainLaws.no_flag}
+use Rattle.rv_types.proofs.{Members.among_contains, ChainLaws.no_flag, NamePlaces.index_past}
 use Rattle.rv_meaning.proofs.Acceptable.{typed}
 
 -- a name with a type among the flows of a node is that of a flow

@@ -1,11 +1,10 @@
 -- Two `pre` or `current` with one place are alike: both are one of one instance, or both operands name one flow of it.
-use Rattle.std.proofs.Common.{◌≡◌, ◌⊎◌, inl, inr, ℕ, ◌<◌, Bool, true, false, cond, [], length, get_or, refl, sym, ◌∙◌, ap, subst, arith}
-use Rattle.std.proofs.Common.{unwrap_or, Option, Some, None as Nothing}
+use Rattle.std.proofs.Common.{◌≡◌, ◌⊎◌, inl, inr, ℕ, ◌<◌, Bool, true, false, cond, [], length, get_or, refl, sym, ◌∙◌, ap, subst, arith, unwrap_or, Option}
+use Rattle.std.proofs.Common.{Some, None as Nothing}
 use Rattle.std.specs.List.{Contains}
 use Rattle.rv_tree.specs.{Tree.Tree, Tree.Node, Tree.Named, Tree.NodeTree, Tree.ProgramTree, Places.Identifier, Places.flows, Places.is_flow, Places.site_of}
 use Rattle.rv_tree.specs.{Places.memory_site, Delays.Delay, Delays.node_delays, Delays.IsNumbered}
-use Rattle.rv_types.specs.Instances.{Instance, IsInstance, IsNode}
-use Rattle.rv_types.specs.{Lists.delay_place, WellFormed.AreWell}
+use Rattle.rv_types.specs.{Instances.Instance, Instances.IsInstance, Instances.IsNode, Lists.delay_place, WellFormed.AreWell}
 use Rattle.rv_agreement.specs.{Trees.Item, Translation.Numbers, Translation.delay_item}
 use Rattle.rv_flatten.specs.Readings.{RawItem, raw_delay}
 use Rattle.rv_instances.proofs.FlowPlaces.{snoc_parts}

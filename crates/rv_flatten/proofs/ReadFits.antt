@@ -37,19 +37,17 @@ use Rattle.rv_flatten.proofs.Standing.{output_call}
 use Rattle.rv_flatten.proofs.ClockKinds.{IsTrueClock, clock_taken, clock_taken_on, clock_is_true, pace_is_true, paces_are_true}
 use Rattle.rv_flatten.proofs.FlowKinds.{HasFlow, is_flow as flow_there, kinds_many, signature_is, flow_of_site, clock_flow, output_flow, input_flow, main_input}
 use Rattle.rv_flatten.proofs.KindNumbers.{IsBelow, kind_declared, kind_itself, among_kinds, value_fits}
-use Rattle.rv_flatten.proofs.{ArrowClocks.arrow_true, ComparedParts.has_site, ItemClocks.number_at, ItemClocks.number_within, ItemClocks.item_clock}
-use Rattle.rv_flatten.proofs.{ItemClocks.output_clock, SuitedParts.suits_when}
+use Rattle.rv_flatten.proofs.ItemClocks.{number_at, number_within, item_clock, output_clock}
+use Rattle.rv_flatten.proofs.{ArrowClocks.arrow_true, ComparedParts.has_site, SuitedParts.suits_when}
 use Rattle.rv_flat.proofs.TypedParts.{some_is, IsTyped, named_typed, not_typed, minus_typed, pre_typed, current_typed, when_typed, binary_typed, if_typed}
 use Rattle.rv_flat.proofs.TypedParts.{most_typed, call_typed}
-use Rattle.rv_flat.proofs.{Earliest.not_itself, PlaceNumbers.its_number}
+use Rattle.rv_flat.proofs.PlaceNumbers.{its_number}
 use Rattle.rv_agreement.proofs.Suited.{suits_binary}
-use Rattle.rv_meaning.proofs.{Suiting.ground_taken, Suiting.suits_both, Suiting.suits_seen, Suiting.taken_suits, TypedOperators.met_kind}
+use Rattle.rv_meaning.proofs.Suiting.{ground_taken, suits_both, suits_seen, taken_suits}
+use Rattle.rv_meaning.proofs.{TypedOperators.met_kind, Acceptable.node_in, Acceptable.formed, Acceptable.typed}
 use Rattle.rv_types.proofs.Members.{among_contains, among_from, at_head, in_map, in_tail, index_there}
-use Rattle.rv_types.proofs.{ConstantContents.kind_same, ChainLaws.no_flag}
+use Rattle.rv_types.proofs.{ConstantContents.kind_same, ChainLaws.no_flag, PlaceOrders.not_itself}
 use Rattle.rv_base.proofs.Truths.{both_of, less_told}
-use Rattle.rv_meaning.proofs.Acceptable.{node_in}
-use Rattle.rv_meaning.proofs.Acceptable.{formed}
-use Rattle.rv_meaning.proofs.Acceptable.{typed}
 
 -- a clock is itself
 same_told : (c d : Option ℕ) → d ≡ c → same_clock c d ≡ true

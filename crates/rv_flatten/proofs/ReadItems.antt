@@ -18,14 +18,10 @@ use Rattle.rv_instances.specs.{NumberedNeeds.numbers_of, Weights.AreLight}
 use Rattle.rv_instances.specs.declared.givers.Giver.TheVariants as told
 use Rattle.rv_flatten.specs.{declared.frame.Frame.Frame, Frames.IsFrame, Frames.IsNumbering, NodeReaders.scope_by}
 use Rattle.rv_agreement.specs.Translation.{Numbers}
-use Rattle.rv_flatten.proofs.Standing.{stands_in, body_stands, argument_stands, output_call}
-use Rattle.rv_flatten.proofs.ClockKinds.{IsTrueClock, clock_taken, clock_is_true, paces_are_true}
-use Rattle.rv_flatten.proofs.{ReadTables.clock_known, MainNames.is_node}
-use Rattle.rv_meaning.proofs.{Acceptable.suits_taken, NameLemmas.same_text}
+use Rattle.rv_flatten.proofs.{Standing.stands_in, Standing.body_stands, Standing.argument_stands, Standing.output_call, ClockKinds.IsTrueClock}
+use Rattle.rv_flatten.proofs.{ClockKinds.clock_taken, ClockKinds.clock_is_true, ClockKinds.paces_are_true, ReadTables.clock_known, MainNames.is_node}
+use Rattle.rv_meaning.proofs.{Acceptable.suits_taken, Acceptable.node_in, Acceptable.formed, Acceptable.typed, NameLemmas.same_text}
 use Rattle.rv_types.proofs.ChainLaws.{no_flag}
-use Rattle.rv_meaning.proofs.Acceptable.{node_in}
-use Rattle.rv_meaning.proofs.Acceptable.{formed}
-use Rattle.rv_meaning.proofs.Acceptable.{typed}
 
 -- The number of a node that is there.
 known_name : (ns : List NodeTree) (f : Identifier) → IsSome (node_among ns f) → (unwrap_or (node_among ns f) no_node).name.text ≡ f

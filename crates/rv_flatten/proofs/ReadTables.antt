@@ -1,10 +1,10 @@
 -- What is made of an expression by the tables of a frame is the flat expression of the program.
 use Rattle.std.proofs.Common.{◌≡◌, ℕ, suc, ◌+◌, ◌<◌, min, Bool, true, false, ◌||◌, cond, negsuc, List, [], ◌∷◌, map, length, refl, sym, ◌∙◌, ap, subst, arith}
-use Rattle.std.proofs.Common.{length-append, unwrap_or, Option, Some, IsSome, None as Nothing}
+use Rattle.std.proofs.Common.{unwrap_or, Option, Some, IsSome, None as Nothing}
 use Rattle.std.proofs.{lemmas.List.length-map, lemmas.Option.slice_get_within}
 use Rattle.std.specs.List.{Contains}
 use Rattle.rv_tree.specs.Tree.{Tree, Form, Trees, NodeTree, ProgramTree, tree_of, trees}
-use Rattle.rv_tree.specs.Places.{Identifier, Sites, flows as flows_of, is_flow, is_among, is_same, site_of, index_of, memory_site}
+use Rattle.rv_tree.specs.Places.{Identifier, Sites, flows as flows_of, is_flow, site_of, index_of, memory_site}
 use Rattle.rv_tree.specs.{declared.tree.Op.Op, declared.tree.Expr.Expr, Delays.node_delays}
 use Rattle.rv_tree.specs.declared.tree.Op.TheVariants as op
 use Rattle.rv_tree.specs.Tree as tree
@@ -13,9 +13,9 @@ use Rattle.rv_types.specs.{declared.typed.Kind.Kind, declared.typed.Clock.Clock,
 use Rattle.rv_types.specs.{declared.weighing.Weighed.Weighed, declared.fault.Pace.Pace, Clocks.pace, ToldPaces.IsTimed, ToldPaces.told_pace, Kinds.decl_kinds}
 use Rattle.rv_types.specs.{Kinds.flow_kind, Kinds.flow_kinds, Kinds.kind_in_program, Types.kind_in, Types.kind_of, Types.both_are, Types.binary_rule}
 use Rattle.rv_types.specs.{Types.is_constant, Constants.whole_in, Constants.value_of, Constants.weight_of, ConstantParts.constant_part, Scopes.node_scope}
-use Rattle.rv_types.specs.{Scopes.constant_value, Names.texts, Lists.AreTicks, Variables.node_parts, Variables.is_arrow, WellFormed.AreWell}
+use Rattle.rv_types.specs.{Scopes.constant_value, Lists.AreTicks, Variables.node_parts, Variables.is_arrow, WellFormed.AreWell}
 use Rattle.rv_types.specs.declared.typed.Kind.TheVariants as kind
-use Rattle.rv_types.proofs.{ToldPaces.told_is as told_pace_is, Members.index_there, ChainLaws.no_flag}
+use Rattle.rv_types.proofs.{ToldPaces.told_is as told_pace_is, Members.index_there, ChainLaws.no_flag, NamePlaces.index_past, NamePlaces.output_within}
 use Rattle.rv_base.specs.Limits.{too_heavy}
 use Rattle.rv_instances.specs.Layouts.{Here, IsPlaced, IsClockPlaced, IsHere, all_places}
 use Rattle.rv_instances.specs.NumberedNeeds.{flow_number, clock_number as number_of_clock, clock_of_expression, numbers_of}
@@ -29,23 +29,16 @@ use Rattle.rv_agreement.specs.Programs.{spot, operator_place, coefficient}
 use Rattle.rv_agreement.specs.Translation.{Numbers, clock_number, tick_number}
 use Rattle.rv_flatten.proofs.Standing.{Stands, as_child, of_not, of_minus, of_when, of_left, of_right, of_condition, of_first, of_second, of_operand, own_delay}
 use Rattle.rv_flatten.proofs.Standing.{own_current, own_call, stands_in}
-use Rattle.rv_flatten.proofs.{PartsStand.standing, PartsStand.calling, PartsStand.part_is, TimedParts.stands_timed}
-use Rattle.rv_flatten.proofs.{ClockKinds.IsTrueClock, ClockKinds.clock_taken, ClockKinds.pace_is_true, FlowKinds.kinds_many, FlowKinds.signature_is}
-use Rattle.rv_flatten.proofs.{ToldTests.told_is, MainNames.is_node, NamedParts.scaled_product}
+use Rattle.rv_flatten.proofs.{PartsStand.standing, PartsStand.calling, PartsStand.part_is, TimedParts.stands_timed, ClockKinds.IsTrueClock}
+use Rattle.rv_flatten.proofs.{ClockKinds.clock_taken, ClockKinds.pace_is_true, FlowKinds.kinds_many, FlowKinds.signature_is, ToldTests.told_is}
+use Rattle.rv_flatten.proofs.{MainNames.is_node, NamedParts.scaled_product}
 use Rattle.rv_flat.proofs.TypedParts.{some_is, IsTyped, not_typed, minus_typed, when_typed, binary_typed, if_typed, most_typed, call_typed}
-use Rattle.rv_meaning.proofs.Told.{index_past}
-use Rattle.rv_meaning.proofs.Acceptable.{formed}
-use Rattle.rv_meaning.proofs.Acceptable.{typed}
+use Rattle.rv_meaning.proofs.Acceptable.{formed, typed}
 
 -- the expressions of a list, each made flat
 pub each_read : (x : Frame) (es : List Expr) → raw_trees (map (λ e. tree_read x (tree_of e)) es) ≡ trees_read x (trees (map tree_of es))
 each_read x [] = refl
 each_read x (e ∷ es) = ap (More (tree_read x (tree_of e))) (each_read x es)
-
--- the names of some nodes, in two words
-among_names : (ns : List NodeTree) (f : Identifier) → is_among (texts (map (λ n. n.name) ns)) f ≡ is_among (map (λ n. n.name.text) ns) f
-among_names [] f = refl
-among_names (n ∷ ns) f = ap (λ b. is_same n.name.text f || b) (among_names ns f)
 
 product_is : (b c : Bool) (v w : Weighed) (f g : RawTree) → (b || c) ≡ true
     → product_read (cond b (Some v) Nothing) (cond c (Some w) Nothing) f g ≡ product b (whole_in v.value) (whole_in w.value) f g
@@ -87,12 +80,6 @@ a_flow p n y t = by (is_flow n y) refl
     by : (b : Bool) → is_flow n y ≡ b → b ≡ true
     by true e = refl
     by false e = let lt = clock_known p n (site_of n y) t in let past = index_past (flows_of n) y e in absurd (omega (arith, lt, past))
-
--- where the outputs of a node stand among its flows
-output_within : (n : NodeTree) (j : ℕ) → j < length n.outputs → length n.inputs + j < length (flows_of n)
-output_within n j lt =
-    let many : length (flows_of n) ≡ length n.inputs + length n.outputs + length n.locals = simp (length-append, length-map) in
-    omega (arith, lt, many)
 
 module _ (numbers : Numbers) (i : Instance) (x : Frame) (is : IsFrame numbers i x)
     (here : IsHere (program_of x.expanded.now) (all_places (program_of x.expanded.now) x.expanded.now.instances.now) i (numbers_of x.reader))

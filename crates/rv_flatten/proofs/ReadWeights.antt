@@ -25,8 +25,8 @@ use Rattle.rv_flat.specs.Facts.{constant_weight, flat_weight, form_flat_weight, 
 use Rattle.rv_flatten.proofs.Standing.{Stands, as_child, of_not, of_minus, of_current, of_when, of_left, of_right, of_condition, of_first, of_second}
 use Rattle.rv_flatten.proofs.Standing.{of_operand, own_call, body_stands, argument_stands, operand_stands, as_assertion, output_call}
 use Rattle.rv_flatten.proofs.FlowKinds.{HasFlow, is_flow as flow_there, signature_is, output_flow}
-use Rattle.rv_flatten.proofs.{ItemClocks.number_at, ItemClocks.number_within, WellInstances.is_light as stands_light}
-use Rattle.rv_flatten.proofs.{ConstantOperands.weighs, ConstantSizes.value_size, NamedParts.other_constant, NamedParts.scaled_product}
+use Rattle.rv_flatten.proofs.{ItemClocks.number_at, ItemClocks.number_within, WellInstances.is_light as stands_light, ConstantOperands.weighs}
+use Rattle.rv_flatten.proofs.{ConstantSizes.value_size, NamedParts.other_constant, NamedParts.scaled_product}
 use Rattle.rv_flat.proofs.TypedParts.{some_is, IsTyped, not_typed, minus_typed, current_typed, when_typed, binary_typed, if_typed, most_typed, call_typed}
 use Rattle.rv_flat.proofs.PlaceNumbers.{its_number}
 use Rattle.rv_types.proofs.Members.{among_contains, at_head, in_tail}

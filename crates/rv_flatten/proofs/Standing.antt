@@ -10,9 +10,9 @@ use Rattle.rv_types.specs.Instances.{CallTree, calls_in, form_calls, calls_in_al
 use Rattle.rv_types.specs.Instances.{in_order, IsArgument, head, tail}
 use Rattle.rv_types.specs.{Names.texts, Variables.parts, Variables.form_parts, Variables.parts_of_all, Variables.node_parts}
 use Rattle.rv_instances.specs.Weights.{weighed_of_several, weighed_under, weighed}
-use Rattle.rv_instances.proofs.CallsInside.{in_argument, in_body}
 use Rattle.rv_meaning.proofs.DelayParts.{argument_within, assertion_within, equation_within}
-use Rattle.rv_types.proofs.{Members.at_head, Members.cons_cases, Members.in_flat_map, Members.in_tail, Members.nothing_in, TypedParts.right_calls}
+use Rattle.rv_types.proofs.Members.{at_head, cons_cases, in_flat_map, in_tail, nothing_in}
+use Rattle.rv_types.proofs.{TypedParts.right_calls, CallsWithin.argument_parts, CallsWithin.in_argument, CallsWithin.in_body}
 
 -- an operand or argument
 pub data IsChild : Tree → Form → Type 0 where
@@ -66,10 +66,6 @@ mutual
 pub part_itself : (e : Tree) → Contains (parts e) e
 part_itself (Node at site form) = at_head (Node at site form) (form_parts form)
 
-part_of_argument : (es : Trees) (j : ℕ) (e x : Tree) → IsArgument es j e → Contains (parts e) x → Contains (parts_of_all es) x
-part_of_argument _ _ e x (head {es = es}) w = Contains-append_left (parts e) (parts_of_all es) x w
-part_of_argument _ _ e x (tail {e = b} {es = es} arg) w = Contains-append_right (parts b) (parts_of_all es) x (part_of_argument es _ e x arg w)
-
 part_of_child : (form : Form) (e x : Tree) → IsChild e form → Contains (parts e) x → Contains (form_parts form) x
 part_of_child _ e x of_not w = w
 part_of_child _ e x of_minus w = w
@@ -81,8 +77,8 @@ part_of_child _ e x (of_right {a = a}) w = Contains-append_right (parts a) (part
 part_of_child _ e x (of_condition {b = b} {c = c}) w = Contains-append_left (parts e) (parts b ++ parts c) x w
 part_of_child _ e x (of_first {a = a} {c = c}) w = Contains-append_right (parts a) (parts e ++ parts c) x (Contains-append_left (parts e) (parts c) x w)
 part_of_child _ e x (of_second {a = a} {b = b}) w = Contains-append_right (parts a) (parts b ++ parts e) x (Contains-append_right (parts b) (parts e) x w)
-part_of_child _ e x (of_operand {es = es} j arg) w = part_of_argument es j e x arg w
-part_of_child _ e x (of_argument {es = es} j arg) w = part_of_argument es j e x arg w
+part_of_child _ e x (of_operand {es = es} j arg) w = argument_parts es j e x arg w
+part_of_child _ e x (of_argument {es = es} j arg) w = argument_parts es j e x arg w
 
 delay_of_child : (site : Option ℕ) (form : Form) (e : Tree) (d : Delay) → IsChild e form → Contains (delays e) d → Contains (form_delays site form) d
 delay_of_child site _ e d of_not w = w
@@ -139,7 +135,7 @@ module _ (n : NodeTree) where
   pub parts_weighed : (e : Tree) → Stands n e → (x : Tree) → Contains (parts e) x → Contains (weighed n) x
   parts_weighed _ (as_right q w is) x v = in_right q x w (subst (λ l. Contains l x) (sym (same_parts q.right) ∙ sym is) v)
   parts_weighed _ (as_argument q at j site f args e w is arg) x v =
-      let inside : Contains (parts_of_all args) x = subst (λ l. Contains l x) (sym (same_parts_of_all args)) (part_of_argument args j e x arg v) in
+      let inside : Contains (parts_of_all args) x = subst (λ l. Contains l x) (sym (same_parts_of_all args)) (argument_parts args j e x arg v) in
       in_right q x w (subst (λ t. Contains (weighed_under q.lefts t) x) (sym is) (arguments_weighed q.lefts at site f args x inside))
   parts_weighed _ (as_assertion a w) x v =
       Contains-append_right (flat_map weighed_right n.equations) (flat_map (λ b. parts b.body) n.assertions) x
@@ -158,7 +154,7 @@ module _ (n : NodeTree) where
   parts_in _ (as_argument q at j site f args e w is arg) x v = Contains-append_left (flat_map (λ r. parts r.right) n.equations)
       (flat_map (λ b. parts b.body) n.assertions) x
       (in_flat_map (λ (r : EquationTree). parts r.right) n.equations q x w
-      (subst (λ t. Contains (parts t) x) (sym is) (in_tail (Node at site (Call f args)) (parts_of_all args) x (part_of_argument args j e x arg v))))
+      (subst (λ t. Contains (parts t) x) (sym is) (in_tail (Node at site (Call f args)) (parts_of_all args) x (argument_parts args j e x arg v))))
   parts_in _ (as_assertion a w) x v = Contains-append_right (flat_map (λ r. parts r.right) n.equations) (flat_map (λ b. parts b.body) n.assertions) x
       (in_flat_map (λ (b : AssertionTree). parts b.body) n.assertions a x w v)
   parts_in _ (as_child at site form e s c) x v = parts_in (Node at site form) s x (in_tail (Node at site form) (form_parts form) x (part_of_child form e x c v))

@@ -1,5 +1,5 @@
 -- Where numbers stand among some.
-use Rattle.std.proofs.Common.{◌≡◌, ◌⊎◌, inl, inr, ℕ, zero, suc, ◌+◌, ◌-◌, ◌<◌, ◌≤◌, ◌^◌, List, [], ◌∷◌, map, length, get_or, replicate, set, refl, sym, ◌∙◌, ap}
+use Rattle.std.proofs.Common.{◌≡◌, inl, inr, ℕ, zero, suc, ◌+◌, ◌-◌, ◌<◌, ◌≤◌, ◌^◌, List, [], ◌∷◌, map, length, get_or, replicate, set, refl, sym, ◌∙◌, ap}
 use Rattle.std.proofs.Common.{subst, arith, length-set, get_or-set_same, get_or-set_other}
 use Rattle.std.proofs.{lemmas.Bool.cases_order, lemmas.List.get_or_default, lemmas.List.get_or-map, lemmas.List.length-map, lemmas.List.length-replicate}
 use Rattle.std.specs.{Prelude.min, List.Contains}
@@ -7,8 +7,8 @@ use Rattle.rv_tree.specs.Places.{Sites, index_of}
 use Rattle.rv_types.specs.{Needs.IsBefore, Lists.AreRising}
 use Rattle.rv_instances.specs.Flowing.{place_at}
 use Rattle.rv_flatten.specs.Positions.{AreNumbersOf, told}
-use Rattle.rv_flat.proofs.{Earliest.not_itself, PlaceNumbers.its_number}
-use Rattle.rv_types.proofs.Members.{at_head, cons_cases, in_tail, nothing_in}
+use Rattle.rv_flat.proofs.PlaceNumbers.{its_number}
+use Rattle.rv_types.proofs.{Members.at_head, Members.in_tail, DifferentPlaces.rest_of, PlaceOrders.not_itself}
 
 -- no two elements are equal
 abbrev Apart : {X : Type 0} → List X → Type 0
@@ -21,24 +21,6 @@ apart_of (x ∷ xs) d once = (
   λ w. once 0 (suc w.0) (omega arith) (let lt = w.1 in omega (arith, lt)) (sym (get_or_default xs w.0 d x w.1 ∙ w.2)),
   apart_of xs d (λ j k lt less e. once (suc j) (suc k) (omega (arith, lt)) (omega (arith, less)) e),
 )
-
--- a list without one of its elements
-rest_of : {X : Type 0} (ys : List X) (x : X) → Contains ys x → (zs : List X) × (length ys ≡ suc (length zs))
-    × ((z : X) → Contains ys z → (z ≡ x → ⊥) → Contains zs z)
-rest_of [] x w = nothing_in x w
-rest_of {X = X} (y ∷ ys) x w = elim (cons_cases y ys x w) [
-  | inl same ↦ (ys, refl, λ z v other. after ys z x same other (cons_cases y ys z v))
-  | inr rest ↦ let r = rest_of ys x rest in (y ∷ r.0, ap suc r.1, λ z v other. before r.0 ys x r.2 z other (cons_cases y ys z v))
-]
-  where
-    after : (ys : List X) (z x : X) → y ≡ x → (z ≡ x → ⊥) → (y ≡ z) ⊎ Contains ys z → Contains ys z
-    after ys z x same other (inl e) = absurd (other (sym e ∙ same))
-    after ys z x same other (inr v) = v
-
-    before : (zs ys : List X) (x : X) → ((z : X) → Contains ys z → (z ≡ x → ⊥) → Contains zs z) → (z : X) → (z ≡ x → ⊥) → (y ≡ z) ⊎ Contains ys z
-        → Contains (y ∷ zs) z
-    before zs ys x keeps z other (inl e) = subst (λ u. Contains (u ∷ zs) z) (sym e) (at_head z zs)
-    before zs ys x keeps z other (inr v) = in_tail y zs z (keeps z v other)
 
 -- different elements of a list are no more than that has
 no_longer : {X : Type 0} (xs ys : List X) → Apart xs → ((z : X) → Contains xs z → Contains ys z) → length xs ≤ length ys

@@ -19,11 +19,13 @@ use Rattle.rv_flatten.specs.Compared as compared
 use Rattle.rv_flatten.specs.{declared.comparisons.Tested.Tested, Compared.tests_in}
 use Rattle.rv_flat.specs.{declared.parts.Bit.Bit, Lists.variable_of}
 use Rattle.rv_flatten.proofs.ComparedParts.{found_test, own_of, node_is, sited_count, own_count, counted_among, is_site, one_at, has_site}
-use Rattle.rv_flatten.proofs.CountedVariables.{total_joined, total_flat_map, total_map, total_same, around, still_there, length_copies, length_memories}
-use Rattle.rv_flatten.proofs.CountedVariables.{length_inputs, length_tests, ones, own_clocks, site, ticks_few, memories_few, tests_few}
+use Rattle.rv_flatten.proofs.CountedVariables.{total_same, around, still_there, length_memories, length_inputs, length_tests, ones, own_clocks, site, ticks_few}
+use Rattle.rv_flatten.proofs.CountedVariables.{memories_few, tests_few}
 use Rattle.rv_flatten.proofs.{Apart.IsApart, Apart.apart_told, Apart.apart_by, Apart.apart_map, Apart.apart_flat, ComparedPlaces.has_sides}
 use Rattle.rv_instances.proofs.FlowPlaces.{snoc_parts}
-use Rattle.rv_types.proofs.{Members.at_head, Members.cons_cases, Members.in_tail, Members.nothing_in, Members.of_flat_map, ChainLaws.no_flag}
+use Rattle.rv_types.proofs.Members.{at_head, cons_cases, in_tail, nothing_in, of_flat_map}
+use Rattle.rv_types.proofs.DifferentPlaces.{of_different, total_append, total_map, total_same as total_same_in, total_flat_map}
+use Rattle.rv_types.proofs.{ChainLaws.no_flag, NamePlaces.length_copies}
 use Rattle.rv_base.proofs.Lists.{from_map, same_next}
 
 -- A sum over elements that are told apart, all of which are in a list, is no more than that over the list.
@@ -34,8 +36,8 @@ sum_once f key (x ∷ xs) ys apart all =
     let fewer = sum_once f key xs (s.0 ++ s.1) apart.1
     (λ y v. still_there s.0 s.1 x y (subst (λ l. Contains l y) s.2 (all y (in_tail x xs y v))) (λ e. apart.0 y v (ap key e))) in
     let a = ap (total f) s.2 in
-    let b = total_joined f s.0 (x ∷ s.1) in
-    let c = total_joined f s.0 s.1 in
+    let b = total_append f s.0 (x ∷ s.1) in
+    let c = total_append f s.0 s.1 in
     omega (arith, fewer, a, b, c)
 
 -- Instances.
@@ -136,17 +138,6 @@ out_of_places (r ∷ qs) q e w =
     itself [] = refl
     itself (x ∷ xs) = let h = itself xs in let e : nat_eq x x ≡ true = grind (arith, nat_tests) in (λ i. e i && h i)
 
-of_different : (qs : List Sites) (q : Sites) → Contains (different qs) q → Contains qs q
-of_different [] q w = nothing_in q w
-of_different (r ∷ qs) q w = by (is_place_in qs r) (λ v. of_different qs q v) w
-  where
-    by : (b : Bool) → (Contains (different qs) q → Contains qs q) → Contains (cond b (different qs) (r ∷ different qs)) q → Contains (r ∷ qs) q
-    by true again w = in_tail r qs q (again w)
-    by false again w = elim (cons_cases r (different qs) q w) [
-      | inl same ↦ subst (λ (x : Sites). Contains (x ∷ qs) q) (sym same) (at_head q qs)
-      | inr rest ↦ in_tail r qs q (again rest)
-    ]
-
 different_apart : (qs : List Sites) → IsApart (λ (q : Sites). q) (different qs)
 different_apart [] = tt
 different_apart (r ∷ qs) = by (is_place_in qs r) refl (different_apart qs)
@@ -196,13 +187,6 @@ total_less_in f g [] less = omega arith
 total_less_in f g (x ∷ xs) less =
     let h = total_less_in f g xs (λ y w. less y (in_tail x xs y w)) in
     let a = less x (at_head x xs) in
-    omega (arith, h, a)
-
-total_same_in : {X : Type 0} (f g : X → ℕ) (xs : List X) → ((x : X) → Contains xs x → f x ≡ g x) → total f xs ≡ total g xs
-total_same_in f g [] same = refl
-total_same_in f g (x ∷ xs) same =
-    let h = total_same_in f g xs (λ y w. same y (in_tail x xs y w)) in
-    let a = same x (at_head x xs) in
     omega (arith, h, a)
 
 -- A node's comparisons of integers have sites of their own, and there are as many order tests of them as are counted.

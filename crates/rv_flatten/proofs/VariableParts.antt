@@ -1,10 +1,9 @@
 -- The diagram variables by the declarations of types, as those of the program, and the ticks among them.
-use Rattle.std.proofs.Common.{◌≡◌, ℕ, suc, ◌+◌, List, [], ◌∷◌, ◌++◌, map, refl, sym, ◌∙◌, ap, append_assoc}
+use Rattle.std.proofs.Common.{◌≡◌, ℕ, ◌+◌, List, [], ◌∷◌, ◌++◌, map, refl, sym, ◌∙◌, ap, append_assoc}
 use Rattle.std.proofs.lemmas.Grind.{flat_map-append}
 use Rattle.rv_tree.specs.{Tree.ProgramTree, Places.Sites, declared.tree.TypeDecl.TypeDecl}
 use Rattle.rv_types.specs.{declared.typed.Kind.Kind, Lists.Variable, Lists.MainTick, Lists.Tick, Lists.Kept, Lists.Next, Lists.Input, Lists.MemoryAt}
 use Rattle.rv_types.specs.{Lists.ComparisonAt, Lists.bits, Lists.with_copies, Lists.memory_variables, Lists.input_variables, Lists.test_variables}
-use Rattle.rv_instances.specs.Bits.{bits_of}
 use Rattle.rv_flat.specs.{declared.parts.Bit.Bit, Lists.tick_places, Lists.variable_of}
 use Rattle.rv_instances.proofs.LabelCodes.{bits_same}
 use Rattle.rv_flat.proofs.TickList.{ticks_told}
@@ -13,15 +12,6 @@ use Rattle.rv_flatten.specs.VariableLists.{kept_variables, given_variables}
 -- Two lists with copies are those of one list.
 pub copies-append : (vs ws : List Variable) → with_copies (vs ++ ws) ≡ with_copies vs ++ with_copies ws
 copies-append vs ws = flat_map-append (λ v. v ∷ Next ∷ []) vs ws
-
--- one memory more
-pub copies_more : (types : List TypeDecl) (m : MemoryAt) (ms : List MemoryAt)
-    → with_copies (kept_variables types (m ∷ ms)) ≡ with_copies (bits (Kept m.place) (bits_of types m.kind)) ++ with_copies (kept_variables types ms)
-copies_more types m ms = copies-append (bits (Kept m.place) (bits_of types m.kind)) (kept_variables types ms)
-
--- one bit more
-pub copied_bit : (make : ℕ → Variable) (n : ℕ) → with_copies (bits make (suc n)) ≡ with_copies (bits make n) ++ make n ∷ Next ∷ []
-copied_bit make n = copies-append (bits make n) (make n ∷ [])
 
 -- the bits of memories and inputs of a program
 kept_same : (p : ProgramTree) (ms : List MemoryAt) → kept_variables p.types ms ≡ memory_variables p ms

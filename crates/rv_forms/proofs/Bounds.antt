@@ -9,8 +9,8 @@ use Rattle.rv_rows.specs.{declared.linear.Form.Form, Forms.number, Forms.CanAdd,
 use Rattle.rv_diagram.specs.{declared.Triple.Triple, Nodes.Valuation}
 use Rattle.rv_terms.specs.{declared.parted.Part.Part, Parts.form_at, Parts.IsTermOf}
 use Rattle.rv_terms.proofs.Combining.{form_width}
-use Rattle.rv_agreement.specs.Trees.{FlatTree, Node, TreeForm}
-use Rattle.rv_flat.specs.{Facts.form_flat_weight, Facts.is_light, Facts.form_is_light, Tame.IsOver}
+use Rattle.rv_agreement.specs.Trees.{Node, TreeForm}
+use Rattle.rv_flat.specs.Facts.{form_flat_weight, is_light, form_is_light}
 use Rattle.rv_control.proofs.Bounded.{IsBounded, looser, same_abs, triangle}
 use Rattle.rv_forms.specs.Terms.{IsWithin}
 
@@ -74,11 +74,3 @@ can_scale columns n z f h b = record {
 -- the parts of a light expression
 pub light_parts : (ws : List ℕ) (at : Sites) (form : TreeForm) → is_light ws (Node at form) ≡ true → form_is_light ws form ≡ true
 light_parts ws at form light = (and_parts (nat_le (form_flat_weight ws form) heaviest) (form_is_light ws form) light).1
-
--- and of one that is this form, wherever it stands
-pub light_here : (ws : List ℕ) (t : FlatTree) (here : Sites) (form : TreeForm) → t ≡ Node here form → is_light ws t ≡ true → (at : Sites)
-    → is_light ws (Node at form) ≡ true
-light_here ws t here form e light at = subst (λ (u : FlatTree). is_light ws u ≡ true) e light
-
-pub over_here : (n : ℕ) (t : FlatTree) (here : Sites) (form : TreeForm) → t ≡ Node here form → IsOver n t → (at : Sites) → IsOver n (Node at form)
-over_here n t here form e over at = subst (IsOver n) e over

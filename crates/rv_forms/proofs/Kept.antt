@@ -7,14 +7,13 @@ use Rattle.rv_diagram.specs.{declared.Triple.Triple, Nodes.Valuation, Nodes.Diag
 use Rattle.rv_terms.specs.{declared.parted.Part.Part, declared.parted.Term.Term, Parts.form_at, Parts.holds, Parts.term_width, Parts.IsTerm}
 use Rattle.rv_terms.specs.Growing as terms
 use Rattle.rv_terms.proofs.Combining.{form_later, holds_later, term_later}
-use Rattle.rv_agreement.specs.{Trees.FlatTree, Valuations.Linear}
+use Rattle.rv_agreement.specs.Valuations.{Linear}
 use Rattle.rv_flat.specs.{declared.flat.Flat.Flat, Inlined.table_of}
 use Rattle.rv_symbolic.specs.Growing.{Extends}
-use Rattle.rv_symbolic.proofs.Extending.{extends_trans}
 use Rattle.rv_bits.specs.{declared.around.Around.Around, Shown.AreAfter}
 use Rattle.rv_bits.proofs.Keeping.{around_kept, after_kept}
 use Rattle.rv_forms.specs.declared.over.Wholes.{Wholes}
-use Rattle.rv_forms.specs.Terms.{columns_of, weights_of, weight_in, parts_at, IsWithin, ReadsAs, AreWholes, IsAfterAs, AreKnown, IsReady}
+use Rattle.rv_forms.specs.Terms.{columns_of, weights_of, weight_in, parts_at, IsWithin, AreWholes, IsAfterAs, AreKnown, IsReady}
 use Rattle.rv_base.proofs.Options.{some_same}
 
 pub to_terms : (a b : Diagrams) → Extends a b → terms.Extends a b
@@ -103,11 +102,3 @@ pub ready_known : (d : Diagrams) (x : Around) (w : Wholes) (shown : List (Option
     → IsReady d x w shown before → AreKnown x.flat.now d.nodes known → IsReady d x w shown known
 ready_known d x w shown before known is more =
     record { around = is.around; complete = is.complete; wholes = is.wholes; in_refs = is.in_refs; in_terms = more }
-
-pub read_longer : (f : Flat) (a b c : Diagrams) (t : FlatTree) (parts : List Part) → ReadsAs f a b t parts → Extends b c → ReadsAs f a c t parts
-read_longer f a b c t parts r e = record {
-  extends = extends_trans a b c r.extends e;
-  within = within_kept b c (columns_of f) (weight_in f t) parts e r.within;
-  shows = λ v row k instant fits there. r.shows v row k instant fits there
-      ∙ ap Linear (sym (form_kept b c (columns_of f) (weight_in f t) parts e r.within v));
-}

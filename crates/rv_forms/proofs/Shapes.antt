@@ -3,10 +3,11 @@ use Rattle.std.proofs.Common.{◌≡◌, ℕ, ◌≤◌, ℤ, sym, ◌∙◌, ap
 use Rattle.rv_tree.specs.declared.tree.Op.{Op}
 use Rattle.rv_agreement.specs.Trees.{FlatTree, Node, TreeForm, FlatTrees, Constant, Flow, Memory, Ticked, Input, Not, Binary, Scale, If, AtMostOne, When}
 use Rattle.rv_agreement.specs.Trees.{Current, None, More}
-use Rattle.rv_flat.specs.declared.parts.FlatForm.TheViews.{rolls-Flow, rolls-Input, rolls-Binary, rolls-Scale, rolls-Current}
-use Rattle.rv_flat.specs.{declared.parts.FlatExpr.FlatExpr, declared.parts.FlatForm.FlatForm, declared.parts.FlatForm.TheFolds.fold-FlatForm}
-use Rattle.rv_flat.specs.{declared.parts.FlatForm.TheFolds.fold_out-FlatExpr, declared.parts.FlatForm.TheFolds.fold-roll-FlatForm, Inlined.inlined}
-use Rattle.rv_flat.specs.{Inlined.table_of, RawTree.RawTree, RawTree.RawForm, RawTree.raw_tree, RawTree.form_of, Tame.IsOver, Tame.FormIsOver, Tame.AreOver}
+use Rattle.rv_flat.specs.declared.parts.FlatForm.TheViews.{rolls-Flow, rolls-Input, rolls-Binary, rolls-Scale}
+use Rattle.rv_flat.specs.declared.parts.FlatForm.TheFolds.{fold-FlatForm, fold_out-FlatExpr, fold-roll-FlatForm}
+use Rattle.rv_flat.specs.RawTree.{RawTree, RawForm, raw_tree, form_of}
+use Rattle.rv_flat.specs.Tame.{IsOver, FormIsOver, AreOver}
+use Rattle.rv_flat.specs.{declared.parts.FlatExpr.FlatExpr, declared.parts.FlatForm.FlatForm, Inlined.inlined, Inlined.table_of}
 use Rattle.rv_flat.specs.declared.parts.FlatForm.TheOpen as step
 use Rattle.rv_flat.specs.declared.parts.FlatForm.TheVariants as form
 use Rattle.rv_flat.specs.RawTree as raw
@@ -39,11 +40,6 @@ tree_binary x e o a b is = whole x e (raw.Binary o (raw_tree a) (raw_tree b))
 pub tree_scale : (x : Around) (e : FlatExpr) (z : ℤ) (a : FlatExpr) → e.form ≡ form.Scale z a → tree_in x e ≡ Node e.at.sites (Scale z (tree_in x a))
 tree_scale x e z a is = whole x e (raw.Scale z (raw_tree a))
     (ap raw_form (is ∙ sym (rolls-Scale z a)) ∙ fold-roll-FlatForm RawForm RawTree form_of (λ e. raw.Node e.at.sites e.form) (step.Scale z a))
-
-pub tree_current : (x : Around) (e : FlatExpr) (m : ℕ) → e.form ≡ form.Current m
-    → tree_in x e ≡ Node e.at.sites (Current m (table_of x.flat.now.memories m).clock (table_of x.flat.now.memories m).body)
-tree_current x e m is = whole x e (raw.Current m)
-    (ap raw_form (is ∙ sym (rolls-Current m)) ∙ fold-roll-FlatForm RawForm RawTree form_of (λ e. raw.Node e.at.sites e.form) (step.Current m))
 
 -- an expression over the first flows is one over more flows
 module _ (n m : ℕ) (le : n ≤ m) where

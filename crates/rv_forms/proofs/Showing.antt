@@ -14,8 +14,8 @@ use Rattle.rv_diagram.specs.{declared.Triple.Triple, Nodes.Valuation, Nodes.Diag
 use Rattle.rv_terms.specs.{declared.parted.Part.Part, Parts.form_at, Parts.IsTermOf}
 use Rattle.rv_agreement.specs.Agreement.{Fits, HasKind, IsRule, IsNamed, IsWell}
 use Rattle.rv_agreement.specs.Evaluation.{held, is_on, nth}
-use Rattle.rv_agreement.specs.Trees.{FlatTree, Node, FlatTrees, Constant, Flow, Memory, Ticked, Input, Not, Binary, Scale, If, AtMostOne, When, Current, Item}
-use Rattle.rv_agreement.specs.Trees.{nth_item, memory_items, memory_kinds, kind_at}
+use Rattle.rv_agreement.specs.Trees.{FlatTree, Node, FlatTrees, Constant, Flow, Memory, Ticked, Input, Not, Binary, Scale, If, AtMostOne, When, Item, nth_item}
+use Rattle.rv_agreement.specs.Trees.{memory_items, memory_kinds, kind_at}
 use Rattle.rv_agreement.specs.Valuations.{Reading, Truth, Name, Linear, holds_true, is_linear, form_of, operated, reads_at, read, updated, IsSymbolic}
 use Rattle.rv_flat.specs.{declared.flat.Flat.Flat, Facts.weight_under, Facts.flat_weight, FlatInstants.system_of, Inlined.table_of}
 use Rattle.rv_control.specs.Named.{named}
@@ -188,19 +188,6 @@ reads_when f a b at c e parts r = record {
   shows = λ v row k instant fits there. r.shows v row (nth_item (system_of f).flows c).clock instant fits.2
       (clock_here f v row instant c fits.1 (ap (is_there_at f v row) (sym fits.0) ∙ there));
 }
-
-pub reads_current : (f : Flat) (a b : Diagrams) (at : Sites) (m : ℕ) (parts : List Part) → IsAfterRead f a b m parts
-    → ReadsAs f a b (Node at (Current m (table_of f.memories m).clock (table_of f.memories m).body)) parts
-reads_current f a b at m parts r =
-    let x : Item = table_of f.memories m in
-    record {
-      extends = r.extends;
-      within = r.is_after.within;
-      shows = λ v row k instant fits there.
-          let same : updated (system_of f) (named f v) row m ≡ read (system_of f) (named f v) row (Node at (Current m x.clock x.body)) =
-          ap (λ (y : Item). cond (is_there_at f v row y.clock) (read (system_of f) (named f v) row y.body) ((found f v).kept m)) fits.2 in
-          sym same ∙ r.is_after.shows v row fits.0 fits.1 instant;
-    }
 
 -- OPERATORS
 

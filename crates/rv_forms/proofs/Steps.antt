@@ -1,6 +1,5 @@
 -- An expression of each form read into a term, by what its parts were read into.
 use Rattle.std.proofs.Common.{◌≡◌, ℕ, ◌<◌, ◌≤◌, ℤ, pos, true, false, List, length, refl, sym, ◌∙◌, subst, arith, Option, Some, Result, Ok, Err, IfOk, OnOk}
-use Rattle.std.proofs.lemmas.List.{length-map}
 use Rattle.std.specs.Prelude.{slice_get}
 use Rattle.rv_base.specs.{declared.value.Value.Value, Limits.heaviest}
 use Rattle.rv_tree.specs.{declared.tree.Op.Op, Places.Sites}
@@ -10,8 +9,7 @@ use Rattle.rv_rows.specs.{declared.linear.Form.Form, Arithmetic.constant_form, A
 use Rattle.rv_diagram.specs.{declared.Triple.Triple, Nodes.Valuation, Nodes.Diagrams, Nodes.Grows}
 use Rattle.rv_terms.specs.{declared.parted.Part.Part, declared.parted.Term.Term, Parts.form_at, Parts.IsTerm, Parts.IsTermOf}
 use Rattle.rv_agreement.specs.Trees.{FlatTree, Node, Binary, Not, AtMostOne, Ticked}
-use Rattle.rv_flat.specs.{declared.parts.FlatExpr.FlatExpr, declared.parts.FlatMemory.FlatMemory, Facts.is_light, FlatInstants.system_of, Systems.flow_item}
-use Rattle.rv_flat.specs.{Tame.IsOver}
+use Rattle.rv_flat.specs.{declared.parts.FlatExpr.FlatExpr, declared.parts.FlatMemory.FlatMemory, Facts.is_light, Tame.IsOver}
 use Rattle.rv_flat.specs.declared.parts.FlatForm.TheVariants as form
 use Rattle.rv_control.proofs.Weighed.{light_weight}
 use Rattle.rv_symbolic.proofs.Extending.{extends_refl, grows_extends}
@@ -104,9 +102,6 @@ pub light_within : (x : Around) (d : Diagrams) (t : FlatTree) (parts : List Part
     → IsWithin d.nodes (columns_of x.flat.now) (weight_in x.flat.now t) parts → IsWithin d.nodes (columns_of x.flat.now) heaviest parts
 light_within x d t parts light is = within_more d.nodes (columns_of x.flat.now) (weight_in x.flat.now t) heaviest parts
     (light_weight (weights_of x.flat.now) t light) is
-
-pub flows_many : (x : Around) → length (system_of x.flat.now).flows ≡ length x.flat.now.flows
-flows_many x = length-map x.flat.now.flows (flow_item x.flat.now.memories)
 
 pub ok_with : {A E : Type 0} (o : Result A E) (P : A → Type 0) (Q : Type 0) (R : A → Type 0) → ((r : A) → P r → Q → R r) → IfOk o P → OnOk o Q → IfOk o R
 ok_with (Ok r) P Q R g h k = g r h k

@@ -1,7 +1,7 @@
 -- Lists that are made item by item.
 use Rattle.std.proofs.Common.{◌≡◌, ℕ, ◌+◌, ◌<◌, ◌≤◌, List, [], ◌∷◌, ◌++◌, length, map, take, sym, ◌∙◌, ap, subst}
-use Rattle.std.specs.Prelude.{slice_index_or}
 use Rattle.std.proofs.lemmas.List.{take_more, take_all, get_or-map, length-map}
+use Rattle.std.specs.Prelude.{slice_index_or}
 
 -- one item more
 pub taken_more : {A : Type 0} (xs : List A) (i : ℕ) (d y : A) (before more : List A) → i < length xs → before ≡ take i xs → more ≡ before ++ y ∷ []

@@ -9,9 +9,10 @@ use Rattle.rv_instances.specs.Giving.{AreGiven, IsGiven, first_of, number_at}
 use Rattle.rv_instances.specs.Layouts.{AreCallees, callee_or_main, node_at, all_places}
 use Rattle.rv_instances.specs.{declared.answer.Instance.Instance as Numbered, declared.givers.Giver.Giver as Told, declared.givers.Giver.TheVariants.Input}
 use Rattle.rv_instances.specs.{Expanded.IsExpanded, Flowing.AreFlowPlaces, Flowing.place_at, Givers.AreGivers, Givers.StandsFor}
-use Rattle.rv_instances.proofs.ExpandedLaws.{not_itself, number_at as instance_number, main_at, node_in, node_is}
+use Rattle.rv_instances.proofs.ExpandedLaws.{number_at as instance_number, main_at, node_in, node_is}
 use Rattle.rv_instances.proofs.{BaseClocks.callee_number, FlowPlaces.are_flow_places, GivenFlows.site_placed, GivenFlows.input_placed, GiverLaws.flow_giver}
 use Rattle.rv_instances.proofs.{GiverLaws.flow_site, GiverLaws.one_giver, Known.map_at, LaidFlows.inputs_among, Lists.length_map, Lists.nat_split}
+use Rattle.rv_types.proofs.PlaceOrders.{not_itself}
 
 module _ (p : ProgramTree) (main : Identifier) (instances : List Numbered) (known : IsExpanded p main instances) where
   pub flow_places : AreFlowPlaces p main (all_places p instances)

@@ -9,7 +9,7 @@ use Rattle.rv_types.specs.Parts.{faults_of_all}
 use Rattle.rv_types.specs.Names.{is_declared, node_names, is_value, node_uses, equation_uses, assertion_uses, name_faults, use_of, uses, own_uses}
 use Rattle.rv_types.specs.Instances.{CallTree, calls, calls_in, form_calls, calls_in_all, calls_in_equations, calls_in_assertions, IsArgument, head, tail}
 use Rattle.rv_instances.proofs.Known.{each_nil, uses_of}
-use Rattle.rv_types.proofs.{Members.cons_cases, Members.nothing_in, RightNames.both_empty, TypedParts.right_calls}
+use Rattle.rv_types.proofs.{Members.cons_cases, Members.nothing_in, RightNames.both_empty, TypedParts.right_calls, CallsWithin.in_body, CallsWithin.of_right}
 
 -- The names in the arguments of a call of an expression of which every name is known.
 module _ (values clocks nodes : Identifier → Bool) where
@@ -103,26 +103,6 @@ mutual
     | inl u ↦ Contains-append_left (calls_in t) (calls_in_all ts) d (nested t c d u v)
     | inr u ↦ Contains-append_right (calls_in t) (calls_in_all ts) d (all_nested ts c d u v)
   ]
-
--- the calls in an argument
-pub in_argument : (es : Trees) (j : ℕ) (e : Tree) (d : CallTree) → IsArgument es j e → Contains (calls_in e) d → Contains (calls_in_all es) d
-in_argument _ _ e d (head {es = es}) w = Contains-append_left (calls_in e) (calls_in_all es) d w
-in_argument _ _ e d (tail {e = t} {es = es} {j = j} rest) w = Contains-append_right (calls_in t) (calls_in_all es) d (in_argument es j e d rest w)
-
-of_right : (qs : List EquationTree) (d : CallTree) → Contains (calls_in_equations qs) d → (q : EquationTree) × Contains qs q × Contains (calls_in q.right) d
-of_right [] d w = nothing_in d w
-of_right (r ∷ rs) d w = elim (Contains-append_cases (calls_in r.right) (calls_in_equations rs) d w) [
-  | inl here ↦ (r, (0, omega arith, refl), here)
-  | inr rest ↦ let v = of_right rs d rest in (v.0, Contains-append_right (r ∷ []) rs v.0 v.1, v.2)
-]
-
--- and in an assertion
-pub in_body : (qs : List AssertionTree) (q : AssertionTree) (d : CallTree) → Contains qs q → Contains (calls_in q.body) d → Contains (calls_in_assertions qs) d
-in_body [] q d w v = nothing_in q w
-in_body (r ∷ rs) q d w v = elim (cons_cases r rs q w) [
-  | inl same ↦ Contains-append_left (calls_in r.body) (calls_in_assertions rs) d (subst (λ (t : AssertionTree). Contains (calls_in t.body) d) (sym same) v)
-  | inr rest ↦ Contains-append_right (calls_in r.body) (calls_in_assertions rs) d (in_body rs q d rest v)
-]
 
 of_body : (qs : List AssertionTree) (d : CallTree) → Contains (calls_in_assertions qs) d → (q : AssertionTree) × Contains qs q × Contains (calls_in q.body) d
 of_body [] d w = nothing_in d w

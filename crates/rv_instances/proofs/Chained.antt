@@ -6,8 +6,8 @@ use Rattle.std.proofs.{lemmas.List.take-append-le, lemmas.List.length-take-le, l
 use Rattle.rv_tree.specs.Places.{Sites}
 use Rattle.rv_types.specs.Needs.{IsBefore}
 use Rattle.rv_instances.specs.{declared.answer.Instance.Instance as Numbered, Callees.callee_in, Layouts.path_at, Layouts.ArePaths, Layouts.AreCallees}
-use Rattle.rv_instances.proofs.{Lists.nat_split, ExpandedLaws.not_itself, ExpandedLaws.not_both, ExpandedLaws.before_longer, FlowPlaces.not_empty}
-use Rattle.rv_instances.proofs.{FlowPlaces.snoc_parts, FlowPlaces.snoc_view}
+use Rattle.rv_instances.proofs.{Lists.nat_split, ExpandedLaws.before_longer, FlowPlaces.not_empty, FlowPlaces.snoc_parts, FlowPlaces.snoc_view}
+use Rattle.rv_types.proofs.PlaceOrders.{not_both, not_itself}
 
 -- what stands between a place and one that is longer by a site begins with the place
 begins : (q r : Sites) (s : ℕ) → IsBefore q r → IsBefore r (q ++ s ∷ []) → (rest : Sites) × (r ≡ q ++ rest)

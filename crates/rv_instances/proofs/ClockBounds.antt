@@ -1,12 +1,11 @@
 -- The clocks of flows and expressions stand for no more than the flows of their node.
-use Rattle.std.proofs.Common.{ℕ, ◌+◌, ◌<◌, ◌≤◌, ◌^◌, inl, inr, Bool, true, false, cond, List, [], ◌∷◌, ◌++◌, map, length, get_or, sym, subst, arith, Option}
-use Rattle.std.proofs.Common.{Some, None as Nothing}
+use Rattle.std.proofs.Common.{ℕ, ◌+◌, ◌<◌, ◌≤◌, ◌^◌, inl, inr, Bool, true, false, cond, ◌++◌, map, length, get_or, sym, subst, arith, Option, Some}
+use Rattle.std.proofs.Common.{None as Nothing}
 use Rattle.std.proofs.{lemmas.List.get_or_past, lemmas.List.Elements.Contains-get_or, lemmas.List.Elements.Contains-append_cases}
 use Rattle.std.specs.List.{Contains}
-use Rattle.rv_tree.specs.Tree.{Tree, Node, Form, True, False, Number, Named, Not, Minus, Pre, Current, When, Binary, If, AtMostOne, Call, Trees, None, More}
-use Rattle.rv_tree.specs.Tree.{NodeTree}
-use Rattle.rv_tree.specs.Places.{Identifier, flows, site_of, is_flow, is_same, index_of}
-use Rattle.rv_tree.specs.{declared.tree.Name.Name, declared.tree.Decl.Decl, declared.tree.Op.Op}
+use Rattle.rv_tree.specs.{Tree.Tree, Tree.Node, Tree.Form, Tree.True, Tree.False, Tree.Number, Tree.Named, Tree.Not, Tree.Minus, Tree.Pre, Tree.Current}
+use Rattle.rv_tree.specs.{Tree.When, Tree.Binary, Tree.If, Tree.AtMostOne, Tree.Call, Tree.Trees, Tree.None, Tree.More, Tree.NodeTree, Places.Identifier}
+use Rattle.rv_tree.specs.{Places.flows, Places.site_of, Places.is_flow, declared.tree.Name.Name, declared.tree.Decl.Decl, declared.tree.Op.Op}
 use Rattle.rv_tree.specs.declared.tree.Op.TheVariants as op
 use Rattle.rv_types.specs.declared.typed.Clock.TheVariants.{Base, On}
 use Rattle.rv_types.specs.declared.fault.Pace.TheVariants.{Free, At, Mute, Differ}
@@ -17,6 +16,7 @@ use Rattle.rv_types.specs.{declared.typed.Clock.Clock, declared.fault.Pace.Pace,
 use Rattle.rv_instances.specs.Layouts.{IsWithin}
 use Rattle.rv_instances.proofs.Lists.{nat_split}
 use Rattle.rv_base.proofs.Lists.{from_map}
+use Rattle.rv_types.proofs.NamePlaces.{index_low}
 
 abbrev pub IsLow : NodeTree → Clock → Type 0
 IsLow n Base = Unit {0}
@@ -27,14 +27,6 @@ IsLowPace n (At c) = IsLow n c
 IsLowPace n Free = Unit {0}
 IsLowPace n Mute = Unit {0}
 IsLowPace n Differ = Unit {0}
-
-index_low : (xs : List Identifier) (x : Identifier) → index_of xs x ≤ length xs
-index_low [] x = omega arith
-index_low (y ∷ ys) x = tested (is_same y x) (index_low ys x)
-  where
-    tested : (b : Bool) → index_of ys x ≤ length ys → cond b 0 (index_of ys x + 1) ≤ length (y ∷ ys)
-    tested true h = omega arith
-    tested false h = omega (arith, h)
 
 seen_low : (n : NodeTree) (p : Pace) → IsLowPace n p → IsLowPace n (seen p)
 seen_low n Free h = tt

@@ -9,22 +9,7 @@ use Rattle.rv_instances.specs.{declared.answer.Instance.Instance as Numbered, Al
 use Rattle.rv_instances.specs.{Expanded.no_instance, Flowing.AreOfNodes, Layouts.node_at, Layouts.path_at, Layouts.ArePaths}
 use Rattle.rv_instances.proofs.FlowPlaces.{not_empty, snoc_parts, numbered_node}
 use Rattle.rv_instances.proofs.{Lists.nat_split, Known.number_of_node, Flowing.instance_node}
-use Rattle.rv_types.proofs.CallSites.{one_call}
-
--- no place stands before itself
-pub not_itself : (a : Sites) → IsBefore a a → ⊥
-not_itself [] h = h
-not_itself (x ∷ xs) (inl lt) = omega (arith, lt)
-not_itself (x ∷ xs) (inr w) = not_itself xs w.1
-
--- and none before one that stands before it
-pub not_both : (a b : Sites) → IsBefore a b → IsBefore b a → ⊥
-not_both a [] h k = h
-not_both [] (y ∷ ys) h k = k
-not_both (x ∷ xs) (y ∷ ys) (inl lt) (inl less) = omega (arith, lt, less)
-not_both (x ∷ xs) (y ∷ ys) (inl lt) (inr w) = let e = w.0 in omega (arith, lt, e)
-not_both (x ∷ xs) (y ∷ ys) (inr v) (inl less) = let e = v.0 in omega (arith, less, e)
-not_both (x ∷ xs) (y ∷ ys) (inr v) (inr w) = not_both xs ys v.1 w.1
+use Rattle.rv_types.proofs.{CallSites.one_call, PlaceOrders.not_itself}
 
 -- a place stands before one that is longer by a site
 pub before_longer : (a : Sites) (s : ℕ) → IsBefore a (a ++ s ∷ [])

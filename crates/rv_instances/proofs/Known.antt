@@ -13,16 +13,7 @@ use Rattle.rv_types.specs.Instances.{CallTree, calls, calls_in, form_calls, call
 use Rattle.rv_types.specs.{declared.fault.NameFault.TheVariants.DefinedTwice, Parts.faults_of_all, Kinds.node_among}
 use Rattle.rv_instances.specs.AllInstances.{names_of}
 use Rattle.rv_instances.proofs.Lists.{length_map}
-use Rattle.rv_types.proofs.{Members.cons_cases, Members.index_there, Members.nothing_in, Members.text_itself, RightNames.both_empty}
-
--- a name that is not among some has the number of all
-pub index_past : (xs : List Identifier) (x : Identifier) → is_among xs x ≡ false → index_of xs x ≡ length xs
-index_past [] x e = refl
-index_past (y ∷ ys) x e = tested (is_same y x) (is_among ys x) e (index_past ys x)
-  where
-    tested : (b a : Bool) → (b || a) ≡ false → (a ≡ false → index_of ys x ≡ length ys) → cond b 0 (index_of ys x + 1) ≡ suc (length ys)
-    tested true a e again = cc
-    tested false a e again = let h = again e in omega (arith, h)
+use Rattle.rv_types.proofs.{Members.cons_cases, Members.index_there, Members.nothing_in, Members.text_itself, RightNames.both_empty, NamePlaces.index_past}
 
 pub each_nil : {X Y : Type 0} (f : X → List Y) (xs : List X) → flat_map f xs ≡ [] → (x : X) → Contains xs x → f x ≡ []
 each_nil f [] e x w = nothing_in x w

@@ -3,7 +3,7 @@ use Rattle.std.proofs.Common.{◌≡◌, List, [], ◌∷◌, ◌++◌, flat_map
 use Rattle.std.proofs.lemmas.Grind.{flat_map-append}
 use Rattle.rv_tree.specs.Tree.{Tree, Node, True, False, Number, Named, Not, Minus, Pre, Current, When, Binary, If, AtMostOne, Call, Trees, None, More}
 use Rattle.rv_tree.specs.Tree.{EquationTree, AssertionTree, NodeTree}
-use Rattle.rv_types.specs.{Variables.parts, Variables.parts_of_all, Variables.node_parts}
+use Rattle.rv_types.specs.Variables.{parts, parts_of_all, node_parts}
 use Rattle.rv_instances.specs.Timed.{ToldOperator, operators_in, operators_of_all, own_operator, operators_told}
 
 -- what is made of lists one after the other

@@ -9,6 +9,5 @@ pub mod Giving
 pub mod NumberedNeeds
 pub mod Fitting
 pub mod AllInstances
-pub mod ArrowClocks
 pub mod Counts
 pub mod Timed

@@ -5,10 +5,9 @@ use Rattle.rv_tree.specs.Tree.{NodeTree, ProgramTree, node_tree, tree_of}
 use Rattle.rv_tree.specs.Places.{Identifier, Sites, flows, is_flow, site_of}
 use Rattle.rv_types.specs.{declared.typed.Clock.Clock, declared.typed.Clock.TheVariants.Base, Clocks.pace, Instances.clock_of, Instances.taken}
 use Rattle.rv_types.specs.{Needs.Giver as GiverTree, Needs.Gives}
-use Rattle.rv_instances.specs.declared.givers.Giver.TheVariants.{Input, Body, Output}
-use Rattle.rv_instances.specs.Layouts.{Here, number_of, here_of, node_at}
-use Rattle.rv_instances.specs.{declared.answer.Instance.Instance as Numbered, declared.givers.Giver.Giver, declared.layout.Layout.Layout}
-use Rattle.rv_instances.specs.{declared.reader.Reader.Reader, Callees.callee_in, Givers.StandsFor}
+use Rattle.rv_instances.specs.{declared.givers.Giver.TheVariants.Input, declared.givers.Giver.TheVariants.Body, declared.givers.Giver.TheVariants.Output}
+use Rattle.rv_instances.specs.{Layouts.Here, Layouts.number_of, Layouts.here_of, Layouts.node_at, declared.answer.Instance.Instance as Numbered}
+use Rattle.rv_instances.specs.{declared.givers.Giver.Giver, declared.layout.Layout.Layout, declared.reader.Reader.Reader, Callees.callee_in, Givers.StandsFor}
 
 -- a flow, if there is one
 abbrev pub listed : Option ℕ → List ℕ

@@ -114,15 +114,6 @@ stops-or view r (fault.BadNumber n i) new h = inr h
 stops-or view r (fault.Ends n) new h = inr h
 stops-or view r fault.Memory new h = inl refl
 
--- a part before, that stops, stops the whole
-pub part-or : {X A B : Type 0} (view : X → A) (p : Rule A) (k : A → Rule B) (s : Ahead) (e : FileFault) (new : Ahead) → Reads view (run p s) (Err e) new
-    → (e ≡ fault.Memory) ⊎ (run (bind p k) s ≡ Err e)
-part-or view p k s e new h = by (stops-or view (run p s) e new h)
-  where
-    by : (e ≡ fault.Memory) ⊎ (run p s ≡ Err e) → (e ≡ fault.Memory) ⊎ (run (bind p k) s ≡ Err e)
-    by (inl m) = inl m
-    by (inr x) = inr (bind_err p k s e x)
-
 -- reading that is reading after a part that was read goes on as that
 pub continues-after : {X : Type 0} (before after : Then X → Reading Certificate) (r : Result X FileFault) (known : Known) (new : Ahead)
     → ((next : Then X) → AllWait next → before next ≡ after next) → Continues after r known new → Continues before r known new
@@ -154,10 +145,6 @@ continues-part {X = X} view r before e known old new h k = by (stops-or view r e
     by : (e ≡ fault.Memory) ⊎ (r ≡ Err e) → (e ≡ fault.Memory) ⊎ ((next : Then X) → AllWait next → before next ≡ Err e)
     by (inl m) = inl m
     by (inr x) = inr (λ next w. k next w e x)
-
-pub continues-memory : {X : Type 0} (before : Then X → Reading Certificate) (e : FileFault) (known : Known) (new : Ahead) → e ≡ fault.Memory
-    → Continues before (Err e) known new
-continues-memory before e known new h = inl h
 
 -- a part of open end that stops stops the whole
 pub stops-with-next : {X A : Type 0} (view : A → Certificate) (before : Then X → Reading Certificate) (r : Reading Certificate) (e : FileFault) (known : Known)

@@ -2,27 +2,14 @@
 use Rattle.std.proofs.Common.{◌≡◌, ◌+◌, ◌-◌, ◌*◌, ◌/◌, ◌%◌, ◌<◌, ◌≤◌, ℕ, zero, suc, Bool, true, false, cond, List, [], ◌∷◌, length, refl, sym, ap, ◌∙◌, arith}
 use Rattle.std.proofs.lemmas.Bool.{eqb-true, leb-true, ltb-true, ltb-false, ne_eqb}
 use Rattle.std.specs.{Prelude.◌&&◌, Prelude.◌||◌, Prelude.nat_eq, Prelude.nat_le, Prelude.nat_lt, Prelude.Some, Prelude.None, Prelude.Err, Str.bytes_eq}
-use Rattle.rv_invfile.specs.Rules.{Fields, Form, done, await, first_bad, is_plain}
-use Rattle.rv_invfile.specs.{declared.fault.FileFault.FileFault, Readers.Ahead, Readers.◌>>=◌, Readers.Reading, Readers.Reads, Readers.run, Ahead.here}
-use Rattle.rv_invfile.specs.{Ahead.first, Ahead.kind_fault, Ahead.kind_fault_in, Ahead.ReadsFields, Forms.word_of}
+use Rattle.rv_invfile.specs.Rules.{Fields, Form, done, await, first_bad}
+use Rattle.rv_invfile.specs.Readers.{Ahead, ◌>>=◌, Reading, Reads, run}
+use Rattle.rv_invfile.specs.{declared.fault.FileFault.FileFault, Ahead.here, Ahead.first, Ahead.kind_fault, Ahead.ReadsFields, Forms.word_of}
 use Rattle.rv_invfile.specs.declared.fault.FileFault.TheVariants as fault
 use Rattle.rv_invfile.proofs.{OneRecord.bad_field, Decimals.bytes-same, Instants.none-bad, Instants.one-bad}
 use Rattle.rv_invariant.specs.Groups.{is_grouped, grouped, groups_right, in_group}
 use Rattle.rv_invariant.specs.Judging.{IsFirstWrong, AreRight, ReadsGroup, ReadsGroups}
 use Rattle.rv_base.proofs.Truths.{both_of}
-
--- a record that was looked for stands here
-kind-by : (p k : Bool) (n : ℕ) → cond p (cond k None (Some (fault.WrongKind n))) (Some (fault.NotRecords n)) ≡ None → k ≡ true
-kind-by true true n h = refl
-kind-by true false n h = cc
-kind-by false k n h = cc
-
-kind-in : (kind : Fields → Bool) (n : ℕ) (rs : List Fields) → kind_fault_in kind n rs ≡ None → kind (first rs) ≡ true
-kind-in kind n [] h = cc
-kind-in kind n (r ∷ rs) h = kind-by (is_plain r) (kind r) n h
-
-pub kind-here : (kind : Fields → Bool) (s : Ahead) → kind_fault kind s ≡ None → kind (here s) ≡ true
-kind-here kind s h = kind-in kind s.taken s.rest h
 
 pub grouped-is : (word : List ℕ) (width : ℕ) (r : Fields) → is_grouped word width r ≡ true → (word_of r ≡ word) × (2 ≤ length r) × ((length r - 2) % width ≡ 0)
 grouped-is word width r h =
@@ -138,9 +125,6 @@ right-more w k right a h m j l b = by (nat_lt m k) refl
     by true e = a m j (ltb-true m k e) b
     by false e = let ge = ltb-false m k e in let same : m ≡ k = omega (arith, ge, l) in ap (λ x. right x j) same ∙ h j b
 
-pub right-none : (w : ℕ) (right : ℕ → ℕ → Bool) → AreRight w 0 right
-right-none w right m j l b = absurd (omega (arith, l))
-
 -- the places of a group
 pub of-three : (p : ℕ → Bool) → p 0 ≡ true → p 1 ≡ true → p 2 ≡ true → (j : ℕ) → j < 3 → p j ≡ true
 of-three p a b c zero l = a
@@ -156,9 +140,6 @@ of-two p a b (suc (suc j)) l = absurd (omega (arith, l))
 pub of-one : (p : ℕ → Bool) → p 0 ≡ true → (j : ℕ) → j < 1 → p j ≡ true
 of-one p a zero l = a
 of-one p a (suc j) l = absurd (omega (arith, l))
-
-pub of-none : (p : ℕ → Bool) (j : ℕ) → j < 0 → p j ≡ true
-of-none p j l = absurd (omega (arith, l))
 
 -- a record whose fields were read and are not all right
 pub fields-stop : {A : Type 0} (f : Form) (g : Fields → A) (s : Ahead) (value : A) (e : FileFault) (new : Ahead) → kind_fault f.is_kind s ≡ None

@@ -104,17 +104,6 @@ texts-more labels is vs i x v front whole h k kept =
     ∙ ap (λ l. value_texts labels (x.kind ∷ map (λ (y : FlatInput). y.kind) (drop (i + 1) is)) l) (drop-at vs i v k)))
     ∙ kept
 
-pub texts-none : (labels : Labels) (is : List FlatInput) (vs : List Value) (i : ℕ) (front whole : Fields) → length is ≤ i
-    → front ++ value_texts labels (map (λ (y : FlatInput). y.kind) (drop i is)) (drop i vs) ≡ whole → front ≡ whole
-texts-none labels is vs i front whole l kept = sym (append-nil front) ∙ ap
-    (λ (x : List FlatInput). front ++ value_texts labels (map (λ (y : FlatInput). y.kind) x) (drop i vs)) (sym (past is i l)) ∙ kept
-  where
-    past : (is : List FlatInput) (i : ℕ) → length is ≤ i → drop i is ≡ []
-    past [] zero l = refl
-    past [] (suc i) l = refl
-    past (x ∷ xs) zero l = absurd (omega arith)
-    past (x ∷ xs) (suc i) l = past xs i (omega arith)
-
 -- values of some types are as many
 pub kinds-length : (labels : Labels) (ks : List Kind) (vs : List Value) → HaveKinds labels ks vs → length vs ≡ length ks
 kinds-length labels [] [] h = refl

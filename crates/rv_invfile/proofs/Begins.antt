@@ -2,9 +2,9 @@
 use Rattle.std.proofs.Common.{◌≡◌, ℕ, zero, suc, List, [], ◌∷◌, ◌++◌, refl, sym, ap, ◌∙◌, subst, append_assoc}
 use Rattle.std.specs.Prelude.{None, ◌↔◌}
 use Rattle.rv_invfile.specs.Rules.{Fields, Rule, done, await, awaited, fault_in, after, fault_after, HasNoFault}
-use Rattle.rv_invfile.specs.{Parts.bind, Parts.each, Parts.times, Spells.IsAlive, Spells.BeginsDocument}
+use Rattle.rv_invfile.specs.{Parts.bind, Parts.times, Spells.IsAlive, Spells.BeginsDocument}
 use Rattle.rv_invfile.proofs.{Exact.none-first, Exact.none-more, Exact.first-right, Exact.rest-right, Spelled.spells-document, Spelled.goes, Spelled.goes-on}
-use Rattle.rv_invfile.proofs.{Spelled.alive-after, Loops.each_more, Loops.each_none, Loops.times_more, Loops.times_none}
+use Rattle.rv_invfile.proofs.{Spelled.alive-after, Loops.times_more, Loops.times_none}
 
 next-rule : {A : Type 0} (rule : Rule A) (b : Fields) (bs : List Fields) → after rule (b ∷ bs) ≡ after (after rule (b ∷ [])) bs
 next-rule (done a) b [] = refl
@@ -35,12 +35,6 @@ awaited-begins rule alive before r n = (
 pub alive-bind : {A B : Type 0} (p : Rule A) (k : A → Rule B) → IsAlive p → ((a : A) → IsAlive (k a)) → IsAlive (bind p k)
 alive-bind (done a) k h g = g a
 alive-bind (await forms next) k h g = (h.0, λ r e. alive-bind (next r) k (h.1 r e) g)
-
-pub alive-each : {P A : Type 0} (part : P → Rule A) → ((p : P) → IsAlive (part p)) → (ps : List P) → IsAlive (each part ps)
-alive-each part h [] = subst IsAlive (sym (each_none part)) tt
-alive-each part h (p ∷ ps) = subst IsAlive (sym (each_more part p ps))
-    (alive-bind (part p) (λ a. bind (each part ps) (λ more. done (a ∷ more))) (h p)
-    (λ a. alive-bind (each part ps) (λ more. done (a ∷ more)) (alive-each part h ps) (λ more. tt)))
 
 pub alive-times : {A : Type 0} (n : ℕ) (part : Rule A) → IsAlive part → IsAlive (times n part)
 alive-times zero part h = subst IsAlive (sym (times_none part)) tt

@@ -145,10 +145,6 @@ tells-start rule rs (Err fault.Memory) t = t
 pub whole_tells : {A : Type 0} (rule : Rule A) (rs : List Fields) → Tells rule rs (whole rule rs)
 whole_tells rule rs = tells-start rule rs (whole rule rs) (tells rule 0 rs)
 
--- ---- What records are decides what reading answers.
-right-judged : (r : Fields) (rs : List Fields) (n : ℕ) (o : Option Why) → o ≡ None → judged o n r rs ≡ Ok (r, record { taken = n + 1; rest = rs })
-right-judged r rs n o h = ap (λ x. judged x n r rs) h
-
 pub reads-document : {A : Type 0} (rule : Rule A) (n : ℕ) (rs : List Fields) (a : A) → IsDocument rule rs a → whole_from rule n rs ≡ Ok a
 reads-document (done b) n [] a d = ap Ok (done-is b a d.1)
   where

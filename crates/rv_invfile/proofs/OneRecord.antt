@@ -1,5 +1,5 @@
 -- One record of one form: what is at fault in it, by its kind, its texts of the program and its fields.
-use Rattle.std.proofs.Common.{◌≡◌, ◌<◌, ℕ, zero, suc, Bool, true, false, cond, List, [], ◌∷◌, length, refl, sym, ap, ◌∙◌, subst, arith}
+use Rattle.std.proofs.Common.{◌≡◌, ℕ, zero, suc, Bool, true, false, cond, List, [], ◌∷◌, length, refl, sym, ap, ◌∙◌, subst}
 use Rattle.std.specs.Prelude.{Some, None, Result, Ok, Err, option_map, ⊤, OnOk, IfErr}
 use Rattle.rv_invfile.specs.declared.fault.Why.TheVariants as why
 use Rattle.rv_invfile.specs.Readers.{Ahead, ◌>>=◌, Reading, Reads, judged, taking, take_in}
@@ -7,33 +7,10 @@ use Rattle.rv_invfile.specs.{declared.fault.FileFault.FileFault, Rules.Fields, R
 use Rattle.rv_invfile.specs.{Ahead.first, Ahead.others, Ahead.here, Ahead.after_one, Ahead.kind_fault, Ahead.kind_fault_in}
 use Rattle.rv_invfile.specs.declared.fault.FileFault.TheVariants as fault
 
--- a fault of the kind is that of the record
-stopped-by : (p k : Bool) (f : Form) (n : ℕ) (r : Fields) (rs : List Fields) (e : FileFault)
-    → cond p (cond k None (Some (fault.WrongKind n))) (Some (fault.NotRecords n)) ≡ Some e
-    → judged (cond p (fault_by (cond k (Some f) None) r) (Some why.NotRecords)) n r rs ≡ Err e
-stopped-by true true f n r rs e h = cc
-stopped-by true false f n r rs e h = cc
-stopped-by false k f n r rs e h = cc
-
-stopped-in : (f : Form) (n : ℕ) (rs : List Fields) (e : FileFault) → kind_fault_in f.is_kind n rs ≡ Some e → take_in (f ∷ []) n rs ≡ Err e
-stopped-in f n [] e h = cc
-stopped-in f n (r ∷ rs) e h = stopped-by (is_plain r) (f.is_kind r) f n r rs e h
-
-pub stopped : (f : Form) (s : Ahead) (e : FileFault) → kind_fault f.is_kind s ≡ Some e → taking (f ∷ []) s ≡ Err e
-stopped f s e h = stopped-in f s.taken s.rest e h
-
 passes-by : (p k : Bool) (n : ℕ) → cond p (cond k None (Some (fault.WrongKind n))) (Some (fault.NotRecords n)) ≡ None → (p ≡ true) × (k ≡ true)
 passes-by true true n h = (refl, refl)
 passes-by true false n h = cc
 passes-by false k n h = cc
-
--- a record of the kind stands here
-pub there-in : (kind : Fields → Bool) (n : ℕ) (rs : List Fields) → kind_fault_in kind n rs ≡ None → 0 < length rs
-there-in kind n [] h = cc
-there-in kind n (r ∷ rs) h = omega arith
-
-pub there : (kind : Fields → Bool) (s : Ahead) → kind_fault kind s ≡ None → 0 < length s.rest
-there kind s h = there-in kind s.taken s.rest h
 
 -- what is at fault in it then
 pub further-in : (f : Form) (n : ℕ) (rs : List Fields) → kind_fault_in f.is_kind n rs ≡ None
@@ -46,12 +23,6 @@ further-in f n (r ∷ rs) h =
 
 pub further : (f : Form) (s : Ahead) → kind_fault f.is_kind s ≡ None → taking (f ∷ []) s ≡ judged (fault_by (Some f) (here s)) s.taken (here s) (others s.rest)
 further f s h = further-in f s.taken s.rest h
-
-pub other_program : (f : Form) (s : Ahead) → kind_fault f.is_kind s ≡ None → f.is_program (here s) ≡ false
-    → taking (f ∷ []) s ≡ Err (fault.WrongProgram s.taken)
-other_program f s h p =
-    further f s h ∙ ap (λ b. judged (cond b (option_map why.BadNumber (first_bad (f.allows (here s)) 0 (length (here s)))) (Some why.WrongProgram)) s.taken
-    (here s) (others s.rest)) p
 
 pub by_fields : (f : Form) (s : Ahead) → kind_fault f.is_kind s ≡ None → f.is_program (here s) ≡ true
     → taking (f ∷ []) s ≡ judged (option_map why.BadNumber (first_bad (f.allows (here s)) 0 (length (here s)))) s.taken (here s) (others s.rest)
@@ -67,17 +38,6 @@ pub right : (f : Form) (s : Ahead) → kind_fault f.is_kind s ≡ None → f.is_
     → taking (f ∷ []) s ≡ Ok (here s, after_one s)
 right f s h p b = by_fields f s h p ∙ ap (λ o. judged (option_map why.BadNumber o) s.taken (here s) (others s.rest)) b
 
--- ---- The kind, where the bytes are plain.
-plain-by : (p : Bool) (kind : Bool) (n : ℕ) (e : FileFault) → cond p None (Some (fault.NotRecords n)) ≡ Some e
-    → cond p (cond kind None (Some (fault.WrongKind n))) (Some (fault.NotRecords n)) ≡ Some e
-plain-by true kind n e h = cc
-plain-by false kind n e h = h
-
-pub plain_stopped : (kind : Fields → Bool) (n : ℕ) (rs : List Fields) (e : FileFault) → kind_fault_in (λ r. true) n rs ≡ Some e
-    → kind_fault_in kind n rs ≡ Some e
-plain_stopped kind n [] e h = h
-plain_stopped kind n (r ∷ rs) e h = plain-by (is_plain r) (kind r) n e h
-
 plain-is : (p : Bool) (n : ℕ) → cond p None (Some (fault.NotRecords n)) ≡ None → p ≡ true
 plain-is true n h = refl
 plain-is false n h = cc
@@ -86,13 +46,6 @@ pub plain_kind : (kind : Fields → Bool) (n : ℕ) (rs : List Fields) → kind_
     → kind_fault_in kind n rs ≡ None
 plain_kind kind n [] h k = cc
 plain_kind kind n (r ∷ rs) h k =
-    ap (λ b. cond b (cond (kind r) None (Some (fault.WrongKind n))) (Some (fault.NotRecords n))) (plain-is (is_plain r) n h)
-    ∙ ap (λ b. cond b None (Some (fault.WrongKind n))) k
-
-pub plain_other : (kind : Fields → Bool) (n : ℕ) (rs : List Fields) → kind_fault_in (λ r. true) n rs ≡ None → kind (first rs) ≡ false
-    → kind_fault_in kind n rs ≡ Some (fault.WrongKind n)
-plain_other kind n [] h k = cc
-plain_other kind n (r ∷ rs) h k =
     ap (λ b. cond b (cond (kind r) None (Some (fault.WrongKind n))) (Some (fault.NotRecords n))) (plain-is (is_plain r) n h)
     ∙ ap (λ b. cond b None (Some (fault.WrongKind n))) k
 

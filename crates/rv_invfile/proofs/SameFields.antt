@@ -19,10 +19,6 @@ row-same [] (g ∷ gs) e = cc
 row-same (f ∷ fs) [] e = cc
 row-same (f ∷ fs) (g ∷ gs) e = let p = both_of (bytes_eq f g) (same_fields fs gs) e in ap (λ z. z ∷ fs) (bytes-same f g p.0) ∙ ap (λ z. g ∷ z) (row-same fs gs p.1)
 
--- another length, or another field
-pub other-length : (x y : List (List ℕ)) → (length x ≡ length y → ⊥) → same_fields x y ≡ false
-other-length x y h = false_from_ne_true (same_fields x y) (λ e. h (ap length (row-same x y e)))
-
 pub other-field : (x y : List (List ℕ)) (i : ℕ) → (get_or x i [] ≡ get_or y i [] → ⊥) → same_fields x y ≡ false
 other-field x y i h = false_from_ne_true (same_fields x y) (λ e. h (ap (λ z. get_or z i []) (row-same x y e)))
 
@@ -44,10 +40,6 @@ text-at f (y ∷ ys) (suc k) x l e = text-at f ys k x (omega arith) e
 
 next-field : (w : List ℕ) (m : List (List ℕ)) (i : ℕ) → get_or (w ∷ m) (i + 1) [] ≡ get_or m i []
 next-field w m i = ap (λ k. get_or (w ∷ m) k []) (add-one i)
-
-pub texts-differ : {A : Type 0} (f : A → List ℕ) (x : List (List ℕ)) (xs : List A) (i : ℕ) (a : A) → i < length xs → a ≡ get_or xs i a
-    → (get_or x i [] ≡ f a → ⊥) → same_fields x (map f xs) ≡ false
-texts-differ f x xs i a l e h = other-field x (map f xs) i (λ s. h (s ∙ text-at f xs i a l e))
 
 pub later-differ : {A : Type 0} (f : A → List ℕ) (x : List (List ℕ)) (w : List ℕ) (xs : List A) (i : ℕ) (a : A) → i < length xs → a ≡ get_or xs i a
     → (get_or x (i + 1) [] ≡ f a → ⊥) → same_fields x (w ∷ map f xs) ≡ false

@@ -78,9 +78,3 @@ pub goes-on : {A : Type 0} (rule : Rule A) (before more : List Fields) (a : A) �
 goes-on rule [] more a n s = s
 goes-on (done b) (r ∷ rs) more a n s = absurd (nothing-awaited r (first-right (done b) r rs n))
 goes-on (await forms next) (r ∷ rs) more a n s = (first-right (await forms next) r rs n, goes-on (next r) rs more a (rest-right (await forms next) r rs n) s)
-
--- and the records of a document go on so
-pub begins-right : {A : Type 0} (rule : Rule A) (before more : List Fields) (a : A) → Spells rule a (before ++ more) → HasNoFault rule before
-begins-right rule [] more a s = none-first rule
-begins-right (done b) (r ∷ rs) more a s = cc
-begins-right (await forms next) (r ∷ rs) more a s = none-more (await forms next) r rs s.0 (begins-right (next r) rs more a s.1)

@@ -10,9 +10,8 @@ use Rattle.rv_types.specs.{declared.typed.Clock.TheVariants.Base, declared.fault
 use Rattle.rv_types.specs.{Variables.total, Variables.over_instances}
 use Rattle.rv_make.specs.Made.{link_name}
 use Rattle.rv_make.specs.Chains.{Offsets, flow_read, link_calls, ok_equation, link_node, main_node, chain_program}
-use Rattle.rv_sizes.proofs.Summing.{total_append}
 use Rattle.rv_made_order.proofs.{Lists.only_one, Program.call_equation, Paced.link_pace}
-use Rattle.rv_types.proofs.Members.{cons_cases, nothing_in, of_flat_map}
+use Rattle.rv_types.proofs.{Members.cons_cases, Members.nothing_in, Members.of_flat_map, DifferentPlaces.total_append}
 
 calls_append : (xs ys : List EquationTree) → calls_in_equations (xs ++ ys) ≡ calls_in_equations xs ++ calls_in_equations ys
 calls_append [] ys = refl

@@ -4,9 +4,8 @@ use Rattle.std.proofs.Common.{sym, ◌∙◌, ap, arith, Some}
 use Rattle.std.proofs.lemmas.Bool.{and_parts, and_from, or_parts, or_from}
 use Rattle.std.specs.{List.Contains, List.flat_map, Prelude.slice_get}
 use Rattle.rv_types.specs.Variables.{total}
-use Rattle.rv_sizes.proofs.Summing.{total_append}
 use Rattle.rv_tree.specs.Places.{Identifier, is_same, is_among, index_of}
-use Rattle.rv_types.proofs.Members.{cons_cases, in_tail, nothing_in, text_itself}
+use Rattle.rv_types.proofs.{Members.cons_cases, Members.in_tail, Members.nothing_in, Members.text_itself, DifferentPlaces.total_append}
 
 -- a list with one element has no other
 pub only_one : {X : Type 0} (x y : X) → Contains (x ∷ []) y → x ≡ y

@@ -12,10 +12,9 @@ use Rattle.rv_instances.specs.Counts.{size, node_size, integer_memories, instanc
 use Rattle.rv_sizes.specs.Sizes.{measures, AreWithin}
 use Rattle.rv_make.specs.Made.{link_name}
 use Rattle.rv_make.specs.Chains.{Offsets, flow_read, seen_equation, ok_equation, link_calls, main_node, chain_program}
-use Rattle.rv_sizes.proofs.Summing.{total_append}
 use Rattle.rv_made_order.proofs.{Lists.both_none, Lists.none_of_each, Lists.total_flat, Lists.length_total, Program.call_equation, Program.each_later}
 use Rattle.rv_made_order.proofs.{Program.each_equation, Instances.main_copy, Instances.over_all, Instances.listed_made}
-use Rattle.rv_types.proofs.{Members.in_tail, RightNames.both_empty}
+use Rattle.rv_types.proofs.{Members.in_tail, RightNames.both_empty, DifferentPlaces.total_append}
 
 delays_none : (qs : List EquationTree) → ((q : EquationTree) → Contains qs q → delays q.right ≡ []) → delays_in_equations qs ≡ []
 delays_none qs each = joined qs ∙ none_of_each (λ (q : EquationTree). delays q.right) qs each

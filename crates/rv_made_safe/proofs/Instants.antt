@@ -3,11 +3,10 @@ use Rattle.std.proofs.Common.{arith, ◌≡◌, ℕ, suc, ◌+◌, ◌<◌, ◌�
 use Rattle.std.specs.{Prelude.codes, Prelude.Some, Prelude.Option, Prelude.None as Nothing, List.Contains}
 use Rattle.rv_base.specs.{declared.value.Value.Value, declared.value.Value.TheVariants.Flag}
 use Rattle.rv_tree.specs.{Tree.Tree, Tree.More, Tree.None, Tree.ProgramTree, Places.Sites, Places.site_of}
-use Rattle.rv_types.specs.declared.fault.Pace.TheVariants.{Free, At}
-use Rattle.rv_types.specs.Clocks.{clock_at, name_pace, meet, seen, grounded}
 use Rattle.rv_types.specs.Instances.{CallTree, calls, Body, head, clock_of, clock_in, clock_of_arguments, absolute, taken, Instance, place, callee}
 use Rattle.rv_types.specs.Instances.{main_instance, is_main, is_callee}
-use Rattle.rv_types.specs.{declared.typed.Clock.Clock, declared.typed.Clock.TheVariants.Base, Scopes.constant_value}
+use Rattle.rv_types.specs.{declared.fault.Pace.TheVariants.Free, declared.fault.Pace.TheVariants.At, Clocks.clock_at, Clocks.name_pace, Clocks.meet}
+use Rattle.rv_types.specs.{Clocks.seen, Clocks.grounded, declared.typed.Clock.Clock, declared.typed.Clock.TheVariants.Base, Scopes.constant_value}
 use Rattle.rv_meaning.specs.Meaning.{Cells, is_true, held, is_there, content, value, right_value}
 use Rattle.rv_meaning.specs.Runs.{History, cells, IsRun}
 use Rattle.rv_meaning.proofs.CallParts.{call_of_equation}

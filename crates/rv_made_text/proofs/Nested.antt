@@ -1,7 +1,7 @@
 -- The nesting of a made source is shallow: each equation begins and ends outside expressions.
 use Rattle.std.proofs.Common.{◌≡◌, ℕ, zero, suc, ◌&&◌, Bool, true, List, [], ◌∷◌, ◌++◌, refl, sym, ap, ◌∙◌, subst}
-use Rattle.std.specs.Prelude.{codes, nat_le}
 use Rattle.std.proofs.lemmas.Bool.{and_parts, leb-true}
+use Rattle.std.specs.Prelude.{codes, nat_le}
 use Rattle.rv_syntax.specs.declared.token.Token.{Token}
 use Rattle.rv_syntax.specs.Nesting.{Standing, Outside, behind, behind_all, depth, limit, IsShallowText}
 use Rattle.rv_made_text.proofs.Tokens.{named, declared_end, declaration_tokens, declared_tokens, local_tokens, call_tokens, call_at, calls_tokens, front_tokens}

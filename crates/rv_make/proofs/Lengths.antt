@@ -1,7 +1,7 @@
 -- How long the texts are.
 use Rattle.std.proofs.Common.{◌≡◌, ℕ, zero, suc, ◌+◌, ◌*◌, ◌<◌, ◌≤◌, List, [], ◌∷◌, ◌++◌, length, length-append, arith}
-use Rattle.std.specs.Prelude.{codes, decimal}
 use Rattle.std.proofs.lemmas.Fmt.{length-decimal-le}
+use Rattle.std.specs.Prelude.{codes, decimal}
 use Rattle.rv_base.specs.Limits.{source_limit}
 use Rattle.rv_make.specs.Made.{line, link_name, declared_links, link_equation, link_equations, link_text, main_text, made_text}
 

@@ -5,14 +5,9 @@ use Rattle.std.specs.List.{Contains}
 use Rattle.rv_tree.specs.Tree.{Tree, Node, Form, True, False, Number, Named, Not, Minus, Pre, Current, When, Binary, If, AtMostOne, Call, Trees, None, More}
 use Rattle.rv_tree.specs.Tree.{EquationTree, AssertionTree, NodeTree}
 use Rattle.rv_tree.specs.Delays.{Delay, delays, form_delays, delays_of_all, delays_in_equations, delays_in_assertions, node_delays}
-use Rattle.rv_types.specs.Instances.{CallTree, calls, calls_in, form_calls, calls_in_all, calls_in_equations, calls_in_assertions, IsArgument, head, tail}
+use Rattle.rv_types.specs.Instances.{CallTree, calls, calls_in, form_calls, calls_in_all, calls_in_equations, calls_in_assertions, IsArgument}
 use Rattle.rv_meaning.proofs.NameLemmas.{none_in}
-use Rattle.rv_types.proofs.{Members.cons_cases, Members.in_tail, TypedParts.right_calls}
-
--- an argument's calls are among those of the arguments
-calls_of_argument : (es : Trees) (j : ℕ) (a : Tree) (d : CallTree) → IsArgument es j a → Contains (calls_in a) d → Contains (calls_in_all es) d
-calls_of_argument _ _ a d (head {es = es}) w = Contains-append_left (calls_in a) (calls_in_all es) d w
-calls_of_argument _ _ a d (tail {e = e} {es = es} {j = j} p) w = Contains-append_right (calls_in e) (calls_in_all es) d (calls_of_argument es j a d p w)
+use Rattle.rv_types.proofs.{Members.cons_cases, Members.in_tail, TypedParts.right_calls, CallsWithin.in_argument, CallsWithin.in_body}
 
 module _ (c : CallTree) (j : ℕ) (a : Tree) (d : CallTree) (arg : IsArgument c.args j a) (inner : Contains (calls_in a) d) where
   abbrev Passes : List CallTree → Type 0
@@ -47,7 +42,7 @@ module _ (c : CallTree) (j : ℕ) (a : Tree) (d : CallTree) (arg : IsArgument c.
     form_passes at site (Call f args) w =
         let own : CallTree = record { at = at; site = unwrap_or site 0; name = f; args = args } in
         in_tail own (calls_in_all args) d (elim (cons_cases own (calls_in_all args) c w) [
-          | inl is ↦ calls_of_argument args j a d (subst (λ l. IsArgument l j a) (sym (ap (λ (c : CallTree). c.args) is)) arg) inner
+          | inl is ↦ in_argument args j a d (subst (λ l. IsArgument l j a) (sym (ap (λ (c : CallTree). c.args) is)) arg) inner
           | inr there ↦ all_pass args there
         ])
 
@@ -70,15 +65,6 @@ module _ (c : CallTree) (j : ℕ) (a : Tree) (d : CallTree) (arg : IsArgument c.
   pub call_of_argument : (n : NodeTree) → Passes (calls n)
   call_of_argument n w = both (calls_in_equations n.equations) (calls_in_assertions n.assertions) (equations_pass n.equations) (assertions_pass n.assertions) w
 
--- and those of an assertion among those of the assertions
-assertion_within : (qs : List AssertionTree) (q : AssertionTree) (d : CallTree) → Contains qs q → Contains (calls_in q.body) d
-    → Contains (calls_in_assertions qs) d
-assertion_within [] q d w inner = absurd (none_in q w)
-assertion_within (r ∷ qs) q d w inner = elim (cons_cases r qs q w) [
-  | inl is ↦ Contains-append_left (calls_in r.body) (calls_in_assertions qs) d (subst (λ (q : AssertionTree). Contains (calls_in q.body) d) (sym is) inner)
-  | inr there ↦ Contains-append_right (calls_in r.body) (calls_in_assertions qs) d (assertion_within qs q d there inner)
-]
-
 -- the calls of an equation are calls of the node
 pub call_of_equation : (n : NodeTree) (q : EquationTree) (d : CallTree) → Contains n.equations q → Contains (calls_in q.right) d → Contains (calls n) d
 call_of_equation n q d w inner = Contains-append_left (calls_in_equations n.equations) (calls_in_assertions n.assertions) d
@@ -87,7 +73,7 @@ call_of_equation n q d w inner = Contains-append_left (calls_in_equations n.equa
 -- and so are those of an assertion
 pub call_of_assertion : (n : NodeTree) (a : AssertionTree) (d : CallTree) → Contains n.assertions a → Contains (calls_in a.body) d → Contains (calls n) d
 call_of_assertion n a d w inner = Contains-append_right (calls_in_equations n.equations) (calls_in_assertions n.assertions) d
-    (assertion_within n.assertions a d w inner)
+    (in_body n.assertions a d w inner)
 
 module _ (d : Delay) (c : CallTree) (inner : Contains (calls_in d.operand) c) where
   abbrev Within : List Delay → List CallTree → Type 0

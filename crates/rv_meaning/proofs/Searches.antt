@@ -1,15 +1,7 @@
 -- Where a name stands in two lists, one after the other.
 use Rattle.std.proofs.Common.{◌≡◌, ◌+◌, ◌<◌, ◌≤◌, Bool, true, false, cond, List, [], ◌∷◌, ◌++◌, length, refl, sym, ◌∙◌, ap, arith, zero-add, length-append}
 use Rattle.rv_tree.specs.Places.{Identifier, is_same, index_of}
-
--- a name has a number no greater than there are names
-pub index_most : (xs : List Identifier) (x : Identifier) → index_of xs x ≤ length xs
-index_most [] x = omega arith
-index_most (y ∷ ys) x = tested (is_same y x) (index_most ys x)
-  where
-    tested : (b : Bool) → index_of ys x ≤ length ys → cond b 0 (index_of ys x + 1) ≤ length (y ∷ ys)
-    tested true h = omega arith
-    tested false h = omega arith
+use Rattle.rv_types.proofs.NamePlaces.{index_low}
 
 -- what is found in the first is found there in both
 pub index_early : (xs ys : List Identifier) (x : Identifier) → index_of xs x < length xs → index_of (xs ++ ys) x ≡ index_of xs x
@@ -41,14 +33,14 @@ module _ (xs ys zs : List Identifier) (x : Identifier) where
   pub index_two : length xs ≤ index_of xs x → index_of ys x < length ys → index_of (xs ++ ys ++ zs) x ≡ index_of xs x + index_of ys x
   index_two le lt =
       let both = index_late xs ys x le in
-      let top = index_most xs x in
+      let top = index_low xs x in
       let early = index_early (xs ++ ys) zs x (omega (arith, both, length-append xs ys)) in
       omega (arith, early, both, top)
 
   pub index_three : length xs ≤ index_of xs x → length ys ≤ index_of ys x → index_of (xs ++ ys ++ zs) x ≡ index_of xs x + index_of ys x + index_of zs x
   index_three le less =
       let both = index_late xs ys x le in
-      let top = index_most xs x in
-      let more = index_most ys x in
+      let top = index_low xs x in
+      let more = index_low ys x in
       let late = index_late (xs ++ ys) zs x (omega (arith, both, length-append xs ys)) in
       omega (arith, late, both, top, more, length-append xs ys)

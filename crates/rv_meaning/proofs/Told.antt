@@ -5,7 +5,7 @@ use Rattle.std.proofs.lemmas.Option.{none-some, same_Some, slice_get-map, slice_
 use Rattle.std.specs.Option.{option_map}
 use Rattle.rv_tree.specs.Tree.{Tree, Node, Form, True, False, Number, Named, Not, Minus, Pre, Current, When, Binary, If, AtMostOne, Call, ConstantTree}
 use Rattle.rv_tree.specs.Tree.{NodeTree, ProgramTree}
-use Rattle.rv_tree.specs.Places.{Identifier, flows, is_same, is_flow, is_among, index_of, site_of}
+use Rattle.rv_tree.specs.Places.{Identifier, flows, is_same, is_flow, index_of, site_of}
 use Rattle.rv_tree.specs.{declared.tree.Name.Name, declared.tree.TypeDecl.TypeDecl, declared.tree.TypeName.TypeName, declared.tree.Op.Op}
 use Rattle.rv_tree.specs.declared.tree.Op.TheVariants as op
 use Rattle.rv_types.specs.declared.fault.Verdict.TheVariants.{Has, Silent, Clashes, Multiplies}
@@ -19,6 +19,7 @@ use Rattle.rv_meaning.specs.{Leading.node_texts, Telling.Telling, Telling.Itself
 use Rattle.rv_meaning.specs.{Telling.form_telling, Telling.label_told, Telling.constant_told, Telling.name_told, Telling.output_of, Telling.told}
 use Rattle.rv_meaning.proofs.TypedOperators.{met_kind, one_kind, two_kinds, three_kinds}
 use Rattle.rv_meaning.proofs.{FlowSites.kinds_many, FlowSites.output_kind, TypedTrees.all_kind, TypedTrees.sole_output}
+use Rattle.rv_types.proofs.NamePlaces.{index_past}
 
 module _ (s : Scope) where
   -- the type that is told, where names stand for what they do in a scope
@@ -152,15 +153,6 @@ module _ (p : ProgramTree) where
           (constant_told p before x) ≡ k
       tested true again e = by_telling (telling c.body) again (told_right (constant_scope (constant_kind_after p before)) c.body k (of_body c.kind _ k e))
       tested false again e = again x e
-
--- a name that is not among some has the number of them all
-pub index_past : (xs : List Identifier) (x : Identifier) → is_among xs x ≡ false → index_of xs x ≡ length xs
-index_past [] x e = refl
-index_past (y ∷ ys) x e = tested (is_same y x) e (index_past ys x)
-  where
-    tested : (b : Bool) → b || is_among ys x ≡ false → (is_among ys x ≡ false → index_of ys x ≡ length ys) → cond b 0 (index_of ys x + 1) ≡ length (y ∷ ys)
-    tested true e again = cc
-    tested false e again = let h = again e in omega (arith, h)
 
 -- the first node of a name stands at its number
 node_at_number : (ns : List NodeTree) (f : Identifier) (m : NodeTree) → node_among ns f ≡ Some m → slice_get ns (index_of (node_texts ns) f) ≡ Some m

@@ -94,10 +94,6 @@ module _ (program : ProgramTree) (main : Identifier) where
   AllowsAt state row = (i : Instance) (a : AssertionTree) → IsInstance program main i → Contains i.node.assertions a
       → (value_now program state row i Base a.body ≡ Nothing) ⊎ (value_now program state row i Base a.body ≡ Some (Flag true))
 
-  -- what the observer has there
-  abbrev pub observed_in : Instant → Option Value
-  observed_in row = cell row (observer_place program main)
-
   -- each input of the main node has a value of its type
   abbrev pub AreGiven : (ℕ → Value) → Type 0
   AreGiven inputs = (j : ℕ) (k : Kind) → slice_get (decl_kinds program (node_of program main).inputs) j ≡ Some k → HasKind program k (inputs j)

@@ -1,16 +1,10 @@
 -- What holds of each element of a list.
-use Rattle.std.proofs.Common.{◌≡◌, ℕ, ◌<◌, ◌^◌, ◌-◌, ℤ, pos, List, All, length, reverse, get_or, subst, sym, arith, ⊎_elim}
-use Rattle.std.proofs.{lemmas.Bool.cases_lt, lemmas.List.get_or-reverse, lemmas.List.length-reverse, lemmas.List.get_or_past}
+use Rattle.std.proofs.Common.{ℕ, ◌<◌, ◌^◌, ◌-◌, ℤ, pos, List, All, length, get_or, subst, sym, ⊎_elim}
+use Rattle.std.proofs.{lemmas.Bool.cases_lt, lemmas.List.get_or_past}
 use Rattle.rv_rows.specs.{Forms.number, declared.linear.Row.Row, Rows.RowWithin, Tight.Fits}
 use Rattle.rv_poly.specs.Whole.{IsInReplay}
 use Rattle.rv_paths.specs.Joining.{AreJoined}
 use Rattle.rv_poly.proofs.WholeLemmas.{replay-zero}
-
-pub all_reversed : {X : Type 0} (P : X → Type 0) (xs : List X) → All P xs → All P (reverse xs)
-all_reversed P xs all k d low =
-    let size : length (reverse xs) ≡ length xs = length-reverse xs in
-    let within : k < length xs = omega arith in
-    subst P (sym (get_or-reverse xs k d within)) (all (length xs - 1 - k) d (omega arith))
 
 pub number_replay : (point : List ℤ) (k : ℕ) → All IsInReplay point → IsInReplay (number k point)
 number_replay point k all =

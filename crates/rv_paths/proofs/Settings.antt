@@ -2,8 +2,7 @@
 use Rattle.std.proofs.Common.{◌≡◌, ℕ, zero, suc, List, Option, Some, None, Result, Ok, Err, IfOk, IfSome, slice_get, subst, sym}
 use Rattle.rv_diagram.specs.{Nodes.Diagrams, Nodes.IsMeant, Nodes.IsOrderedOver, declared.frozen.Frozen.Frozen}
 use Rattle.rv_proofs.specs.{Systems.System, Ranges.IsControlSet, Cases.IsCase, Cases.AreCases, declared.report.Case.Case}
-use Rattle.rv_symbolic.specs.Represented.{IsRelationOf, parts_of}
-use Rattle.rv_symbolic.specs.{declared.relation.Relation.Relation, declared.relation.Parts.Parts, Linked.AreRefs}
+use Rattle.rv_symbolic.specs.{Represented.IsRelationOf, Represented.parts_of, declared.relation.Relation.Relation, declared.relation.Parts.Parts}
 use Rattle.rv_cases.specs.declared.asking.Questions.{Questions}
 use Rattle.rv_paths.specs.Searching.{AreUsable, AreNodes, IsPlanOf, IsSetting, cases_of}
 use Rattle.rv_paths.specs.{declared.tree.Plan.Plan, declared.tree.Node.Node, Candidates.IsSearchOf}
@@ -15,10 +14,6 @@ relation_there s old new r same is = subst (λ (d : Diagrams). IsRelationOf s d 
 pub search_there : (s : System) (old new : Diagrams) (r : Relation) (q : Questions) (columns : ℕ) → new ≡ old → IsSearchOf s old r q columns
     → IsSearchOf s new r q columns
 search_there s old new r q columns same is = subst (λ (d : Diagrams). IsSearchOf s d r q columns) (sym same) is
-
-pub setting_there : (s : System) (old new : Diagrams) (r : Relation) (p : Plan) (nodes : List Node) → new ≡ old → IsSetting s old r p nodes
-    → IsSetting s new r p nodes
-setting_there s old new r p nodes same is = subst (λ (d : Diagrams). IsSetting s d r p nodes) (sym same) is
 
 pub ordered_there : (s : System) (d : Diagrams) (f : Frozen) → d.variables ≡ s.variables → IsOrderedOver s.variables f → IsOrderedOver d.variables f
 ordered_there s d f same is = subst (λ (m : ℕ). IsOrderedOver m f) (sym same) is
@@ -42,12 +37,6 @@ search_allowed s d r q columns given p is =
     let refs = out.refs in
     let here : IsMeant d.nodes s.allowed r.parts.allowed = (refs.allowed, parts.allowed) in
     subst (λ (x : Parts). IsMeant d.nodes s.allowed x.allowed) (sym is) here
-
-pub next_refs : (s : System) (d : Diagrams) (r : Relation) → IsRelationOf s d r → (p : Parts) → p ≡ parts_of r → AreRefs d.nodes p.next
-next_refs s d r of p is =
-    let out = of.laid_out in
-    let refs = out.refs in
-    subst (λ (x : Parts). AreRefs d.nodes x.next) (sym is) refs.next
 
 pub relation_variables : (s : System) (d : Diagrams) (r : Relation) → IsRelationOf s d r → d.variables ≡ s.variables
 relation_variables s d r of = let parts = of.parts in parts.variables

@@ -3,7 +3,7 @@ use Rattle.std.proofs.Common.{◌≡◌, ◌⊎◌, ℕ, ◌+◌, ◌*◌, ◌�
 use Rattle.std.proofs.Common.{get_or, take, All, FitsSigned, arith, refl, ap, sym, ◌∙◌, subst, inl, inr}
 use Rattle.std.proofs.lemmas.Int.{ints, unsigned_abs-mul, fits_signed_mul, fits_signed_from_abs}
 use Rattle.std.proofs.lemmas.List.{length-append, length-take-le, length_push, get_or_default, get_or_past}
-use Rattle.std.proofs.lemmas.List.Elements.{All-nil, All-push, All-append, All-contains, Contains-get_or, Contains-append_left, Contains-append_right}
+use Rattle.std.proofs.lemmas.List.Elements.{All-nil, All-append, All-contains, Contains-get_or, Contains-append_left, Contains-append_right}
 use Rattle.std.proofs.lemmas.List.Elements.{Contains-append_cases, Contains-push, Contains-push_cases}
 use Rattle.std.proofs.{lemmas.Bool.cases_lt, lemmas.Bool.Decides.Decides-int_eq, Math.Seq.take-length, Math.Nat.mul-le-mul, Math.Nat.mul-le-mul_right}
 use Rattle.std.proofs.{lemmas.List.Sums.count_by_more_yes, lemmas.List.Sums.count_by_more_no, lemmas.List.Sums.count_by-le-length, Math.IntN.*ℤ-zero}
@@ -32,32 +32,6 @@ kept-none e = record {
   size = omega arith;
   most = λ h. h;
   fits = λ h. h;
-  room = λ f l. refl;
-}
-
-pub kept-dropped : (rows : List Row) (n : ℕ) (r : Row) → (Fits r → 1024 ≤ length rows) → AreKept (r ∷ []) (step_of rows n) (step_of rows (n + 1))
-kept-dropped rows n r full = record {
-  known = λ q c. inl c;
-  kept = λ q c. c;
-  all = λ same q c. absurd (omega arith);
-  grows = omega arith;
-  dropped = omega arith;
-  size = omega arith;
-  most = λ h. h;
-  fits = λ h. h;
-  room = λ f l. let x = full (f 0 r (omega arith)) in absurd (omega arith);
-}
-
-pub kept-one : (rows : List Row) (n : ℕ) (r : Row) → Fits r → length rows < 1024 → AreKept (r ∷ []) (step_of rows n) (step_of (rows ++ r ∷ []) n)
-kept-one rows n r fit room = record {
-  known = λ q c. Contains-append_cases rows (r ∷ []) q c;
-  kept = λ q c. Contains-append_left rows (r ∷ []) q c;
-  all = λ same q c. Contains-append_right rows (r ∷ []) q c;
-  grows = omega arith;
-  dropped = omega arith;
-  size = let y = length_push rows r in omega arith;
-  most = λ h. let y = length_push rows r in omega arith;
-  fits = λ h. All-push Fits rows r h fit;
   room = λ f l. refl;
 }
 

@@ -2,8 +2,8 @@
 use Rattle.std.proofs.Common.{◌≡◌, ◌⊎◌, ℕ, zero, suc, ◌+◌, ◌*◌, ◌≤◌, ◌<◌, ◌^◌, ℤ, pos, ◌+ℤ◌, ◌-ℤ◌, ◌*ℤ◌, ◌≤ℤ◌, List, [], ◌∷◌, ◌++◌, length, map, take, get_or}
 use Rattle.std.proofs.Common.{All, Option, Some, None, FitsSigned, arith, refl, ap, sym, ◌∙◌, subst, inl, inr}
 use Rattle.std.proofs.lemmas.Int.{ints, unsigned_abs-mul, fits_signed_from_abs}
-use Rattle.std.proofs.lemmas.List.{length-map, length-take, length_push, get_or-map, get_or_append_left, get_or_push, get_or_default, get_or_past, same_lists}
-use Rattle.std.proofs.lemmas.List.Elements.{All-map, All-nil, All-push, All-take, All-head, All-tail, All-append}
+use Rattle.std.proofs.lemmas.List.{length-map, length-take, get_or-map, get_or_default, get_or_past, same_lists}
+use Rattle.std.proofs.lemmas.List.Elements.{All-map, All-take, All-head, All-tail, All-append}
 use Rattle.std.proofs.{Math.IntN.*ℤ-zero, Math.Nat.mul-le-mul, lemmas.Bool.cases_lt}
 use Rattle.std.specs.{Prelude.IfSome, Int.w128, Int.RustNames.unsigned_abs}
 use Rattle.rv_rows.specs.Forms.{number, value, values, IsSubstituted, CanSubstitute, SumsStay, FormWithin}
@@ -308,27 +308,6 @@ module _ (premises : List Row) (updates : List Form) (sides two : List Row) (cut
 -- rows of the width itself have no further coefficient
 pub both-narrow : (a b : List Row) (width : ℕ) → All (λ r. length r.coefficients ≡ width) a → All (IsNarrow width) b → All (IsNarrow width) (a ++ b)
 both-narrow a b width h k = All-append (IsNarrow width) a b (λ i d l j m. let e = h i d l in get_or_past (get_or a i d).coefficients j (pos 0) (omega arith)) k
-
--- rows are cut one after the other
-pub cut-none : (width : ℕ) (old : List Row) → AreCut width old 0 []
-cut-none width old = record { size = refl; fits = All-nil Fits; widths = All-nil (λ r. length r.coefficients ≡ width); cut = λ i d e l. absurd (omega arith) }
-
-pub cut-more : (width : ℕ) (old new : List Row) (n : ℕ) (d r : Row) → AreCut width old n new → n < length old → IsCut width (get_or old n d) r → Fits r
-    → AreCut width old (n + 1) (new ++ r ∷ [])
-cut-more width old new n d r a l k f = record {
-  size = let x = length_push new r in let y = a.size in omega arith;
-  fits = All-push Fits new r a.fits f;
-  widths = All-push (λ q. length q.coefficients ≡ width) new r a.widths k.size;
-  cut = λ i b e m. go i b e m (cases_lt i n);
-}
-  where
-    go : (i : ℕ) (b e : Row) → i < n + 1 → (i < n) ⊎ (n ≤ i) → IsCut width (get_or old i b) (get_or (new ++ r ∷ []) i e)
-    go i b e m (inl o) = let y = a.size in let inside : i < length new = omega arith in rw (get_or_append_left new (r ∷ []) e i inside) (a.cut i b e o)
-    go i b e m (inr o) = let s : i ≡ n = omega arith in rw (s, get_or_push new r e n a.size, get_or_default old n b d l) k
-
-pub cut-made : (width : ℕ) (r : Row) (cs : List ℤ) → length cs ≡ width → ((k : ℕ) → k < width → number k cs ≡ number k r.coefficients)
-    → IsCut width r (record { coefficients = cs; bound = r.bound })
-cut-made width r cs w h = record { size = w; same = h; bound = refl }
 
 pub cut-fits : (width : ℕ) (r : Row) (cs : List ℤ) → Fits r → length cs ≡ width → ((k : ℕ) → k < width → number k cs ≡ number k r.coefficients)
     → Fits (record { coefficients = cs; bound = r.bound })

@@ -14,7 +14,7 @@ use Rattle.rv_flat.specs.FlatInstants as instants
 use Rattle.rv_flat.proofs.{TickList.number_at, Typing.length-values, Typing.memory_kth, Typing.value_kth}
 use Rattle.rv_replay.specs.Traces.{Fixes, IsFlatTrace, IsTrace, given, kinds_of}
 use Rattle.rv_replay.proofs.{Observers.InputsOfProgram, Observers.StatesOfProgram, Orders.one_listing}
-use Rattle.rv_flatten.proofs.CountedVariables.{placed}
+use Rattle.rv_types.proofs.PlaceOrders.{placed}
 
 abbrev pub StatesOfFlat : Type 0
 StatesOfFlat = (program : ProgramTree) (main : Identifier) (f : Flat) (state : Brought) → AreWell program → IsNode program main → IsFlatOf program main f

@@ -36,11 +36,6 @@ InputsOfProgram = (program : ProgramTree) (main : Identifier) (f : Flat) (given 
     → AreWell program → IsNode program main → IsFlatOf program main f → AreValues f (input_kinds f) given
     → (inputs : ℕ → Value) × (flat_inputs f inputs ≡ given) × AreGiven program main inputs
 
-boolean : (k : Kind) → is_observer (k ∷ []) ≡ true → k ≡ kind.Bool
-boolean kind.Bool e = refl
-boolean kind.Int e = let bad : false ≡ true = e in absurd (grind arith)
-boolean (kind.Labels i) e = let bad : false ≡ true = e in absurd (grind arith)
-
 some_of : (ks : List Kind) → is_observer ks ≡ true → 0 < length ks
 some_of [] e = let bad : false ≡ true = e in absurd (grind arith)
 some_of (k ∷ ks) e = omega arith

@@ -8,25 +8,30 @@ use Rattle.std.specs.List.{Contains}
 use Rattle.rv_rows.specs.Forms.{number, forms_width, IsSubstituted, CanSubstitute}
 use Rattle.rv_rows.specs.{declared.linear.Row.Row, declared.linear.Form.Form, Rows.coefficient, Rows.row_at, Rows.dot, Multipliers.by_one}
 use Rattle.rv_rows.proofs.RowLemmas.{dot-none}
-use Rattle.rv_proofs.proofs.{Moved.dot-read, Moved.zero_or, Rising.points}
+use Rattle.rv_proofs.proofs.Moved.{dot-read, zero_or}
 use Rattle.rv_seek.specs.Least.{bounded}
 use Rattle.rv_rise.specs.{Shown.IsShownAfter, Limits.IsLoosened, Still.IsOwn, Still.AreStill, Still.IsStillSide}
 use Rattle.rv_cases.proofs.Differing.{no_form}
 
-units-here : (n : ℕ) → number n (points n) ≡ pos 1
-unfolding points
+-- 1 at a column, 0 at those before
+units : ℕ → List ℤ
+units zero = pos 1 ∷ []
+units (suc n) = pos 0 ∷ units n
+
+units-here : (n : ℕ) → number n (units n) ≡ pos 1
+unfolding units
 units-here zero = refl
 units-here (suc n) = units-here n
 
-units-other : (n k : ℕ) → k ≢ n → number k (points n) ≡ pos 0
-unfolding points
+units-other : (n k : ℕ) → k ≢ n → number k (units n) ≡ pos 0
+unfolding units
 units-other zero zero ne = absurd (ne refl)
 units-other zero (suc k) ne = refl
 units-other (suc n) zero ne = refl
 units-other (suc n) (suc k) ne = units-other n k (λ e. ne (ap suc e))
 
-dot-units : (cs : List ℤ) (n : ℕ) → dot cs (points n) ≡ number n cs
-unfolding points
+dot-units : (cs : List ℤ) (n : ℕ) → dot cs (units n) ≡ number n cs
+unfolding units
 dot-units [] n = refl
 dot-units (c ∷ cs) zero = ap (λ z. (c *ℤ pos 1) +ℤ z) (dot-none cs) ∙ omega (arith, ints)
 dot-units (c ∷ cs) (suc n) = ap (λ z. (c *ℤ pos 0) +ℤ z) (dot-units cs n) ∙ omega (arith, ints)
@@ -67,13 +72,13 @@ module _ (cs : List ℤ) (forms : List Form) (flags : List Bool) (widths : All (
 
   column : (n : ℕ) → dot cs (map (λ f. number n f.coefficients) forms) ≡ number n cs
   column n =
-      dot-read cs (map (λ f. number n f.coefficients) forms) (points n)
+      dot-read cs (map (λ f. number n f.coefficients) forms) (units n)
       (λ k some. get_or-map (λ f. number n f.coefficients) forms k no_form (pos 0) (inside k some) ∙ picked k (own k some) (cases_eq k n))
       ∙ dot-units cs n
     where
-      picked : (k : ℕ) → IsOwn k (get_or forms k no_form) → (k ≡ n) ⊎ (k ≡ n → ⊥) → number n (get_or forms k no_form).coefficients ≡ number k (points n)
+      picked : (k : ℕ) → IsOwn k (get_or forms k no_form) → (k ≡ n) ⊎ (k ≡ n → ⊥) → number n (get_or forms k no_form).coefficients ≡ number k (units n)
       picked k o (inl e) =
-          subst (λ (j : ℕ). number j (get_or forms k no_form).coefficients ≡ number k (points j)) e (o.here ∙ sym (units-here k))
+          subst (λ (j : ℕ). number j (get_or forms k no_form).coefficients ≡ number k (units j)) e (o.here ∙ sym (units-here k))
       picked k o (inr ne) = o.others n (λ e. ne (sym e)) ∙ sym (units-other n k ne)
 
   past : (n : ℕ) → forms_width forms ≤ n → number n cs ≡ pos 0

@@ -1,9 +1,8 @@
 -- Rounds, and the claim at which they end.
 use Rattle.std.proofs.Common.{◌≡◌, ℕ, ◌+◌, ◌^◌, ◌<◌, ◌≤◌, ℤ, negsuc, ◌≤ℤ◌, ◌<ℤ◌, Bool, true, false, cond, List, [], ◌++◌, length, All, Option, Some, IsTrue}
 use Rattle.std.proofs.Common.{slice_get, arith, lit≤, refl, sym, ap, ◌∙◌, subst, ◌⊎◌, inl, inr, None as Nothing}
-use Rattle.std.proofs.lemmas.Option.{same_Some, none-some, slice_get_within}
-use Rattle.std.proofs.{lemmas.Int.ints, lemmas.Bool.cases_lt, lemmas.Bool.cases_Bool, lemmas.List.get_or_past, lemmas.List.append-nil}
-use Rattle.std.proofs.{lemmas.List.Elements.All-nil, lemmas.List.Elements.All-contains}
+use Rattle.std.proofs.{lemmas.Option.same_Some, lemmas.Option.none-some, lemmas.Option.slice_get_within, lemmas.Int.ints, lemmas.Bool.cases_lt}
+use Rattle.std.proofs.{lemmas.Bool.cases_Bool, lemmas.List.get_or_past, lemmas.List.append-nil, lemmas.List.Elements.All-nil, lemmas.List.Elements.All-contains}
 use Rattle.std.specs.{List.Contains, Int.RustNames.unsigned_abs}
 use Rattle.rv_diagram.specs.{Nodes.Valuation, declared.frozen.Frozen.Frozen}
 use Rattle.rv_rows.specs.{declared.linear.Row.Row, Rows.row_at, Tight.Fits, Multipliers.AreShutAtOnce}

@@ -185,9 +185,6 @@ fresh_one P x a y b a' b' l ne fresh first one second other (inr (e, f, g, h)) =
 up_down : pos 1 ≡ negsuc 0 → ⊥
 up_down e = cc
 
-down_up : negsuc 0 ≡ pos 1 → ⊥
-down_up e = cc
-
 -- one column more, alone
 pub column_added : (k y : ℕ) (old new : List Row) → y < k → IsTableOf k (column_places k y) old → AreBothAdded k y (pos 1) y old new
     → IsTableOf k (pair_places k y 0) new

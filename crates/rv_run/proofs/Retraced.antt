@@ -174,7 +174,3 @@ module _ (bytes : List ℕ) (p : ProgramTree) (main : Identifier) (f : Flat) (fl
             | inr same ↦ inl (ap file_report same ∙ reported fault here)
           ]
       fault_tells x h = absurd h
-
--- want of memory says nothing
-pub memory-says_nothing : (x : Report) → IsTraceReport x → Memory ≡ x → ⊥
-memory-says_nothing x is e = subst IsTraceReport (sym e) is

@@ -8,7 +8,7 @@ use Rattle.rv_types.specs.{declared.typed.Kind.Kind, Variables.total, Variables.
 use Rattle.rv_flat.specs.{declared.parts.Bit.Bit, Lists.variable_of}
 use Rattle.rv_flat.specs.declared.parts.Bit.TheVariants as bit
 use Rattle.rv_run.specs.Judged.{is_test}
-use Rattle.rv_sizes.proofs.Summing.{total_append}
+use Rattle.rv_types.proofs.DifferentPlaces.{total_append}
 
 -- weights of variables: of ticks and of bits, and of order tests; a next copy has none
 abbrev pub weight : ℕ → ℕ → Variable → ℕ

@@ -1,7 +1,7 @@
 -- The least bound that a pair of places shows.
 use Rattle.std.proofs.Common.{◌≡◌, ◌≢◌, ℕ, ◌+◌, ◌≤◌, ◌<◌, ℤ, pos, ◌+ℤ◌, ◌-ℤ◌, ◌≤ℤ◌, List, [], ◌∷◌, ◌++◌, length, Option, None, Some, IfSome, IsSome, IsSomeAnd}
 use Rattle.std.proofs.Common.{All, FitsSigned, ◌^◌, true≢false, ◌<ℤ◌, arith, refl, ap, sym, ◌∙◌, ◌⊎◌, inl, inr, append_assoc, append-nil}
-use Rattle.std.proofs.lemmas.List.Elements.{All-nil, All-push, All-weaker}
+use Rattle.std.proofs.lemmas.List.Elements.{All-push, All-weaker}
 use Rattle.std.proofs.{lemmas.Int.ints, lemmas.Bool.cases_eq, lemmas.List.get_or_past, lemmas.Map.Views.IfSome-lookup_from_All}
 use Rattle.std.specs.{BTreeMap.BTreeMap, BTreeMap.values, Cmp.Lexicographic.slice_cmp, Ordering.int_cmp, Ordering.is_eq, Global.Vec, Int.RustNames.unsigned_abs}
 use Rattle.std.specs.{Int.w128}
@@ -78,9 +78,6 @@ pub record IsWalked (rows : List Row) (cs : List ℤ) (n : ℕ) (pivot : Option 
   pub done : List Closest
   pub parts : all ≡ done ++ left
   pub least : All (λ c. IsPassed rows cs n pivot best c.first) done
-
-pub walked-none : (rows : List Row) (cs : List ℤ) (n : ℕ) (pivot : Option ℕ) (all left : List Closest) → left ≡ all → IsWalked rows cs n pivot None all left
-walked-none rows cs n pivot all left e = record { done = []; parts = sym e; least = All-nil (λ c. IsPassed rows cs n pivot None c.first) }
 
 pub walked-more : (rows : List Row) (cs : List ℤ) (n : ℕ) (pivot : Option ℕ) (old new : Option Best) (all left next : List Closest) (c : Closest)
     → IsWalked rows cs n pivot old all left
@@ -284,7 +281,3 @@ none_shown rows wanted best l h s = go best h (least_at_once rows wanted.coeffic
     go : (o : Option Best) → IfSome o (λ b. wanted.bound <ℤ b.bound) → IsSomeAnd o (λ b. b.bound ≤ℤ wanted.bound) → ⊥
     go None h k = k
     go (Some b) h k = omega (arith, ints)
-
-pub pair_shown : (rows : List Row) (wanted : Row) (b : Best) → PairSums rows wanted.coefficients b → b.bound ≤ℤ wanted.bound
-    → (b.first < b.second) × PairShows rows wanted b.first b.second
-pair_shown rows wanted b p h = (p.order, record { sides = p.sides; bounds = let e = p.bound in omega (arith, ints) })

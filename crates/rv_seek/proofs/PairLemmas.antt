@@ -7,9 +7,6 @@ use Rattle.rv_rows.specs.Multipliers.{weighted, Proves, Refutes, ShowsAtOnce, by
 use Rattle.rv_rows.specs.{declared.linear.Row.Row, declared.farkas.Weight.Weight, declared.farkas.Multipliers.Multipliers, Rows.coefficient, Rows.row_at}
 use Rattle.rv_seek.specs.Pairs.{PairShows, HasRanges, WeightInRange, IsRising, unit_at}
 
-zero_row : Row
-zero_row = record { coefficients = []; bound = pos 0 }
-
 pub row_none : (rows : List Row) (i : ℕ) → None ≡ slice_get rows i → record { coefficients = []; bound = pos 0 } ≡ row_at rows i
 row_none rows i e = ap (λ o. unwrap_or o (record { coefficients = []; bound = pos 0 })) e
     ∙ unwrap_or-slice_get rows i (record { coefficients = []; bound = pos 0 })

@@ -18,13 +18,13 @@ use Rattle.rv_instances.specs.NumberedNeeds.{listed, clock_number, numbers_neede
 use Rattle.rv_instances.specs.{declared.answer.Instance.Instance as Numbered, declared.givers.BodyOf.BodyOf, declared.givers.OutputOf.OutputOf}
 use Rattle.rv_instances.specs.{declared.givers.Giver.Giver as Told, declared.layout.Laid.Laid, declared.layout.Layout.Layout, Expanded.IsExpanded}
 use Rattle.rv_instances.specs.{Flowing.IsKnownClock, Flowing.flow_count, Givers.StandsFor}
-use Rattle.rv_instances.proofs.CallsInside.{right_known, call_known, argument_known, in_argument, calls_nested}
+use Rattle.rv_instances.proofs.CallsInside.{right_known, call_known, argument_known, calls_nested}
 use Rattle.rv_instances.proofs.ExpandedLaws.{node_in, node_is, node_few}
 use Rattle.rv_instances.proofs.{ArgumentClocks.flow_clock_known, ArgumentClocks.arguments_clock_known, BaseClocks.clock_within, LaidFlows.few_before}
 use Rattle.rv_instances.proofs.{LaidFlows.places_size, LayoutLaws.laid_there, LayoutLaws.is_here, Lists.length_map}
 use Rattle.rv_sequence.proofs.NumbersNeeded.{AreAt, at_append, needs_at, clock_flow, output_flow}
 use Rattle.rv_sequence.proofs.TypedCalls.{typed_calls, sole_output}
-use Rattle.rv_types.proofs.TypedParts.{right_calls}
+use Rattle.rv_types.proofs.{TypedParts.right_calls, CallsWithin.in_argument}
 use Rattle.rv_base.proofs.Lists.{within_got}
 
 module _ (p : ProgramTree) (main : Identifier) (instances : List Numbered) (known : IsExpanded p main instances) where

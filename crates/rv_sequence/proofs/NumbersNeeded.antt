@@ -1,19 +1,19 @@
 -- The numbers of what is needed are those of the places that are.
-use Rattle.std.proofs.Common.{◌≡◌, ℕ, ◌+◌, ◌<◌, ◌≤◌, inl, inr, Bool, true, false, cond, List, [], ◌∷◌, ◌++◌, length, unwrap_or, Option, Some, refl, subst}
-use Rattle.std.proofs.Common.{arith, length-append, add-zero, None as Nothing}
+use Rattle.std.proofs.Common.{◌≡◌, ℕ, ◌+◌, ◌<◌, inl, inr, Bool, true, false, cond, List, [], ◌∷◌, ◌++◌, length, unwrap_or, Option, Some, refl, subst, arith}
+use Rattle.std.proofs.Common.{add-zero, None as Nothing}
 use Rattle.std.proofs.lemmas.List.Elements.{Contains-append_left, Contains-append_right}
 use Rattle.std.specs.List.{Contains}
 use Rattle.rv_tree.specs.Tree.{Tree, Node, Form, True, False, Number, Named, Not, Minus, Pre, Current, When, Binary, If, AtMostOne, Call, Trees, None, More}
-use Rattle.rv_tree.specs.Tree.{NodeTree, ProgramTree}
-use Rattle.rv_tree.specs.{declared.tree.Decl.Decl, Places.Identifier, Places.Sites, Places.flows, Places.names, Places.is_flow, Places.site_of}
+use Rattle.rv_tree.specs.Tree.{ProgramTree}
+use Rattle.rv_tree.specs.Places.{Identifier, Sites, flows, is_flow, site_of}
 use Rattle.rv_types.specs.Names.{is_declared, node_names, is_value, own_uses, node_uses}
 use Rattle.rv_types.specs.Instances.{CallTree, calls, calls_in, form_calls, calls_in_all, Instance, place, absolute, clock_of, node_of}
 use Rattle.rv_types.specs.{declared.typed.Clock.Clock, declared.typed.Clock.TheVariants.Base, declared.typed.Clock.TheVariants.On, Clocks.clock_at, Clocks.pace}
 use Rattle.rv_types.specs.{Parts.faults_of_all, Needs.flow_of, Needs.needs, Needs.form_needs, Needs.needs_all}
 use Rattle.rv_instances.specs.NumberedNeeds.{listed, clock_number, clock_of_expression, numbers_needed, form_numbers, numbers_of_all}
 use Rattle.rv_instances.specs.{Flowing.IsKnownClock, Layouts.Here, Layouts.IsPlaced, Layouts.IsClockPlaced, Layouts.IsHere}
-use Rattle.rv_instances.proofs.{ArgumentClocks.taken_known, ClockFlows.pace_known, Lists.length_map}
-use Rattle.rv_types.proofs.{Members.cons_cases, Members.index_there, Members.nothing_in, RightNames.both_empty}
+use Rattle.rv_instances.proofs.{ArgumentClocks.taken_known, ClockFlows.pace_known}
+use Rattle.rv_types.proofs.{Members.cons_cases, Members.index_there, Members.nothing_in, RightNames.both_empty, NamePlaces.output_within}
 
 -- one number after the other is that of a place
 abbrev pub AreAt : List Sites → List ℕ → List Sites → Type 0
@@ -49,17 +49,6 @@ at_number places (k ∷ js) (r ∷ qs) j h w = elim (cons_cases k js j w) [
   | inl same ↦ (r, (0, omega arith, refl), subst (λ n. IsPlaced places n r) same h.0)
   | inr rest ↦ let v = at_number places js qs j h.1 rest in (v.0, Contains-append_right (r ∷ []) qs v.0 v.1, v.2)
 ]
-
-outputs_among : (n : NodeTree) → length n.inputs + length n.outputs ≤ length (flows n)
-outputs_among n =
-    let a = length_map (λ (d : Decl). d.name.text) n.inputs in
-    let e = length_map (λ (d : Decl). d.name.text) n.outputs in
-    let b = length-append (names n.inputs) (names n.outputs) in
-    let c = length-append (names n.inputs ++ names n.outputs) (names n.locals) in
-    omega (arith, a, b, c, e)
-
-pub output_within : (n : NodeTree) (j : ℕ) → j < length n.outputs → length n.inputs + j < length (flows n)
-output_within n j lt = let h = outputs_among n in omega (arith, h, lt)
 
 module _ (p : ProgramTree) (i : Instance) (places : List Sites) (h : Here) (here : IsHere p places i h) where
   base_at : (a : Option ℕ) (b : Option Sites) → IsClockPlaced places a b → AreAt places (listed a) (flow_of b)

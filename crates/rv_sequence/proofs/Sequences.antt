@@ -10,8 +10,8 @@ use Rattle.rv_types.specs.Needs.{Gives, needs_of, IsSequence, IsAmongFirst, Lead
 use Rattle.rv_calls.specs.Graphs.{Graph, edges, IsGraph, IsOrdered, Follows, IsLoop}
 use Rattle.rv_sequence.specs.{Cycles.IsCycleFromLeast, FlowGraphs.IsFlowGraph, FlowGraphs.AreTurned}
 use Rattle.rv_instances.specs.Flowing.{place_at}
-use Rattle.rv_instances.proofs.{Lists.nat_split, Lists.contains_at, Lists.length_map, Known.map_at, ExpandedLaws.not_both}
-use Rattle.rv_types.proofs.Members.{cons_cases, nothing_in}
+use Rattle.rv_instances.proofs.{Lists.nat_split, Lists.contains_at, Lists.length_map, Known.map_at}
+use Rattle.rv_types.proofs.{Members.cons_cases, Members.nothing_in, PlaceOrders.not_both}
 use Rattle.rv_base.proofs.Lists.{from_map, next_of}
 
 -- Loops.
@@ -150,10 +150,6 @@ module _ (p : ProgramTree) (main : Identifier) (places : List Sites) (g : Graph)
 pub turned_within : (g : Graph) → IsGraph g → (old new : List ℕ) → IsLoop g old → AreTurned old new → (k : ℕ) → Contains new k → k < length g
 turned_within g graph old new l t k w = loop_within g graph new (subst (IsLoop g) (sym t.is) (turned_loop g graph t.front t.back (subst (IsLoop g) t.was l))) k
     w
-
-pub loop_some : (g : Graph) (xs : List ℕ) → IsLoop g xs → 0 < length xs
-loop_some g [] l = absurd l
-loop_some g (x ∷ xs) l = omega arith
 
 -- numbers from the least on, and then those before it
 pub turned_from : (numbers new : List ℕ) (k : ℕ) → k < length numbers → ((j : ℕ) → j < length numbers → get_or numbers k 0 ≤ get_or numbers j 0)

@@ -6,19 +6,17 @@ use Rattle.rv_tree.specs.{Tree.Tree, Tree.NodeTree, Tree.ProgramTree, Tree.tree_
 use Rattle.rv_types.specs.Instances.{Body, Output, Instance, callee, node_of, IsInstance, is_callee}
 use Rattle.rv_types.specs.Needs.{Giver, Given, Of, Gives, needs_of, IsBefore, IsAmongFirst}
 use Rattle.rv_types.specs.{Scopes.constant_value, Scopes.is_fixed, ValueTables.NamedTables, ValueTables.value_by}
-use Rattle.rv_instances.specs.Layouts.{IsPlaced, IsLayout, IsNumberOf, here_of, all_places}
-use Rattle.rv_instances.specs.Weights.{weight, weight_of_giver, AreWeights}
-use Rattle.rv_instances.specs.{declared.answer.Instance.Instance as Numbered, declared.givers.Giver.Giver as Told, declared.layout.Layout.Layout}
-use Rattle.rv_instances.specs.{Expanded.IsExpanded, Flowing.place_at, Flowing.AreFlowPlaces, Givers.StandsFor, Givers.AreGivers}
+use Rattle.rv_instances.specs.{Layouts.IsPlaced, Layouts.IsLayout, Layouts.IsNumberOf, Layouts.here_of, Layouts.all_places, Weights.weight}
+use Rattle.rv_instances.specs.{Weights.weight_of_giver, Weights.AreWeights, declared.answer.Instance.Instance as Numbered, declared.givers.Giver.Giver as Told}
+use Rattle.rv_instances.specs.{declared.layout.Layout.Layout, Expanded.IsExpanded, Flowing.place_at, Flowing.AreFlowPlaces, Givers.StandsFor, Givers.AreGivers}
 use Rattle.rv_instances.specs.declared.givers.Giver.TheVariants as told
 use Rattle.rv_sequence.specs.WeightTables.{weighing_at, site_in, told_weight, IsToldWithin, IsNumbered, counted_weight, AreFlowWeights, AreFirstWeights}
-use Rattle.rv_sequence.specs.{FlowGraphs.IsFlowGraph, Weighing.weight_in}
-use Rattle.rv_calls.specs.Graphs.{Graph, IsOrdered}
-use Rattle.rv_instances.proofs.ExpandedLaws.{not_itself, node_in, node_is}
-use Rattle.rv_instances.proofs.{FlowPlaces.are_flow_places, Known.map_at, LayoutLaws.is_here, Lists.length_map, Lists.nat_split}
+use Rattle.rv_sequence.specs.Weighing.{weight_in}
+use Rattle.rv_instances.proofs.{ExpandedLaws.node_in, ExpandedLaws.node_is, FlowPlaces.are_flow_places, Known.map_at, LayoutLaws.is_here, Lists.length_map}
+use Rattle.rv_instances.proofs.{Lists.nat_split}
 use Rattle.rv_sequence.proofs.WeightFlows.{giver_output, instance_of, ReadsGiver, giver_reads, giver_flows}
-use Rattle.rv_sequence.proofs.{Sequences.ordered_sequence, WeightReads.Reads, WeightReads.capped_weight, NumbersNeeded.output_within}
-use Rattle.rv_types.proofs.Members.{index_there}
+use Rattle.rv_sequence.proofs.WeightReads.{Reads, capped_weight}
+use Rattle.rv_types.proofs.{Members.index_there, NamePlaces.output_within, PlaceOrders.not_itself}
 
 module _ (p : ProgramTree) (main : Identifier) (instances : List Numbered) (known : IsExpanded p main instances) where
   placed : AreFlowPlaces p main (all_places p instances)
@@ -205,11 +203,3 @@ module _ (p : ProgramTree) (main : Identifier) (instances : List Numbered) (know
         (place_at places k) less ∙ w.2 in
         first_has weights flows_of done le first are (place_at places k) (w.0, omega (arith, less, s, ge), at) k (within, refl);
   }
-
--- an order of the graph of flows has the numbers of a sequence
-pub numbered_order : (p : ProgramTree) (main : Identifier) (instances : List Numbered) (g : Graph) (order : List ℕ)
-    → IsFlowGraph p main (all_places p instances) g → IsOrdered g order → IsNumbered p main instances order
-numbered_order p main instances g order graph ordered = record {
-  within = λ j lt. let h = ordered.only j lt in let size = graph.size in omega (arith, h, size);
-  ordered = ordered_sequence p main (all_places p instances) g graph order ordered;
-}

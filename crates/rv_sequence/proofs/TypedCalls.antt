@@ -6,12 +6,11 @@ use Rattle.std.specs.{Option.option_map, List.Contains}
 use Rattle.rv_tree.specs.Tree.{Tree, Node, Form, True, False, Number, Named, Not, Minus, Pre, Current, When, Binary, If, AtMostOne, Call, Trees, None, More}
 use Rattle.rv_tree.specs.Tree.{NodeTree, ProgramTree}
 use Rattle.rv_tree.specs.{declared.tree.Decl.Decl, Places.Identifier}
-use Rattle.rv_types.specs.Kinds.{decl_kinds, kind_in_program, node_named}
 use Rattle.rv_types.specs.Types.{Signature, Scope, kind_in, one_of, two_of, three_of, all_typed, all_suit, fit, where_met, binary_rule, not_rule, minus_rule}
 use Rattle.rv_types.specs.Types.{memory_rule, when_rule, when_of, if_rule, sole, call_of, is_constant, kind_of, kinds_of_all}
 use Rattle.rv_types.specs.Instances.{CallTree, calls_in, form_calls, calls_in_all, node_of, no_node}
-use Rattle.rv_types.specs.{declared.typed.Kind.Kind, declared.fault.Verdict.Verdict, declared.fault.Verdict.TheVariants.Silent}
-use Rattle.rv_types.specs.{declared.fault.Verdict.TheVariants.Clashes, Scopes.node_scope, Scopes.signature_of}
+use Rattle.rv_types.specs.{Kinds.decl_kinds, Kinds.kind_in_program, Kinds.node_named, declared.typed.Kind.Kind, declared.fault.Verdict.Verdict}
+use Rattle.rv_types.specs.{declared.fault.Verdict.TheVariants.Silent, declared.fault.Verdict.TheVariants.Clashes, Scopes.node_scope, Scopes.signature_of}
 use Rattle.rv_types.specs.declared.typed.Kind.TheVariants as kind
 use Rattle.rv_instances.proofs.Lists.{length_map}
 use Rattle.rv_types.proofs.Members.{cons_cases, nothing_in}

@@ -17,20 +17,13 @@ use Rattle.rv_types.specs.{Needs.needs, Needs.form_needs, Needs.Giver, Needs.Giv
 use Rattle.rv_types.specs.{Needs.needs_of, Needs.needs_of_right, Needs.IsAmongFirst, Needs.IsSequence, Scopes.node_scope, Variables.same_place}
 use Rattle.rv_instances.specs.Weights.{weight_of_giver, AreWeights}
 use Rattle.rv_instances.specs.{declared.answer.Instance.Instance as Numbered, AllInstances.AreFed, Expanded.IsExpanded}
-use Rattle.rv_instances.proofs.{CallsInside.in_argument, CallsInside.calls_nested, ExpandedLaws.node_in, Flowing.site_itself, Flowing.flow_of_giver}
-use Rattle.rv_instances.proofs.{GiverLaws.flow_giver, GiverLaws.one_giver, Lists.length_map, Lists.nat_split}
+use Rattle.rv_instances.proofs.{CallsInside.calls_nested, ExpandedLaws.node_in, Flowing.site_itself, Flowing.flow_of_giver, GiverLaws.flow_giver}
+use Rattle.rv_instances.proofs.{GiverLaws.one_giver, Lists.length_map, Lists.nat_split}
 use Rattle.rv_types.proofs.TypedParts.{IsTyped, operands_typed, one_constant, branches_typed, minus_typed, current_typed, when_typed, call_output, right_calls}
-use Rattle.rv_types.proofs.Members.{among_contains}
+use Rattle.rv_types.proofs.{Members.among_contains, CallsWithin.in_argument, DifferentPlaces.same_self}
 use Rattle.rv_sequence.proofs.WeightReads.{IsScaled, Reads, FormReads, same_weight}
 
 -- Places.
-
-place_itself : (q : Sites) → same_place q q ≡ true
-place_itself [] = refl
-place_itself (x ∷ xs) = elim (eqb_tells x x) [
-  | inl w ↦ (λ i. w.0 i && place_itself xs i)
-  | inr w ↦ absurd (w.1 refl)
-]
 
 place_other : (q r : Sites) → (q ≡ r → ⊥) → same_place q r ≡ false
 place_other [] [] h = absurd (h refl)
@@ -324,7 +317,7 @@ module _ (p : ProgramTree) (main : Identifier) (instances : List Numbered) (know
     stays (suc n) k le lt = elim (cases_eq k n) [
       | inl same ↦
           ap (λ b. cond b (weight_of_giver p (weights_to n) (giver_at n)) (weights_to n (get_or sequence k [])))
-          (ap (λ m. same_place (get_or sequence n []) (get_or sequence m [])) same ∙ place_itself (get_or sequence n []))
+          (ap (λ m. same_place (get_or sequence n []) (get_or sequence m [])) same ∙ same_self (get_or sequence n []))
           ∙ ap (λ m. weight_of_giver p (weights_to m) (giver_at m)) (sym same)
       | inr other ↦
           let less : k < n = omega (arith, lt, other) in

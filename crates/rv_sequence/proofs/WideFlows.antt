@@ -13,9 +13,9 @@ use Rattle.rv_instances.specs.Weights.{weight, too_wide, weighed_of_several, wei
 use Rattle.rv_instances.specs.{declared.answer.Instance.Instance as Numbered, Expanded.IsExpanded}
 use Rattle.rv_sequence.specs.Sided.{AreSided}
 use Rattle.rv_base.specs.Limits.{heaviest}
-use Rattle.rv_instances.proofs.{CallsInside.in_argument, CallsInside.in_body, CallsInside.calls_nested, ExpandedLaws.node_in}
+use Rattle.rv_instances.proofs.{CallsInside.calls_nested, ExpandedLaws.node_in}
 use Rattle.rv_types.proofs.TypedParts.{IsTyped, parts_typed, right_calls, argument_part}
-use Rattle.rv_types.proofs.Members.{cons_cases, nothing_in, of_flat_map}
+use Rattle.rv_types.proofs.{Members.cons_cases, Members.nothing_in, Members.of_flat_map, CallsWithin.in_argument, CallsWithin.in_body}
 use Rattle.rv_sequence.proofs.{WeightFlows.IsInside, WeightFlows.reads_flows, WeightFlows.one_weight, WeightReads.same_weight}
 
 -- The calls of a part are calls of the whole.

@@ -10,7 +10,8 @@ use Rattle.rv_base.specs.Limits.{heaviest}
 use Rattle.rv_sizes.specs.{Totals.total_at, Totals.AreTotals, Totals.AreCapped, Capped.capped, Capped.capped_sizes, Memories.integers, Memories.memory_kinds}
 use Rattle.rv_instances.proofs.Known.{node_of_number}
 use Rattle.rv_calls.proofs.Recursions.{table_size}
-use Rattle.rv_sizes.proofs.Unrolling.{unrolled_total, total_map, total_ones, capped_total}
+use Rattle.rv_sizes.proofs.Unrolling.{unrolled_total, total_ones, capped_total}
+use Rattle.rv_types.proofs.DifferentPlaces.{total_map}
 
 replicated : {X : Type 0} (xs : List X) (a : ℕ) → replicate (length xs) a ≡ map (λ x. a) xs
 replicated [] a = refl

@@ -1,6 +1,6 @@
 -- Sums over nodes in an order in which each stands after those that it calls.
-use Rattle.std.proofs.Common.{◌≡◌, ℕ, zero, suc, ◌+◌, ◌<◌, ◌≤◌, inl, inr, min, List, [], ◌∷◌, ◌++◌, length, get_or, set, take, replicate, refl, sym, ◌∙◌, ap}
-use Rattle.std.proofs.Common.{subst, arith, slice_get, Some}
+use Rattle.std.proofs.Common.{◌≡◌, ℕ, zero, suc, ◌+◌, ◌<◌, ◌≤◌, inl, inr, min, List, [], ◌∷◌, length, get_or, set, take, replicate, refl, sym, ◌∙◌, ap, subst}
+use Rattle.std.proofs.Common.{arith, slice_get, Some}
 use Rattle.std.proofs.lemmas.List.{length-set, length-replicate, get_or-set_same, get_or-set_other, get_or-replicate, take_more}
 use Rattle.std.proofs.{lemmas.Bool.cases_eq, lemmas.Option.get_or_from_slice_get}
 use Rattle.std.specs.List.{Contains}
@@ -10,10 +10,7 @@ use Rattle.rv_base.specs.Limits.{heaviest}
 use Rattle.rv_sizes.specs.Totals.{total_at, AreTotals, called_total, AreSummed}
 use Rattle.rv_instances.proofs.Lists.{contains_at, length_map}
 use Rattle.rv_calls.proofs.Lowering.{edge_of}
-
-pub total_append : {X : Type 0} (f : X → ℕ) (xs ys : List X) → total f (xs ++ ys) ≡ total f xs + total f ys
-total_append f [] ys = omega arith
-total_append f (x ∷ xs) ys = let h = total_append f xs ys in omega (arith, h)
+use Rattle.rv_types.proofs.DifferentPlaces.{total_append}
 
 -- a sum that stops at a bound, and one more
 pub min_step : (m a b x y s : ℕ) → s ≡ min (a + b) m → y ≡ min (s + x) m → y ≡ min (a + (b + (x + 0))) m

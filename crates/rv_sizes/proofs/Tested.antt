@@ -5,11 +5,10 @@ use Rattle.rv_tree.specs.Tree.{Tree, Node, Binary, NodeTree, ProgramTree}
 use Rattle.rv_types.specs.declared.typed.Kind.TheVariants as kind
 use Rattle.rv_types.specs.Variables.{total, is_integer, tests_of, node_parts, own_tests, order_tests}
 use Rattle.rv_types.specs.{Heads.head_kind, Scopes.node_scope, Types.Scope, Values.operand_kind, WellFormed.IsWellFormed, WellFormed.IsWellTyped}
-use Rattle.rv_types.proofs.{HeadKinds.head_is, TypedParts.left_typed}
+use Rattle.rv_types.proofs.{HeadKinds.head_is, TypedParts.left_typed, DifferentPlaces.total_same, DifferentPlaces.total_flat_map}
 use Rattle.rv_instances.specs.Timed.{ToldOperator, own_operator, operators_told}
 use Rattle.rv_instances.proofs.TimedParts.{node_operators}
 use Rattle.rv_sizes.specs.{Tests.tests_told, Capped.capped}
-use Rattle.rv_sizes.proofs.Unrolling.{total_same, total_flat_map}
 
 alone : (a b : ℕ) → a ≡ b → a ≡ b + 0
 alone a b e = omega (arith, e)

@@ -11,8 +11,9 @@ use Rattle.rv_instances.specs.AllInstances.{names_of}
 use Rattle.rv_sizes.specs.Ticks.{arrows, has_base, sites_of_clocks, ticking, tick_total, own_ticks}
 use Rattle.rv_instances.proofs.{Lists.contains_at, Known.called, Known.calls_declared}
 use Rattle.rv_calls.proofs.{Recursions.tabled, Recursions.graph_size, Lowering.edge_of}
-use Rattle.rv_sizes.proofs.{Unrolling.total_same, Unrolling.total_flat_map, TickPlaces.ticks_counted}
+use Rattle.rv_sizes.proofs.TickPlaces.{ticks_counted}
 use Rattle.rv_base.proofs.Lists.{flat_map_same}
+use Rattle.rv_types.proofs.DifferentPlaces.{total_same, total_flat_map}
 
 module _ (p : ProgramTree) (named : name_faults p ≡ []) (order : List ℕ) (ordered : IsOrdered (call_graph (callings_of p)) order) where
   -- the node at a place in the order

@@ -1,6 +1,6 @@
 -- Lists whose elements are different, and how long they are.
-use Rattle.std.proofs.Common.{◌≡◌, ℕ, suc, ◌≤◌, ◌⊎◌, inl, inr, Bool, true, false, cond, ◌&&◌, ◌||◌, nat_eq, List, [], ◌∷◌, ◌++◌, map, length, refl, sym, ◌∙◌}
-use Rattle.std.proofs.Common.{ap, subst, arith}
+use Rattle.std.proofs.Common.{◌≡◌, ℕ, ◌≤◌, ◌⊎◌, inl, inr, Bool, true, false, cond, ◌||◌, nat_eq, List, [], ◌∷◌, ◌++◌, map, length, refl, sym, ◌∙◌, ap, subst}
+use Rattle.std.proofs.Common.{arith}
 use Rattle.std.proofs.{lemmas.Bool.eqb-true, lemmas.Bool.eq-eqb, lemmas.List.Elements.Contains-append_cases}
 use Rattle.std.specs.List.{Contains, flat_map}
 use Rattle.rv_tree.specs.Places.{Sites}
@@ -8,6 +8,7 @@ use Rattle.rv_types.specs.Variables.{is_in, same_place, is_place_in, different}
 use Rattle.rv_types.specs.{declared.typed.Clock.Clock, declared.typed.Clock.TheVariants.Base, declared.typed.Clock.TheVariants.On}
 use Rattle.rv_sizes.specs.Ticks.{has_base, sites_of_clocks}
 use Rattle.rv_types.proofs.Members.{cons_cases, in_map, in_tail, nothing_in, of_flat_map}
+use Rattle.rv_types.proofs.DifferentPlaces.{of_different, rest_of, same_self}
 use Rattle.rv_base.proofs.{Lists.from_map, Truths.or_true}
 
 -- no two elements are equal
@@ -17,24 +18,6 @@ Apart (x ∷ xs) = (Contains xs x → ⊥) × Apart xs
 
 pub first_in : {X : Type 0} (x : X) (xs : List X) (y : X) → x ≡ y → Contains (x ∷ xs) y
 first_in x xs y e = (0, omega arith, e)
-
--- a list without one of its elements
-rest_of : {X : Type 0} (ys : List X) (x : X) → Contains ys x → (zs : List X) × (length ys ≡ suc (length zs))
-    × ((z : X) → Contains ys z → (z ≡ x → ⊥) → Contains zs z)
-rest_of [] x w = nothing_in x w
-rest_of {X = X} (y ∷ ys) x w = elim (cons_cases y ys x w) [
-  | inl same ↦ (ys, refl, λ z v other. after ys z x same other (cons_cases y ys z v))
-  | inr rest ↦ let r = rest_of ys x rest in (y ∷ r.0, ap suc r.1, λ z v other. before r.0 ys x r.2 z other (cons_cases y ys z v))
-]
-  where
-    after : (ys : List X) (z x : X) → y ≡ x → (z ≡ x → ⊥) → (y ≡ z) ⊎ Contains ys z → Contains ys z
-    after ys z x same other (inl e) = absurd (other (sym e ∙ same))
-    after ys z x same other (inr v) = v
-
-    before : (zs ys : List X) (x : X) → ((z : X) → Contains ys z → (z ≡ x → ⊥) → Contains zs z) → (z : X) → (z ≡ x → ⊥) → (y ≡ z) ⊎ Contains ys z
-        → Contains (y ∷ zs) z
-    before zs ys x keeps z other (inl e) = first_in y zs z e
-    before zs ys x keeps z other (inr v) = in_tail y zs z (keeps z v other)
 
 -- different elements of a list are no more than that has
 pub no_longer : {X : Type 0} (xs ys : List X) → Apart xs → ((z : X) → Contains xs z → Contains ys z) → length xs ≤ length ys
@@ -80,28 +63,6 @@ apart_flat_map f number (x ∷ xs) a each tells =
 
 -- Places.
 
-same_true : (p q : Sites) → same_place p q ≡ true → p ≡ q
-same_true [] [] e = refl
-same_true [] (y ∷ ys) e = cc
-same_true (x ∷ xs) [] e = cc
-same_true (x ∷ xs) (y ∷ ys) e = both (nat_eq x y) refl e (same_true xs ys)
-  where
-    both : (b : Bool) → nat_eq x y ≡ b → (b && same_place xs ys) ≡ true → (same_place xs ys ≡ true → xs ≡ ys) → x ∷ xs ≡ y ∷ ys
-    both true is e more = λ i. eqb-true x y is i ∷ more e i
-    both false is e more = cc
-
-same_self : (p : Sites) → same_place p p ≡ true
-same_self [] = refl
-same_self (x ∷ xs) = ap (λ b. b && same_place xs xs) (eq-eqb x x refl) ∙ same_self xs
-
-place_there : (ps : List Sites) (q : Sites) → is_place_in ps q ≡ true → Contains ps q
-place_there [] q e = cc
-place_there (p ∷ ps) q e = tested (same_place p q) refl e (place_there ps q)
-  where
-    tested : (b : Bool) → same_place p q ≡ b → (b || is_place_in ps q) ≡ true → (is_place_in ps q ≡ true → Contains ps q) → Contains (p ∷ ps) q
-    tested true is e more = first_in p ps q (same_true p q is)
-    tested false is e more = in_tail p ps q (more e)
-
 there_place : (ps : List Sites) (q : Sites) → Contains ps q → is_place_in ps q ≡ true
 there_place [] q w = nothing_in q w
 there_place (p ∷ ps) q w = elim (cons_cases p ps q w) [
@@ -109,33 +70,13 @@ there_place (p ∷ ps) q w = elim (cons_cases p ps q w) [
   | inr rest ↦ ap (λ b. same_place p q || b) (there_place ps q rest) ∙ or_true (same_place p q)
 ]
 
--- the different ones of some places are those
-pub different_in : (ps : List Sites) (q : Sites) → Contains (different ps) q → Contains ps q
-different_in [] q w = w
-different_in (p ∷ ps) q w = tested (is_place_in ps p) w (different_in ps q)
-  where
-    tested : (b : Bool) → Contains (cond b (different ps) (p ∷ different ps)) q → (Contains (different ps) q → Contains ps q) → Contains (p ∷ ps) q
-    tested true w more = in_tail p ps q (more w)
-    tested false w more = elim (cons_cases p (different ps) q w) [ inl same ↦ first_in p ps q same | inr rest ↦ in_tail p ps q (more rest) ]
-
-pub in_different : (ps : List Sites) (q : Sites) → Contains ps q → Contains (different ps) q
-in_different [] q w = w
-in_different (p ∷ ps) q w = tested (is_place_in ps p) refl (cons_cases p ps q w) (in_different ps q)
-  where
-    tested : (b : Bool) → is_place_in ps p ≡ b → (p ≡ q) ⊎ Contains ps q → (Contains ps q → Contains (different ps) q)
-        → Contains (cond b (different ps) (p ∷ different ps)) q
-    tested true is (inl same) more = more (subst (Contains ps) same (place_there ps p is))
-    tested true is (inr rest) more = more rest
-    tested false is (inl same) more = first_in p (different ps) q same
-    tested false is (inr rest) more = in_tail p (different ps) q (more rest)
-
 pub different_apart : (ps : List Sites) → Apart (different ps)
 different_apart [] = tt
 different_apart (p ∷ ps) = tested (is_place_in ps p) refl (different_apart ps)
   where
     tested : (b : Bool) → is_place_in ps p ≡ b → Apart (different ps) → Apart (cond b (different ps) (p ∷ different ps))
     tested true is more = more
-    tested false is more = (λ w. let is_there = there_place ps p (different_in ps p w) in let no : ⊥ = cc in no, more)
+    tested false is more = (λ w. let is_there = there_place ps p (of_different ps p w) in let no : ⊥ = cc in no, more)
 
 -- The sites of clocks.
 

@@ -11,9 +11,10 @@ use Rattle.rv_types.specs.{declared.typed.Clock.Clock, declared.typed.Clock.TheV
 use Rattle.rv_types.specs.{Clocks.pace_of_all, Kinds.node_among, WellFormed.HasSites, WellFormed.AreSited}
 use Rattle.rv_sizes.specs.Ticks.{arrows, has_base, sites_of_clocks, ticking, tick_total}
 use Rattle.rv_instances.proofs.Lists.{length_map}
-use Rattle.rv_sizes.proofs.TickLists.{Apart, first_in, same_length, apart_append, apart_map, apart_flat_map, different_in, in_different, different_apart}
-use Rattle.rv_sizes.proofs.TickLists.{base_there, there_base, site_is, site_comes, sites_apart}
+use Rattle.rv_sizes.proofs.TickLists.{Apart, first_in, same_length, apart_append, apart_map, apart_flat_map, different_apart, base_there, there_base, site_is}
+use Rattle.rv_sizes.proofs.TickLists.{site_comes, sites_apart}
 use Rattle.rv_types.proofs.Members.{cons_cases, in_flat_map, in_map, in_tail, nothing_in, of_flat_map}
+use Rattle.rv_types.proofs.DifferentPlaces.{of_different, still_different}
 use Rattle.rv_base.proofs.Lists.{from_map}
 
 -- paths that begin alike go on alike
@@ -339,7 +340,7 @@ module _ (p : ProgramTree) where
       same_length (ticks p main) (tick_places (length p.nodes) (main_instance p main)) (different_apart (raw (length p.nodes) (main_instance p main)))
       (all_apart sited (length p.nodes) (main_instance p main) (node_sited sited main))
       (λ q w. main_held main (length p.nodes) q (raw_is (length p.nodes) (main_instance p main) q
-      (different_in (raw (length p.nodes) (main_instance p main)) q w)))
-      (λ q w. in_different (raw (length p.nodes) (main_instance p main)) q
+      (of_different (raw (length p.nodes) (main_instance p main)) q w)))
+      (λ q w. still_different (raw (length p.nodes) (main_instance p main)) q
       (is_raw (length p.nodes) (main_instance p main) q (held_main main (length p.nodes) q w)))
       ∙ counted (length p.nodes) (main_instance p main)

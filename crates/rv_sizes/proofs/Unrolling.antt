@@ -11,27 +11,8 @@ use Rattle.rv_base.specs.Limits.{heaviest}
 use Rattle.rv_sizes.specs.{Totals.total_at, Capped.capped}
 use Rattle.rv_instances.proofs.Known.{map_at, called, calls_declared}
 use Rattle.rv_calls.proofs.Recursions.{table_at}
-use Rattle.rv_sizes.proofs.Summing.{total_append, total_min}
-
-pub total_same : {X : Type 0} (f g : X → ℕ) (xs : List X) → ((x : X) → Contains xs x → f x ≡ g x) → total f xs ≡ total g xs
-total_same f g [] each = refl
-total_same f g (x ∷ xs) each =
-    let here = each x (0, omega arith, refl) in
-    let more = total_same f g xs (λ y w. each y (
-      w.0 + 1,
-      (let lt = w.1 in omega (arith, lt)),
-      ap (λ k. get_or (x ∷ xs) k y)
-          (let e : w.0 + 1 ≡ suc w.0 = omega arith in e) ∙ w.2,
-    )) in
-    omega (arith, here, more)
-
-pub total_flat_map : {X Y : Type 0} (h : Y → ℕ) (g : X → List Y) (xs : List X) → total h (flat_map g xs) ≡ total (λ x. total h (g x)) xs
-total_flat_map h g [] = refl
-total_flat_map h g (x ∷ xs) = let a = total_append h (g x) (flat_map g xs) in let more = total_flat_map h g xs in omega (arith, a, more)
-
-pub total_map : {X Y : Type 0} (h : Y → ℕ) (g : X → Y) (xs : List X) → total h (map g xs) ≡ total (λ x. h (g x)) xs
-total_map h g [] = refl
-total_map h g (x ∷ xs) = ap (λ k. h (g x) + k) (total_map h g xs)
+use Rattle.rv_sizes.proofs.Summing.{total_min}
+use Rattle.rv_types.proofs.DifferentPlaces.{total_map, total_same, total_flat_map}
 
 pub total_ones : {X : Type 0} (xs : List X) → total (λ x. 1) xs ≡ length xs
 total_ones [] = refl

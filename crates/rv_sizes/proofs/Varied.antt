@@ -5,7 +5,7 @@ use Rattle.rv_types.specs.{declared.typed.Kind.Kind, Variables.total, Variables.
 use Rattle.rv_instances.specs.Bits.{bits_of_all}
 use Rattle.rv_sizes.specs.{Capped.capped, Memories.memory_kinds}
 use Rattle.rv_instances.proofs.LabelCodes.{bits_same}
-use Rattle.rv_sizes.proofs.Unrolling.{total_map}
+use Rattle.rv_types.proofs.DifferentPlaces.{total_map}
 
 pub variables_counted : (ticks bits inputs tests a b c d : ℕ) → ticks ≡ capped a → bits ≡ capped b → inputs ≡ capped c → tests ≡ capped d
     → capped (2 * (1 + (ticks + bits)) + (inputs + tests)) ≡ capped (2 * (1 + (a + b)) + (c + d))

@@ -53,15 +53,6 @@ each-narrowed P most old new n h i d l =
     let (j, within, same) = n.from i d l in
     subst P (sym same) (h j d within)
 
--- no row yet
-pub narrowed-none : (most : ℕ) (old : List Row) → IsNarrowed most (take 0 old) []
-narrowed-none most old = record {
-  few = omega arith;
-  from = λ i d l. absurd (omega (arith, l));
-  narrow = λ i d l. absurd (omega (arith, l));
-  kept = λ r w small. absurd (let low = w.1 in let none = length-take-le 0 old (omega arith) in omega (arith, low, none));
-}
-
 -- one row more
 pub narrowed-more : (most : ℕ) (old rows new : List Row) (n : ℕ) (r : Row) → slice_get old n ≡ Some r → IsNarrowed most (take n old) rows
     → IsNotedRow most r rows new → IsNarrowed most (take (n + 1) old) new

@@ -1,5 +1,5 @@
 -- Sets in a store: whether one is within another, and unions.
-use Rattle.std.proofs.Common.{ℕ, Bool, ◌≡◌, ◌↔◌, ◌⊎◌, inl, inr, true, false, IsTrue, ◌||◌, refl, sym, ap, ◌∙◌, subst}
+use Rattle.std.proofs.Common.{ℕ, Bool, ◌≡◌, ◌↔◌, true, IsTrue, ◌||◌, sym, ap, ◌∙◌, subst}
 use Rattle.rv_diagram.specs.Nodes.{Valuation, Diagrams, Answers, IsOrderedOver, value_of}
 use Rattle.rv_diagram.specs.{Several.UsesNeeded, declared.frozen.Frozen.Frozen}
 use Rattle.rv_proofs.specs.{Scopes.IsIn, Systems.System, Ranges.IsControlSet}
@@ -29,22 +29,6 @@ module _ (s0 s1 s2 : Diagrams) (a b : Frozen) (one other : ℕ) (p : Answers s0 
         exact = λ v. means v ∙ made v;
         needed = needed_same f.nodes (value_of s3.nodes both) (either a b) made needed;
       }
-
--- what a union holds
-pub union-holds : (variables : ℕ) (a b f : Frozen) → IsUnion variables a b f → (v : Valuation) → IsIn f v ↔ (IsIn a v ⊎ IsIn b v)
-union-holds variables a b f u v = (
-  λ h. parts (value_of a.nodes a.root v) (value_of b.nodes b.root v) (sym (u.exact v) ∙ h),
-  λ h. u.exact v ∙ from (value_of a.nodes a.root v) (value_of b.nodes b.root v) h,
-)
-  where
-    parts : (x y : Bool) → (x || y) ≡ true → (x ≡ true) ⊎ (y ≡ true)
-    parts true y h = inl refl
-    parts false y h = inr h
-
-    from : (x y : Bool) → (x ≡ true) ⊎ (y ≡ true) → (x || y) ≡ true
-    from true y h = refl
-    from false y (inl h) = cc
-    from false y (inr h) = h
 
 -- and of sets of control states it is one
 pub union-control : (s : System) (variables : ℕ) (a b f : Frozen) → variables ≡ s.variables → IsControlSet s a → IsControlSet s b → IsUnion variables a b f

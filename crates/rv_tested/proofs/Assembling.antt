@@ -18,9 +18,6 @@ use Rattle.rv_tested.specs.Exact.{AreExact, form_answer, side_answer, row_answer
 use Rattle.rv_tested.specs.Testing.{AreTestsRead, IsObserverAsked}
 use Rattle.rv_tested.proofs.Asking.{exact_later}
 
-no_part : Part
-no_part = record { under = 0; form = no_form }
-
 ref_is : (parts : List Part) (i : ℕ) → i < length parts → ref_at (refs_in parts) i ≡ (part_at parts i).under
 ref_is parts i lt = get_or-map (λ (p : Part). p.under) parts i (record { under = 0; form = no_form }) 0 lt
 

@@ -1,6 +1,6 @@
 -- Steps over comparisons and over tests.
 use Rattle.std.proofs.Common.{◌≡◌, ◌⊎◌, inl, inr, ℕ, ◌+◌, ◌-◌, ◌<◌, ◌≤◌, List, [], ◌∷◌, ◌++◌, length, length-append, map, refl, sym, ◌∙◌, ap, subst, ⊎_elim}
-use Rattle.std.proofs.Common.{arith, Option, Some, Result, Ok, Err, OnOk, None as Nothing}
+use Rattle.std.proofs.Common.{arith, Option, Some, None as Nothing}
 use Rattle.std.proofs.lemmas.List.{length-map, get_or_append_left, get_or_push, get_or-map}
 use Rattle.std.proofs.{lemmas.Bool.cases_lt, lemmas.Option.get_or_from_slice_get}
 use Rattle.std.specs.Prelude.{slice_get, slice_index_or}
@@ -122,7 +122,3 @@ none_read f nodes questions rows one two = record {
   many_rows = ap (λ (l : List (List Row)). length l) two;
   each = λ t lt. absurd (omega arith);
 }
-
-pub on_ok_always : {A E : Type 0} (r : Result A E) (P : Type 0) → P → OnOk r P
-on_ok_always (Ok x) P p = p
-on_ok_always (Err e) P p = tt

@@ -24,9 +24,6 @@ use Rattle.rv_forms.proofs.{Bounds.bounded, Bounds.within_more, Kept.to_terms, K
 
 -- LATER
 
-less_within : (n m : ℕ) (f : Form) → n ≤ m → FormWithin n f → FormWithin m f
-less_within n m f le is = (λ k d lt. let h = is.0 k d lt in omega (arith, h, le), let h = is.1 in omega (arith, h, le))
-
 side_read : (f : Flat) (old mid new : Diagrams) (k : Option ℕ) (t : FlatTree) (parts : List Part) → ReadsAs f old mid t parts → Extends mid new
     → Fits (system_of f) (length (system_of f).flows) k kind.Int t → weight_in f t ≤ heaviest → IsSideRead f new.nodes k t parts
 side_read f old mid new k t parts is e fit light = record {

@@ -7,12 +7,11 @@ use Rattle.std.proofs.lemmas.List.Elements.{Contains-append_left, Contains-appen
 use Rattle.std.specs.List.{Contains}
 use Rattle.rv_tree.specs.{declared.tree.Name.Name, declared.tree.TypeDecl.TypeDecl, declared.tree.TypeName.TypeName, Tree.ConstantTree, Tree.ProgramTree}
 use Rattle.rv_tree.specs.{Places.Identifier, Places.is_same}
-use Rattle.rv_types.specs.Names.{texts, is_declared, stands_before, labels_of, constant_names, label_names, node_names, type_names, type_use, uses}
-use Rattle.rv_types.specs.Names.{is_value_before, is_clock_anyhow, constant_uses}
-use Rattle.rv_types.specs.Kinds.{LabelPlace, number_from, label_from, label_of, kind_in_program}
-use Rattle.rv_types.specs.Scopes.{constant_scope, label_kind, as_declared, constant_kind_after, constant_kind, constant_types_after, constant_types}
-use Rattle.rv_types.specs.Scopes.{clash_unless}
-use Rattle.rv_types.specs.{declared.typed.Kind.Kind, declared.typed.Kind.TheVariants.Labels, declared.fault.NameFault.NameFault}
+use Rattle.rv_types.specs.{Names.texts, Names.is_declared, Names.stands_before, Names.labels_of, Names.constant_names, Names.label_names, Names.node_names}
+use Rattle.rv_types.specs.{Names.type_names, Names.type_use, Names.uses, Names.is_value_before, Names.is_clock_anyhow, Names.constant_uses, Kinds.LabelPlace}
+use Rattle.rv_types.specs.{Kinds.number_from, Kinds.label_from, Kinds.label_of, Kinds.kind_in_program, Scopes.constant_scope, Scopes.label_kind}
+use Rattle.rv_types.specs.{Scopes.as_declared, Scopes.constant_kind_after, Scopes.constant_kind, Scopes.constant_types_after, Scopes.constant_types}
+use Rattle.rv_types.specs.{Scopes.clash_unless, declared.typed.Kind.Kind, declared.typed.Kind.TheVariants.Labels, declared.fault.NameFault.NameFault}
 use Rattle.rv_types.specs.{declared.fault.NameFault.TheVariants.TypeClash, Parts.offset_of, Types.same_kind, Types.kind_of, Types.expression_types}
 use Rattle.rv_types.proofs.Members.{nothing_in, cons_cases, at_head, in_map, among_from, among_contains}
 use Rattle.rv_types.proofs.{FirstNames.declared_append, FirstNames.before_append, Turned.twice, RightNames.both_empty, NodeFlows.none_of, ExpressionKinds.typed}

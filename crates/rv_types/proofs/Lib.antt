@@ -42,3 +42,7 @@ pub mod DelayedKinds
 pub mod HeadKinds
 pub mod ToldPaces
 pub mod TypedParts
+pub mod CallsWithin
+pub mod NamePlaces
+pub mod PlaceOrders
+pub mod DifferentPlaces

@@ -28,9 +28,6 @@ rows_few s v (suc n) = let m = rows_few s v n in omega (arith, length-append (ro
     one Nothing = omega arith
     one (Some r) = omega arith
 
-pub kept_few : (s : System) (rows : List Row) → AreKept s rows → length rows < 2 ^ 32
-kept_few s rows kept = let m = kept.1 in omega (arith, m)
-
 pub none_kept : (s : System) → AreKept s []
 none_kept s = (All-nil (IsKeptRow s), lit≤ tt)
 

@@ -48,12 +48,6 @@ pub parsed : (app : App) (words : List Text) (m : ArgMatches) (name : Text) (row
 parsed app words m name rows is matches passes found =
     ap₂ meaning (sym (no_fault app words is passes)) (sym found ∙ found_is app words m is matches) ∙ meaning_is words
 
--- no subcommand was found
-pub unnamed : (app : App) (words : List Text) (m : ArgMatches) → app ≡ reaver → HasMatchesOf app words m
-    → (is_simple_and_free app ≡ true → fault_of app words ≡ []) → subcommand_rows_of m ≡ None → None ≡ command words
-unnamed app words m is matches passes found =
-    ap₂ meaning (sym (no_fault app words is passes)) (sym found ∙ found_is app words m is matches) ∙ meaning_is words
-
 among : (k : ErrorKind) (ks : Kinds) → IsAmong k ks → is_empty ks ≡ false
 among k [] h = absurd h
 among k (x ∷ xs) h = ne_eqb _ _ (λ e. omega arith)

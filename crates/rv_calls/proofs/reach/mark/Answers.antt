@@ -1,8 +1,8 @@
 use Rattle.std.proofs.Common.{List, ℕ, ◌∷◌, ◌++◌, [], sym, subst, ◌∙◌, None as Nothing}
+use Rattle.std.proofs.lemmas.Option.{get_or_from_slice_get}
 use Rattle.rv_calls.specs.Components.{Marks, IsSpread}
 use Rattle.rv_calls.proofs.Searches.{spread_not, spread_one}
 use Rattle.rv_calls.proofs.reach.mark.Goals as goal
-use Rattle.std.proofs.lemmas.Option.{get_or_from_slice_get}
 
 pub returns-in_ok-push : goal.returns-in_ok-push
 returns-in_ok-push c =

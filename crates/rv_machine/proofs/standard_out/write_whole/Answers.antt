@@ -1,7 +1,7 @@
 use Rattle.std.proofs.Common.{◌≡◌, ◌-◌, [], length, take, drop, rules, drop_of_length-le}
 use Rattle.rv_machine.proofs.Fronts.{none_written, more_written, same_written, all_written, front_written}
-use Rattle.rv_machine.proofs.standard_out.write_whole.Goals as goal
 use Rattle.rv_machine.proofs.standard_out.write_whole.Goals.{in-Ok, in-Err}
+use Rattle.rv_machine.proofs.standard_out.write_whole.Goals as goal
 
 pub loop-init : goal.loop-init
 loop-init g c = none_written (g.W.Write.contents c.args.writer.now) c.args.piece.now

@@ -1,6 +1,7 @@
 use Rattle.std.proofs.{Common.◌≡◌, Common.ℕ, Common.◌+◌, Common.List, Common.length, Common.sym, Common.◌∙◌, Common.ap, Common.arith, lemmas.List.length-map}
 use Rattle.rv_tree.specs.{declared.tree.Decl.Decl, Places.Identifier, Places.names, Places.index_of}
-use Rattle.rv_meaning.proofs.Searches.{index_most, index_one, index_two, index_three}
+use Rattle.rv_meaning.proofs.Searches.{index_one, index_two, index_three}
+use Rattle.rv_types.proofs.NamePlaces.{index_low}
 use Rattle.rv_meaning.proofs.kinds.flow_site.Goals as goal
 
 -- the number of a name among declarations, which stand in a list that equals them
@@ -21,8 +22,8 @@ returns-then-input-len c =
 pub overflow_add-result : goal.overflow_add-result
 overflow_add-result c =
     let x = c.args.name.now in
-    let a = index_most (names c.as_slice.result.now) x in
-    let b = index_most (names c.as_slice-2.result.now) x in
+    let a = index_low (names c.as_slice.result.now) x in
+    let b = index_low (names c.as_slice-2.result.now) x in
     omega (arith, a, b, many c.as_slice.result.now, many c.as_slice-2.result.now)
 
 pub returns-then-output-len : goal.returns-then-output-len
@@ -37,16 +38,16 @@ returns-then-output-len c =
 pub overflow_add-result-2 : goal.overflow_add-result-2
 overflow_add-result-2 c =
     let x = c.args.name.now in
-    let a = index_most (names c.as_slice.result.now) x in
-    let b = index_most (names c.as_slice-2.result.now) x in
+    let a = index_low (names c.as_slice.result.now) x in
+    let b = index_low (names c.as_slice-2.result.now) x in
     omega (arith, a, b, many c.as_slice.result.now, many c.as_slice-2.result.now)
 
 pub overflow_add-result-3 : goal.overflow_add-result-3
 overflow_add-result-3 c =
     let x = c.args.name.now in
-    let a = index_most (names c.as_slice.result.now) x in
-    let b = index_most (names c.as_slice-2.result.now) x in
-    let l = index_most (names c.as_slice-3.result.now) x in
+    let a = index_low (names c.as_slice.result.now) x in
+    let b = index_low (names c.as_slice-2.result.now) x in
+    let l = index_low (names c.as_slice-3.result.now) x in
     omega (arith, a, b, l, many c.as_slice.result.now, many c.as_slice-2.result.now, many c.as_slice-3.result.now)
 
 pub returns : goal.returns

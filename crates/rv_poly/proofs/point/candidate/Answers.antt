@@ -1,6 +1,6 @@
 use Rattle.std.proofs.Common.{◌≡◌, ℕ, ◌++◌, ◌∷◌, [], FitsSigned, rules, arith, subst}
-use Rattle.std.specs.Int.{w128}
 use Rattle.std.proofs.lemmas.Int.{to_z-of_z}
+use Rattle.std.specs.Int.{w128}
 use Rattle.rv_poly.specs.Whole.{IsCandidate}
 use Rattle.rv_poly.proofs.WholeLemmas.{candidate-none, candidate-more, width-past}
 use Rattle.rv_poly.proofs.point.candidate.Goals as goal

@@ -4,18 +4,18 @@ use Rattle.rv_diagram.specs.Nodes.{Diagrams}
 use Rattle.rv_terms.specs.{declared.parted.Term.Term, Parts.form_at, Parts.term_width, Parts.IsTerm, Parts.IsTermOf}
 use Rattle.rv_tested.specs.Testing.{IsDifference}
 use Rattle.rv_tested.proofs.Siding.{can_negate, can_subtract, is_difference}
-use Rattle.rv_forms.proofs.Kept.{own_width as own_term, width_first}
+use Rattle.rv_forms.proofs.Kept.{own_width, width_first}
 use Rattle.rv_tested.proofs.testing.difference.Goals as goal
 
 pub scale-requires-clause-a : goal.scale-requires-clause-a
-scale-requires-clause-a c = own_term c.args.store.now.nodes c.requires.terms.0 c.args.second.now.parts c.requires.terms.2.term
+scale-requires-clause-a c = own_width c.args.store.now.nodes c.requires.terms.0 c.args.second.now.parts c.requires.terms.2.term
 
 pub scale-requires-clause-room : goal.scale-requires-clause-room
 scale-requires-clause-room c v = can_negate c.args.store.now.nodes c.requires.terms.0 c.args.second.now.parts c.requires.terms.2 v
 
 pub sum-requires-clause-a : goal.sum-requires-clause-a
 sum-requires-clause-a c = subst (λ (d : Diagrams). IsTerm d.nodes (term_width c.args.first.now.parts) c.args.first.now.parts)
-    (sym c.in_ok-negative.ensures.same) (own_term c.args.store.now.nodes c.requires.terms.0 c.args.first.now.parts c.requires.terms.1.term)
+    (sym c.in_ok-negative.ensures.same) (own_width c.args.store.now.nodes c.requires.terms.0 c.args.first.now.parts c.requires.terms.1.term)
 
 pub sum-requires-clause-b : goal.sum-requires-clause-b
 sum-requires-clause-b c =

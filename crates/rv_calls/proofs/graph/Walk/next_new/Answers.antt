@@ -1,7 +1,7 @@
 use Rattle.std.proofs.Common.{◌≡◌, ◌<◌, [], length, get_or, false, sym, ◌∙◌, ap, subst}
+use Rattle.std.proofs.lemmas.Option.{get_or_from_slice_get}
 use Rattle.rv_calls.specs.Graphs.{edges}
 use Rattle.rv_calls.proofs.graph.Walk.next_new.Goals as goal
-use Rattle.std.proofs.lemmas.Option.{get_or_from_slice_get}
 
 pub first_unmarked-requires : goal.first_unmarked-requires
 first_unmarked-requires c j lt =

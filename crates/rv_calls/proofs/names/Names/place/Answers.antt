@@ -1,5 +1,5 @@
 use Rattle.std.proofs.Common.{sym, ◌∙◌}
-use Rattle.rv_instances.proofs.Known.{index_past}
+use Rattle.rv_types.proofs.NamePlaces.{index_past}
 use Rattle.rv_calls.proofs.names.Names.place.Goals as goal
 
 pub returns-in-None-clause-is : goal.returns-in-None-clause-is
