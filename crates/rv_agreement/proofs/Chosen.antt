@@ -18,9 +18,8 @@ use Rattle.rv_types.proofs.ChainLaws.{no_flag}
 
 pub sites_told : (p q : Sites) → same_sites p q ≡ true → p ≡ q
 sites_told [] [] e = refl
-sites_told [] (q ∷ qs) e = no_flag e
-sites_told (p ∷ ps) [] e = no_flag e
 sites_told (p ∷ ps) (q ∷ qs) e = let h = and_parts (nat_eq p q) (same_sites ps qs) e in λ i. eqb-true p q h.0 i ∷ sites_told ps qs h.1 i
+sites_told _ _ e = no_flag e
 
 pub sites_itself : (p : Sites) → same_sites p p ≡ true
 sites_itself [] = refl
@@ -28,9 +27,8 @@ sites_itself (p ∷ ps) = (λ i. eq-eqb p p refl i && sites_itself ps i)
 
 pub flow_told : (p q : Option Sites) → same_flow p q ≡ true → p ≡ q
 flow_told Nothing Nothing e = refl
-flow_told Nothing (Some q) e = no_flag e
-flow_told (Some p) Nothing e = no_flag e
 flow_told (Some p) (Some q) e = ap Some (sites_told p q e)
+flow_told _ _ e = no_flag e
 
 pub flow_itself : (p : Option Sites) → same_flow p p ≡ true
 flow_itself Nothing = refl
@@ -46,13 +44,11 @@ module _ (K B : Type 0) (same : K → K → Bool) (sound : (p q : K) → same p 
       → look ks f (get_or ks j d) ≡ f j
   look_at [] f j d lt alone = absurd (omega arith)
   look_at (k ∷ ks) f zero d lt alone = ap (λ b. cond b (f 0) (look ks (λ i. f (suc i)) k)) (itself k)
-  look_at (k ∷ ks) f (suc j) d lt alone = by (same k (get_or ks j d)) refl
-      (look_at ks (λ i. f (suc i)) j d (omega arith) (λ i lt same. alone (suc i) (omega arith) same))
-    where
-      by : (b : Bool) → same k (get_or ks j d) ≡ b → look ks (λ i. f (suc i)) (get_or ks j d) ≡ f (suc j)
-          → cond b (f 0) (look ks (λ i. f (suc i)) (get_or ks j d)) ≡ f (suc j)
-      by true e later = alone 0 (omega arith) (sound k (get_or ks j d) e)
-      by false e later = later
+  look_at (k ∷ ks) f (suc j) d lt alone = elim (same k (get_or ks j d))
+      as (λ b. same k (get_or ks j d) ≡ b → cond b (f 0) (look ks (λ i. f (suc i)) (get_or ks j d)) ≡ f (suc j)) [
+        | true ↦ λ e. alone 0 (omega arith) (sound k (get_or ks j d) e)
+        | false ↦ λ e. look_at ks (λ i. f (suc i)) j d (omega arith) (λ i lt same. alone (suc i) (omega arith) same)
+      ] refl
 
 abbrev pub no_comparison : Comparison
 no_comparison = record { at = []; clock = Nothing; operator = op.And; left = Node [] (Constant (Flag false)); right = Node [] (Constant (Flag false)) }
@@ -127,10 +123,10 @@ module _ (s : System) (now : State) (inputs : List Value) (row : List (Option Va
     unfolding chosen test_of
     test_is c w side =
         let places = map (λ d. d.at) (all_comparisons s) in
-        let within : w.0 < length (map (λ d. d.at) (all_comparisons s)) = rw length-map w.1 in
-        let here : get_or (map (λ d. d.at) (all_comparisons s)) w.0 [] ≡ c.at = place_at w.0 w.1 ∙ ap (λ d. d.at) (comparison_at c w) in
+        let within : w.0 < length places = rw length-map w.1 in
+        let here : get_or places w.0 [] ≡ c.at = place_at w.0 w.1 ∙ ap (λ d. d.at) (comparison_at c w) in
         ap (λ p. chosen.test p side) (sym here)
-        ∙ look_at Sites Bool same_sites sites_told sites_itself false (map (λ d. d.at) (all_comparisons s))
+        ∙ look_at Sites Bool same_sites sites_told sites_itself false places
         (λ j. test_of side (slice_index_or (all_comparisons s) j no_comparison)) w.0 [] within
         (λ i less same. same_test side i w.0 (let l : i < length (map (λ d. d.at) (all_comparisons s)) = less in simp length-map at l) w.1 same)
         ∙ ap (test_of side) (comparison_at c w)

@@ -31,8 +31,7 @@ well_of body c fit one = record {
   apart = λ d e v w same.
       let first : c ≡ d = only_one c d (subst (λ cs. Contains cs d) one v) in
       let second : c ≡ e = only_one c e (subst (λ cs. Contains cs e) one w) in
-      let one_is : d ≡ e = sym first ∙ second in
-      (ap (λ x. x.left) one_is, ap (λ x. x.right) one_is);
+      let one_is : d ≡ e = sym first ∙ second in (ap (λ x. x.left) one_is, ap (λ x. x.right) one_is);
 }
   where
     clock : (k : ℕ) → k < 1 → IsNamed 4 (slice_index_or (Nothing ∷ []) k Nothing)

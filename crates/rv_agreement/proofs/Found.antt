@@ -9,10 +9,11 @@ use Rattle.rv_types.specs.declared.typed.Kind.TheVariants as kind
 use Rattle.rv_meaning.specs.Meaning.{number}
 use Rattle.rv_rows.specs.{declared.linear.Form.Form, Arithmetic.column_form}
 use Rattle.rv_rows.specs.Forms as forms
-use Rattle.rv_agreement.specs.Trees.{System, memory_kinds, memory_places, kind_at}
+use Rattle.rv_agreement.specs.Trees.{System, memory_kinds, kind_at}
 use Rattle.rv_agreement.specs.Valuations.{Valuation, at_point, whole_count, rank, width, wholes, spelled}
 use Rattle.rv_agreement.specs.Agreement.{State, point, HasKind, IsTyped, IsSpelled, Spells}
-use Rattle.rv_agreement.proofs.{LinearLemmas.Laws, Matching.IsFound}
+use Rattle.rv_agreement.proofs.Matching.{IsFound}
+use Rattle.rv_rows.proofs.FormValues.{column_value}
 
 one_whole : (b : Bool) (z : ℤ) (zs : List ℤ) (n : ℕ) → length zs ≡ n → length (cond b (z ∷ zs) zs) ≡ cond b 1 0 + n
 one_whole true z zs n e = omega (arith, e)
@@ -48,14 +49,14 @@ module _ (labels : List ℕ) (x : List ℤ) where
   found_kind kind.Int bits column (Whole z) has is at = ap Whole (at refl)
   found_kind (kind.Labels i) bits column value has is at = is
 
-module _ (laws : Laws) (s : System) (v : Valuation) (now : State) (inputs : List Value) (typed : IsTyped s now inputs) (spells : Spells s v now inputs) where
+module _ (s : System) (v : Valuation) (now : State) (inputs : List Value) (typed : IsTyped s now inputs) (spells : Spells s v now inputs) where
   memory_column : (m : ℕ) → m < length s.memories → kind_at (memory_kinds s) m ≡ kind.Int
       → number (slice_index_or now.kept m (Flag false)) ≡ forms.value (column_form (width s) (rank (memory_kinds s) m)) (point s now inputs)
   memory_column m lt is =
       let within : m < length (memory_kinds s) = rw length-map lt in
       let w = wholes_at (memory_kinds s) now.kept m within typed.memories.many is in
       let long = length-wholes (memory_kinds s) now.kept in
-      sym (laws.columns (width s) (rank (memory_kinds s) m) (point s now inputs) (omega (arith, w.0))
+      sym (column_value (point s now inputs) (width s) (rank (memory_kinds s) m) (omega (arith, w.0))
       ∙ get_or_append_left (wholes (memory_kinds s) now.kept) (wholes s.inputs inputs) (pos 0) (rank (memory_kinds s) m) (omega (arith, w.0, long))
       ∙ w.1)
 
@@ -66,7 +67,7 @@ module _ (laws : Laws) (s : System) (v : Valuation) (now : State) (inputs : List
       let w = wholes_at s.inputs inputs j lt typed.given.many is in
       let long = length-wholes (memory_kinds s) now.kept in
       let e : whole_count (memory_kinds s) + rank s.inputs j ≡ length (wholes (memory_kinds s) now.kept) + rank s.inputs j = omega (arith, long) in
-      sym (laws.columns (width s) (whole_count (memory_kinds s) + rank s.inputs j) (point s now inputs) (omega (arith, w.0))
+      sym (column_value (point s now inputs) (width s) (whole_count (memory_kinds s) + rank s.inputs j) (omega (arith, w.0))
       ∙ ap (λ n. get_or (point s now inputs) n (pos 0)) e
       ∙ get_or-append-add (wholes (memory_kinds s) now.kept) (wholes s.inputs inputs) (rank s.inputs j) (pos 0)
       ∙ w.1)
@@ -74,10 +75,7 @@ module _ (laws : Laws) (s : System) (v : Valuation) (now : State) (inputs : List
   pub is_found : (row : List _) (symbolic : List _) → IsFound s v now inputs row symbolic (point s now inputs)
   is_found row symbolic = record {
     ticked = spells.ticks;
-    kept = λ m lt. found_kind s.labels (point s now inputs) (kind_at (memory_kinds s) m) (v.kept (slice_index_or (memory_places s) m []))
-        (column_form (width s) (rank (memory_kinds s) m))
-        (slice_index_or now.kept m (Flag false)) (typed.memories.each m (rw length-map lt)) (spells.memories m lt) (memory_column m lt);
-    given = λ j lt. found_kind s.labels (point s now inputs) (kind_at s.inputs j) (v.input j)
-        (column_form (width s) (whole_count (memory_kinds s) + rank s.inputs j))
-        (slice_index_or inputs j (Flag false)) (typed.given.each j lt) (spells.given j lt) (input_column j lt);
+    kept = λ m lt. found_kind s.labels (point s now inputs) (kind_at (memory_kinds s) m) _ _ _
+        (typed.memories.each m (rw length-map lt)) (spells.memories m lt) (memory_column m lt);
+    given = λ j lt. found_kind s.labels (point s now inputs) (kind_at s.inputs j) _ _ _ (typed.given.each j lt) (spells.given j lt) (input_column j lt);
   }

@@ -1,7 +1,5 @@
 -- At a coded valuation each flow that is present reads as its type, and so does each memory after the instant.
-use Rattle.std.proofs.Common.{◌≡◌, ℕ, zero, suc, ◌<◌, ◌≤◌, Bool, true, false, cond, List, [], length, refl, sym, ◌∙◌, ap, subst, arith, Option, Some, inl, inr}
-use Rattle.std.proofs.Common.{None as Nothing}
-use Rattle.std.proofs.Math.Nat.{eq-or-lt_of_le}
+use Rattle.std.proofs.Common.{◌≡◌, ℕ, ◌<◌, ◌≤◌, Bool, true, false, cond, List, [], length, refl, sym, ◌∙◌, ap, subst, arith, Option, Some, None as Nothing}
 use Rattle.std.specs.Prelude.{slice_index_or}
 use Rattle.rv_base.specs.declared.value.Value.{Value}
 use Rattle.rv_base.specs.declared.value.Value.TheVariants as value
@@ -10,60 +8,45 @@ use Rattle.rv_tree.specs.declared.tree.Op.TheVariants as op
 use Rattle.rv_types.specs.{declared.typed.Kind.Kind, Lists.Side}
 use Rattle.rv_types.specs.declared.typed.Kind.TheVariants as kind
 use Rattle.rv_rows.specs.declared.linear.Form.{Form}
-use Rattle.rv_agreement.specs.Trees.{FlatTree, Node, TreeForm, Constant, Flow, Memory, Ticked, Input, Not, Binary, Scale, If, AtMostOne, When, Current}
-use Rattle.rv_agreement.specs.Trees.{nth_item, System, memory_items, memory_kinds, memory_places, kind_at}
-use Rattle.rv_agreement.specs.Valuations.{Valuation, Reading, Truth, Linear, constant_reading, operated, spelled, width, reads_at, found_at, holds_true}
-use Rattle.rv_agreement.specs.Valuations.{IsSymbolic, IsCoded, IsCodedAs, read, updated}
-use Rattle.rv_agreement.specs.{Evaluation.nth, Evaluation.is_on, Evaluation.held, Evaluation.is_there, Evaluation.form_value, Agreement.HasKind}
-use Rattle.rv_agreement.specs.{Agreement.IsRule, Agreement.Fits, Agreement.FormFits, Agreement.IsWell, Kinding.ReadsAs}
-use Rattle.rv_agreement.proofs.Matching.{there_of_on}
+use Rattle.rv_agreement.specs.Trees.{FlatTree, Node, TreeForm, Constant, Flow, Memory, Ticked, Input, Binary, Scale, If, When, Current, nth_item, System}
+use Rattle.rv_agreement.specs.Trees.{memory_items, memory_kinds, memory_places, kind_at}
+use Rattle.rv_agreement.specs.Valuations.{Valuation, Reading, constant_reading, operated, spelled, width, reads_at, found_at, holds_true, IsSymbolic, IsCoded}
+use Rattle.rv_agreement.specs.Valuations.{IsCodedAs, read, updated}
+use Rattle.rv_agreement.specs.{Evaluation.nth, Evaluation.held, Evaluation.is_there, Evaluation.form_value, Agreement.HasKind, Agreement.IsRule, Agreement.Fits}
+use Rattle.rv_agreement.specs.{Agreement.FormFits, Agreement.IsWell, Kinding.ReadsAs}
+use Rattle.rv_agreement.proofs.Controls.{clock_there}
+use Rattle.rv_meaning.proofs.Below.{each_below}
 
 module _ (labels : List ℕ) where
   constant_reads : (n : ℕ) (test : Sites → Side → Bool) (j : Kind) (c : Value) → HasKind labels j c → ReadsAs labels j (constant_reading n test c)
   constant_reads n test kind.Bool (value.Flag b) has = tt
-  constant_reads n test kind.Bool (value.Label l) has = absurd has
-  constant_reads n test kind.Bool (value.Whole z) has = absurd has
-  constant_reads n test kind.Int (value.Flag b) has = absurd has
-  constant_reads n test kind.Int (value.Label l) has = absurd has
   constant_reads n test kind.Int (value.Whole z) has = tt
-  constant_reads n test (kind.Labels i) (value.Flag b) has = absurd has
   constant_reads n test (kind.Labels i) (value.Label l) has = has
-  constant_reads n test (kind.Labels i) (value.Whole z) has = absurd has
+  constant_reads n test _ _ has = absurd has
 
   spelled_reads : (j : Kind) (bits : ℕ → Bool) (f : Form) → IsCodedAs labels j bits → ReadsAs labels j (spelled labels j bits f)
-  spelled_reads kind.Bool bits f coded = tt
-  spelled_reads kind.Int bits f coded = tt
   spelled_reads (kind.Labels i) bits f coded = coded
+  spelled_reads _ bits f coded = tt
 
   chosen_reads : (b : Bool) (j : Kind) (p q : Reading) → ReadsAs labels j p → ReadsAs labels j q → ReadsAs labels j (cond b p q)
   chosen_reads true j p q first second = first
   chosen_reads false j p q first second = second
 
-  truth_reads : (j : Kind) (b : Bool) → j ≡ kind.Bool → ReadsAs labels j (Truth b)
-  truth_reads j b is = subst (λ k. ReadsAs labels k (Truth b)) (sym is) tt
-
-  form_reads : (j : Kind) (f : Form) → j ≡ kind.Int → ReadsAs labels j (Linear f)
-  form_reads j f is = subst (λ k. ReadsAs labels k (Linear f)) (sym is) tt
+  read_as : {j k : Kind} (a : Reading) → j ≡ k → ReadsAs labels k a → ReadsAs labels j a
+  read_as a is reads = subst (λ k. ReadsAs labels k a) (sym is) reads
 
   operated_reads : (n : ℕ) (test : Sites → Side → Bool) (at : Sites) (o : Op) (i j : Kind) (a b : Reading) → IsRule o i j
       → ReadsAs labels j (operated n test at o a b)
   operated_reads n test at op.Arrow i j a b rule = absurd rule
-  operated_reads n test at op.Implies i j a b rule = truth_reads j _ rule.1
-  operated_reads n test at op.Or i j a b rule = truth_reads j _ rule.1
-  operated_reads n test at op.Xor i j a b rule = truth_reads j _ rule.1
-  operated_reads n test at op.And i j a b rule = truth_reads j _ rule.1
-  operated_reads n test at op.Equal i j a b rule = truth_reads j _ rule
-  operated_reads n test at op.Differs i j a b rule = truth_reads j _ rule
-  operated_reads n test at op.Less i j a b rule = truth_reads j _ rule.1
-  operated_reads n test at op.AtMost i j a b rule = truth_reads j _ rule.1
-  operated_reads n test at op.Greater i j a b rule = truth_reads j _ rule.1
-  operated_reads n test at op.AtLeast i j a b rule = truth_reads j _ rule.1
-  operated_reads n test at op.Plus i j a b rule = form_reads j _ rule.1
-  operated_reads n test at op.Minus i j a b rule = form_reads j _ rule.1
+  operated_reads n test at op.Equal i j a b rule = read_as _ rule tt
+  operated_reads n test at op.Differs i j a b rule = read_as _ rule tt
+  operated_reads n test at op.Plus i j a b rule = read_as _ rule.1 tt
+  operated_reads n test at op.Minus i j a b rule = read_as _ rule.1 tt
   operated_reads n test at op.Times i j a b rule = absurd rule
   operated_reads n test at op.Slash i j a b rule = absurd rule
   operated_reads n test at op.Div i j a b rule = absurd rule
   operated_reads n test at op.Mod i j a b rule = absurd rule
+  operated_reads n test at _ i j a b rule = read_as _ rule.1 tt
 
 module _ (s : System) (v : Valuation) (row : List (Option Reading)) (well : IsWell s) (coded : IsCoded s v) (instant : IsSymbolic s v row) where
   abbrev there : Option ℕ → Bool
@@ -74,10 +57,6 @@ module _ (s : System) (v : Valuation) (row : List (Option Reading)) (well : IsWe
 
   module _ (n : ℕ) (most : n ≤ length s.flows) (before : (k : ℕ) (a : Reading) → k < n → nth Reading (reads_at s v) row k ≡ Some a
       → ReadsAs s.labels (kind_at s.kinds k) a) where
-    clock_there : (c : ℕ) → c < n → there (Some c) ≡ true → there (nth_item s.flows c).clock ≡ true
-    clock_there c lt on = there_of_on (there (nth_item s.flows c).clock) (read s v row (nth_item s.flows c).body) holds_true (is_on Reading (reads_at s v)) refl
-        (ap (is_on Reading (reads_at s v)) (sym (instant.holds c (omega arith))) ∙ on)
-
     flow_reads : (k : Option ℕ) (j : Kind) (c : ℕ) → c < n → there k ≡ true → kind_at s.kinds c ≡ j → (nth_item s.flows c).clock ≡ k
         → ReadsAs s.labels j (held Reading (reads_at s v) (nth Reading (reads_at s v) row c))
     flow_reads k j c lt on kind_is clock_is =
@@ -101,41 +80,32 @@ module _ (s : System) (v : Valuation) (row : List (Option Reading)) (well : IsWe
       reads_form k j at (Constant c) fit on = constant_reads s.labels (width s) v.test j c fit
       reads_form k j at (Flow c) fit on = flow_reads k j c fit.0 on fit.1 fit.2
       reads_form k j at (Memory m) fit on = subst (λ t. ReadsAs s.labels t ((found_at s v).kept m)) fit.1 (memory_reads m fit.0)
-      reads_form k j at (Ticked t) fit on = truth_reads s.labels j _ fit.1
+      reads_form k j at (Ticked t) fit on = read_as s.labels _ fit.1 tt
       reads_form k j at (Input i) fit on = subst (λ t. ReadsAs s.labels t ((found_at s v).given i)) fit.1
           (spelled_reads s.labels (kind_at s.inputs i) (v.input i) _ (coded.inputs i fit.0))
-      reads_form k j at (Not e) fit on = truth_reads s.labels j _ fit.0
       reads_form k j at (Binary o a b) fit on = operated_reads s.labels (width s) v.test at o fit.0 j (read s v row a) (read s v row b) fit.1
-      reads_form k j at (Scale z e) fit on = form_reads s.labels j _ fit.0
+      reads_form k j at (Scale z e) fit on = read_as s.labels _ fit.0 tt
       reads_form k j at (If c a b) fit on = chosen_reads s.labels (holds_true (read s v row c)) j (read s v row a) (read s v row b) (reads k j a fit.1 on)
           (reads k j b fit.2 on)
-      reads_form k j at (AtMostOne es) fit on = truth_reads s.labels j _ fit.0
-      reads_form k j at (When c e) fit on = reads (nth_item s.flows c).clock j e fit.2 (clock_there c fit.1 (ap there (sym fit.0) ∙ on))
+      reads_form k j at (When c e) fit on =
+          reads (nth_item s.flows c).clock j e fit.2 (clock_there s v row well instant c (omega (arith, fit.1)) (ap there (sym fit.0) ∙ on))
       reads_form k j at (Current m i e) fit on =
           current_reads i j (there i) refl m e (λ shown. reads i j e fit.4 shown)
           (subst (λ t. ReadsAs s.labels t ((found_at s v).kept m)) fit.1 (memory_reads m fit.0))
+      reads_form k j at _ fit on = read_as s.labels _ fit.0 tt
 
   some_of : (b : Bool) (x a : Reading) → cond b (Some x) Nothing ≡ Some a → (b ≡ true) × (x ≡ a)
   some_of true x a e = (refl, let f : x ≡ a = cc in f)
   some_of false x a e = absurd (cc)
 
-  first_read : (n : ℕ) → n ≤ length s.flows → (k : ℕ) (a : Reading) → k < n → nth Reading (reads_at s v) row k ≡ Some a → ReadsAs s.labels (kind_at s.kinds k) a
-  first_read zero le k a lt is = absurd (omega arith)
-  first_read (suc n) le k a lt is =
-      let before = first_read n (omega arith) in
-      elim (eq-or-lt_of_le {n = k} {m = n} (omega arith)) [
-        | inl same ↦
-            let there_is : nth Reading (reads_at s v) row n ≡ Some a = ap (nth Reading (reads_at s v) row) (sym same) ∙ is in
-            let parts = some_of (there (nth_item s.flows n).clock) (read s v row (nth_item s.flows n).body) a
-            (sym (instant.holds n (omega arith)) ∙ there_is) in
-            subst (λ m. ReadsAs s.labels (kind_at s.kinds m) a) (sym same)
-            (subst (ReadsAs s.labels (kind_at s.kinds n)) parts.1
-            (reads n (omega arith) before (nth_item s.flows n).clock (kind_at s.kinds n) (nth_item s.flows n).body (well.flows n (omega arith)).1 parts.0))
-        | inr below ↦ before k a below is
-      ]
-
   pub flows_read : (k : ℕ) (a : Reading) → k < length s.flows → nth Reading (reads_at s v) row k ≡ Some a → ReadsAs s.labels (kind_at s.kinds k) a
-  flows_read = first_read (length s.flows) (omega arith)
+  flows_read k a lt = each_below (λ k. (a : Reading) → nth Reading (reads_at s v) row k ≡ Some a → ReadsAs s.labels (kind_at s.kinds k) a) (length s.flows)
+      (λ n less before a is.
+      let y = nth_item s.flows n in
+      let parts = some_of (there y.clock) (read s v row y.body) a (sym (instant.holds n less) ∙ is) in
+      subst (ReadsAs s.labels (kind_at s.kinds n)) parts.1
+      (reads n (omega arith) (λ k a low. before k low a) y.clock (kind_at s.kinds n) y.body (well.flows n less).1 parts.0))
+      k lt a
 
   pub expressions_read : (k : Option ℕ) (j : Kind) (e : FlatTree) → Fits s (length s.flows) k j e → there k ≡ true → ReadsAs s.labels j (read s v row e)
   expressions_read = reads (length s.flows) (omega arith) flows_read

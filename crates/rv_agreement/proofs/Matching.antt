@@ -1,9 +1,9 @@
 -- Where a valuation spells what an instant finds, and its present tests tell the truth, the symbolic instant gives at the point
 -- what the instant in whole numbers gives.
-use Rattle.std.proofs.Common.{◌≡◌, ℕ, zero, suc, ◌+◌, ◌<◌, ◌≤◌, ℤ, ◌*ℤ◌, Bool, true, false, not, cond, List, [], ◌∷◌, ◌++◌, length, get_or, refl, sym, ◌∙◌, ap}
-use Rattle.std.proofs.Common.{subst, arith, inl, inr, Option, None as Nothing, Some}
+use Rattle.std.proofs.Common.{◌≡◌, ℕ, suc, ◌+◌, ◌<◌, ◌≤◌, ℤ, ◌*ℤ◌, Bool, true, false, not, cond, List, [], ◌∷◌, ◌++◌, length, refl, sym, ◌∙◌, ap, subst, arith}
+use Rattle.std.proofs.Common.{inl, inr, Option, None as Nothing, Some, ⊎_elim}
 use Rattle.std.proofs.lemmas.List.Elements.{Contains-append_left, Contains-append_right, Contains-append_cases, Contains-get_or}
-use Rattle.std.proofs.{Math.Nat.eq-or-lt_of_le, lemmas.Bool.ne_eqb, lemmas.List.length-map, lemmas.List.get_or_default}
+use Rattle.std.proofs.{lemmas.Bool.ne_eqb, lemmas.List.length-map, lemmas.List.get_or_default}
 use Rattle.std.specs.{Prelude.nat_le, Prelude.nat_eq, List.Contains}
 use Rattle.rv_base.specs.{declared.value.Value.Value, declared.value.Value.TheVariants.Flag, declared.value.Value.TheVariants.Whole}
 use Rattle.rv_tree.specs.{declared.tree.Op.Op, Places.Sites}
@@ -17,21 +17,23 @@ use Rattle.rv_agreement.specs.Valuations.{Valuation, Reading, at_point, holds_tr
 use Rattle.rv_agreement.specs.Valuations.{comparisons, form_comparisons, comparisons_of, item_comparisons, all_items, all_comparisons, is_of_integers}
 use Rattle.rv_agreement.specs.Valuations.{is_linear, read}
 use Rattle.rv_agreement.specs.Agreement.{State, found_in, IsWholeInstant, value_there, IsRule, IsPlaced, IsNamed, Fits, FormFits, AllFit, ItemFits, IsWell}
-use Rattle.rv_agreement.proofs.Operators.{truth_at, constant_at, scaled_at, operated_at}
-use Rattle.rv_agreement.proofs.{LinearLemmas.Laws, LinearLemmas.told, Controls.of_integers, Controls.never_linear}
+use Rattle.rv_agreement.proofs.Operators.{truth_at, on_at, constant_at, scaled_at, operated_at}
+use Rattle.rv_agreement.proofs.{LinearLemmas.told, Controls.of_integers, Controls.never_linear, Controls.clock_there}
+use Rattle.rv_meaning.proofs.{Below.each_below, NameLemmas.of_first, NameLemmas.of_second}
 use Rattle.rv_types.proofs.Members.{cons_cases, in_flat_map, nothing_in, of_flat_map}
 
 -- Lists.
 
+-- what follows from an element of each part of a joined list follows from one of the whole
+pub of_two : {X P : Type 0} (xs ys : List X) (x : X) → Contains (xs ++ ys) x → (Contains xs x → P) → (Contains ys x → P) → P
+of_two xs ys x w p q = ⊎_elim p q (Contains-append_cases xs ys x w)
+
+pub of_three : {X P : Type 0} (xs ys zs : List X) (x : X) → Contains (xs ++ (ys ++ zs)) x → (Contains xs x → P) → (Contains ys x → P) → (Contains zs x → P) → P
+of_three xs ys zs x w p q r = of_two xs (ys ++ zs) x w p (λ v. of_two ys zs x v q r)
+
 -- an element of the list of one is it
 pub only_one : {X : Type 0} (y x : X) → Contains (y ∷ []) x → y ≡ x
 only_one y x w = elim (cons_cases y [] x w) [ inl is ↦ is | inr rest ↦ nothing_in x rest ]
-
--- where a value is there, its clock is
-pub there_of_on : {V : Type 0} (b : Bool) (x : V) (test : V → Bool) (on : Option V → Bool) → (on Nothing ≡ false) → on (cond b (Some x) Nothing) ≡ true
-    → b ≡ true
-there_of_on true x test on none e = refl
-there_of_on false x test on none e = let bad : false ≡ true = sym none ∙ e in absurd (grind arith)
 
 chosen_at : (x : List ℤ) (b : Bool) (p q : Reading) → cond b (at_point x p) (at_point x q) ≡ at_point x (cond b p q)
 chosen_at x true p q = refl
@@ -62,6 +64,16 @@ in_own true false y c w = only_one y c w
 in_own false b y c w = nothing_in c w
 
 module _ (s : System) where
+  -- the items of a system by their numbers
+  pub flow_in : (k : ℕ) → k < length s.flows → Contains (all_items s) (nth_item s.flows k)
+  flow_in k lt = Contains-append_left s.flows _ _ (Contains-get_or s.flows k no_item lt)
+
+  pub memory_in : (m : ℕ) → m < length s.memories → Contains (all_items s) (nth_item (memory_items s) m)
+  memory_in m lt = Contains-append_right s.flows _ _ (Contains-append_left (memory_items s) _ _ (Contains-get_or (memory_items s) m no_item (rw length-map lt)))
+
+  assertion_in : (k : ℕ) → k < length s.assertions → Contains (all_items s) (nth_item s.assertions k)
+  assertion_in k lt = Contains-append_right s.flows _ _ (Contains-append_right (memory_items s) _ _ (Contains-get_or s.assertions k no_item lt))
+
   -- what is over the first flows is over more
   wider_clock : (n more : ℕ) → n ≤ more → (k : Option ℕ) → IsNamed n k → IsNamed more k
   wider_clock n more le Nothing fit = fit
@@ -73,11 +85,7 @@ module _ (s : System) where
       wider k j (Node at form) fit = wider_form k j at form fit
 
       wider_form : (k : Option ℕ) (j : Kind) (at : Sites) (form : TreeForm) → FormFits s n k j at form → FormFits s more k j at form
-      wider_form k j at (Constant c) fit = fit
       wider_form k j at (Flow c) fit = (omega (arith, fit.0), fit.1, fit.2)
-      wider_form k j at (Memory m) fit = fit
-      wider_form k j at (Ticked t) fit = fit
-      wider_form k j at (Input i) fit = fit
       wider_form k j at (Not e) fit = (fit.0, wider k kind.Bool e fit.1)
       wider_form k j at (Binary o a b) fit = (fit.0, fit.1, fit.2, wider k fit.0 a fit.3, wider k fit.0 b fit.4)
       wider_form k j at (Scale z e) fit = (fit.0, wider k kind.Int e fit.1)
@@ -85,6 +93,7 @@ module _ (s : System) where
       wider_form k j at (AtMostOne es) fit = (fit.0, wider_all k es fit.1)
       wider_form k j at (When c e) fit = (fit.0, omega (arith, fit.1), wider (nth_item s.flows c).clock j e fit.2)
       wider_form k j at (Current m i e) fit = (fit.0, fit.1, fit.2, wider_clock n more le i fit.3, wider i j e fit.4)
+      wider_form k j at _ fit = fit
 
       wider_all : (k : Option ℕ) (es : FlatTrees) → AllFit s n k es → AllFit s more k es
       wider_all k None fit = fit
@@ -111,20 +120,14 @@ module _ (s : System) where
       inside_form : (k : Option ℕ) (j : Kind) (at : Sites) (form : TreeForm) → IsNamed n k → FormFits s n k j at form
           → ((d : Comparison) → Contains (form_comparisons s.flows k at form) d → P d)
           → (c : Comparison) → Contains (form_comparisons s.flows k at form) c → Inside P n c
-      inside_form k j at (Constant z) named fit all c w = nothing_in c w
-      inside_form k j at (Flow x) named fit all c w = nothing_in c w
-      inside_form k j at (Memory m) named fit all c w = nothing_in c w
-      inside_form k j at (Ticked t) named fit all c w = nothing_in c w
-      inside_form k j at (Input x) named fit all c w = nothing_in c w
       inside_form k j at (Not e) named fit all c w = inside k kind.Bool e named fit.1 all c w
       inside_form k j at (Binary o a b) named fit all c w =
           let y : Comparison = record { at = at; clock = k; operator = o; left = a; right = b } in
           let lefts = comparisons s.flows k a in
           let rights = comparisons s.flows k b in
-          let in_left : (d : Comparison) → Contains lefts d → P d = λ d u. all d
-          (Contains-append_right (own o y) (lefts ++ rights) d (Contains-append_left lefts rights d u)) in
-          let in_right : (d : Comparison) → Contains rights d → P d = λ d u. all d
-          (Contains-append_right (own o y) (lefts ++ rights) d (Contains-append_right lefts rights d u)) in
+          let parts : (d : Comparison) → Contains (lefts ++ rights) d → P d = of_second (own o y) (lefts ++ rights) all in
+          let in_left : (d : Comparison) → Contains lefts d → P d = of_first lefts rights parts in
+          let in_right : (d : Comparison) → Contains rights d → P d = of_second lefts rights parts in
           elim (Contains-append_cases (own o y) (lefts ++ rights) c w) [
             | inl here ↦ subst (Inside P n) (in_own (is_placed at) (nat_eq (length (sides_of o)) 0) y c here)
                 (record { named = named; operand = fit.0; left = fit.3; right = fit.4; left_all = in_left; right_all = in_right })
@@ -138,26 +141,20 @@ module _ (s : System) where
           let tests = comparisons s.flows k t in
           let lefts = comparisons s.flows k a in
           let rights = comparisons s.flows k b in
-          elim (Contains-append_cases tests (lefts ++ rights) c w) [
-            | inl here ↦ inside k kind.Bool t named fit.0 (λ d u. all d (Contains-append_left tests (lefts ++ rights) d u)) c here
-            | inr rest ↦ elim (Contains-append_cases lefts rights c rest) [
-              | inl u ↦ inside k j a named fit.1 (λ d z. all d (Contains-append_right tests (lefts ++ rights) d (Contains-append_left lefts rights d z))) c u
-              | inr u ↦ inside k j b named fit.2 (λ d z. all d (Contains-append_right tests (lefts ++ rights) d (Contains-append_right lefts rights d z))) c u
-            ]
-          ]
+          let parts : (d : Comparison) → Contains (lefts ++ rights) d → P d = of_second tests (lefts ++ rights) all in
+          of_three tests lefts rights c w (inside k kind.Bool t named fit.0 (of_first tests (lefts ++ rights) all) c)
+          (inside k j a named fit.1 (of_first lefts rights parts) c) (inside k j b named fit.2 (of_second lefts rights parts) c)
       inside_form k j at (AtMostOne es) named fit all c w = inside_all k es named fit.1 all c w
       inside_form k j at (When x e) named fit all c w = inside (nth_item s.flows x).clock j e (clocks x fit.1) fit.2 all c w
-      inside_form k j at (Current m i e) named fit all c w = nothing_in c w
+      inside_form k j at _ named fit all c w = nothing_in c w
 
       inside_all : (k : Option ℕ) (es : FlatTrees) → IsNamed n k → AllFit s n k es → ((d : Comparison) → Contains (comparisons_of s.flows k es) d → P d)
           → (c : Comparison) → Contains (comparisons_of s.flows k es) c → Inside P n c
       inside_all k None named fit all c w = nothing_in c w
       inside_all k (More e es) named fit all c w =
-          elim (Contains-append_cases (comparisons s.flows k e) (comparisons_of s.flows k es) c w) [
-            | inl here ↦ inside k kind.Bool e named fit.0 (λ d u. all d (Contains-append_left (comparisons s.flows k e) (comparisons_of s.flows k es) d u)) c
-                here
-            | inr rest ↦ inside_all k es named fit.1 (λ d u. all d (Contains-append_right (comparisons s.flows k e) (comparisons_of s.flows k es) d u)) c rest
-          ]
+          let lefts = comparisons s.flows k e in
+          let rights = comparisons_of s.flows k es in
+          of_two lefts rights c w (inside k kind.Bool e named fit.0 (of_first lefts rights all) c) (inside_all k es named fit.1 (of_second lefts rights all) c)
 
 module _ (s : System) (v : Valuation) (now : State) (inputs : List Value) (row : List (Option Value)) (symbolic : List (Option Reading)) (x : List ℤ) where
   -- what an expression has in whole numbers
@@ -185,26 +182,13 @@ module _ (s : System) (v : Valuation) (now : State) (inputs : List Value) (row :
   IsTold c = there c.clock ≡ true → AreMatched c → is_of_integers c.operator (reading c.left) (reading c.right) ≡ true
       → (side : Side) → Contains (sides_of c.operator) side → v.test c.at side ≡ told side (number (whole c.left)) (number (whole c.right))
 
-  module _ (laws : Laws) (well : IsWell s) (found : IsFound) (instant : IsSymbolic s v symbolic)
-      (tell : (c : Comparison) → Contains (all_comparisons s) c → IsTold c) where
-    on_at : (o : Option Reading) → is_on Value integers (value_there x o) ≡ is_on Reading (reads_at s v) o
-    on_at Nothing = refl
-    on_at (Some a) = truth_at x a
-
+  module _ (well : IsWell s) (found : IsFound) (instant : IsSymbolic s v symbolic) (tell : (c : Comparison) → Contains (all_comparisons s) c → IsTold c) where
     held_at : (o : Option Reading) → held Value integers (value_there x o) ≡ at_point x (held Reading (reads_at s v) o)
     held_at Nothing = refl
     held_at (Some a) = refl
 
     memory_told : (m : ℕ) (c : Comparison) → m < length s.memories → Contains (item_comparisons s.flows (nth_item (memory_items s) m)) c → IsTold c
-    memory_told m c lt w =
-        let within : m < length (memory_items s) = rw length-map lt in
-        tell c (in_flat_map (item_comparisons s.flows) (all_items s) (nth_item (memory_items s) m) c
-        (Contains-append_right s.flows (memory_items s ++ s.assertions) (nth_item (memory_items s) m)
-        (Contains-append_left (memory_items s) s.assertions (nth_item (memory_items s) m) (Contains-get_or (memory_items s) m no_item within)))
-        w)
-
-    flow_in : (k : ℕ) → k < length s.flows → Contains (all_items s) (nth_item s.flows k)
-    flow_in k lt = Contains-append_left s.flows (memory_items s ++ s.assertions) (nth_item s.flows k) (Contains-get_or s.flows k no_item lt)
+    memory_told m c lt w = tell c (in_flat_map (item_comparisons s.flows) (all_items s) (nth_item (memory_items s) m) c (memory_in s m lt) w)
 
     item_told : (y : Item) → Contains (all_items s) y → (c : Comparison) → Contains (comparisons s.flows y.clock y.body) c → IsTold c
     item_told y w c inside = tell c (in_flat_map (item_comparisons s.flows) (all_items s) y c w inside)
@@ -213,14 +197,7 @@ module _ (s : System) (v : Valuation) (now : State) (inputs : List Value) (row :
       where
         there_at : (k : Option ℕ) → IsNamed n k → is_there Value integers row k ≡ there k
         there_at Nothing fit = refl
-        there_at (Some k) fit = ap (is_on Value integers) (agree k fit) ∙ on_at (nth Reading (reads_at s v) symbolic k)
-
-        -- the clock of a clock that is there is there
-        clock_of_clock : (c : ℕ) → c < n → there (Some c) ≡ true → there (nth_item s.flows c).clock ≡ true
-        clock_of_clock c lt on =
-            let is = instant.holds c (omega arith) in
-            there_of_on (there (nth_item s.flows c).clock) (reading (nth_item s.flows c).body) holds_true (is_on Reading (reads_at s v)) refl
-            (ap (is_on Reading (reads_at s v)) (sym is) ∙ on)
+        there_at (Some k) fit = ap (is_on Value integers) (agree k fit) ∙ on_at x (width s) v.test (nth Reading (reads_at s v) symbolic k)
 
         match_binary : (k : Option ℕ) (at : Sites) (o : Op) (i j : Kind) (a b : FlatTree) → IsRule o i j → IsPlaced at o i
             → (is_integer i ≡ false → is_linear (reading a) ≡ false)
@@ -229,7 +206,7 @@ module _ (s : System) (v : Valuation) (now : State) (inputs : List Value) (row :
             → operate o false (whole a) (whole b) ≡ at_point x (form_value Reading (reads_at s v) (found_at s v) symbolic at (Binary o a b))
         match_binary k at o i j a b rule placed control left right on say =
             (λ t. operate o false (left t) (right t))
-            ∙ operated_at laws x (width s) v.test at o i j (reading a) (reading b) rule
+            ∙ operated_at x (width s) v.test at o i j (reading a) (reading b) rule
             (λ integral side w.
             let c : Comparison = record { at = at; clock = k; operator = o; left = a; right = b } in
             let there_is : is_placed at ≡ true = placed (some_sides (sides_of o) side w)
@@ -255,31 +232,32 @@ module _ (s : System) (v : Valuation) (now : State) (inputs : List Value) (row :
           match_form : (k : Option ℕ) (j : Kind) (at : Sites) (form : TreeForm) → FormFits s n k j at form → there k ≡ true
               → ((c : Comparison) → Contains (form_comparisons s.flows k at form) c → IsTold c)
               → form_value Value integers (found_in now inputs) row at form ≡ at_point x (form_value Reading (reads_at s v) (found_at s v) symbolic at form)
-          match_form k j at (Constant c) fit on told = constant_at laws x (width s) v.test c
+          match_form k j at (Constant c) fit on told = constant_at x (width s) v.test c
           match_form k j at (Flow c) fit on told = ap (held Value integers) (agree c fit.0) ∙ held_at (nth Reading (reads_at s v) symbolic c)
           match_form k j at (Memory m) fit on told = found.kept m fit.0
           match_form k j at (Ticked t) fit on told = ap Flag (found.ticked t fit.0)
           match_form k j at (Input i) fit on told = found.given i fit.0
           match_form k j at (Not e) fit on told = ap (λ t. Flag (not t)) (truth_of e (match k kind.Bool e fit.1 on told))
-          match_form k j at (Binary o a b) fit on told = match_binary k at o fit.0 j a b fit.1 fit.2
-              (never_linear s v symbolic well instant n most k fit.0 a fit.3)
-              (match k fit.0 a fit.3 on (λ c w. told c (Contains-append_right (own o (record { at = at; clock = k; operator = o; left = a; right = b }))
-              (comparisons s.flows k a ++ comparisons s.flows k b) c (Contains-append_left (comparisons s.flows k a) (comparisons s.flows k b) c w))))
-              (match k fit.0 b fit.4 on (λ c w. told c (Contains-append_right (own o (record { at = at; clock = k; operator = o; left = a; right = b }))
-              (comparisons s.flows k a ++ comparisons s.flows k b) c (Contains-append_right (comparisons s.flows k a) (comparisons s.flows k b) c w))))
-              on told
+          match_form k j at (Binary o a b) fit on told =
+              let lefts = comparisons s.flows k a in
+              let rights = comparisons s.flows k b in
+              let y : Comparison = record { at = at; clock = k; operator = o; left = a; right = b } in
+              let parts : (c : Comparison) → Contains (lefts ++ rights) c → IsTold c = of_second (own o y) (lefts ++ rights) told in
+              match_binary k at o fit.0 j a b fit.1 fit.2 (never_linear s v symbolic well instant n most k fit.0 a fit.3)
+              (match k fit.0 a fit.3 on (of_first lefts rights parts)) (match k fit.0 b fit.4 on (of_second lefts rights parts)) on told
           match_form k j at (Scale z e) fit on told = ap (λ u. Whole (z *ℤ number u)) (match k kind.Int e fit.1 on told)
-              ∙ scaled_at laws x (width s) v.test z (reading e)
+              ∙ scaled_at x (width s) v.test z (reading e)
           match_form k j at (If c a b) fit on told =
-              (λ i. cond (truth_of c (match k kind.Bool c fit.0 on (λ d w. told d
-              (Contains-append_left (comparisons s.flows k c) (comparisons s.flows k a ++ comparisons s.flows k b) d w))) i)
-              (match k j a fit.1 on (λ d w. told d (Contains-append_right (comparisons s.flows k c) (comparisons s.flows k a ++ comparisons s.flows k b) d
-              (Contains-append_left (comparisons s.flows k a) (comparisons s.flows k b) d w))) i)
-              (match k j b fit.2 on (λ d w. told d (Contains-append_right (comparisons s.flows k c) (comparisons s.flows k a ++ comparisons s.flows k b) d
-              (Contains-append_right (comparisons s.flows k a) (comparisons s.flows k b) d w))) i))
+              let tests = comparisons s.flows k c in
+              let lefts = comparisons s.flows k a in
+              let rights = comparisons s.flows k b in
+              let parts : (d : Comparison) → Contains (lefts ++ rights) d → IsTold d = of_second tests (lefts ++ rights) told in
+              (λ i. cond (truth_of c (match k kind.Bool c fit.0 on (of_first tests (lefts ++ rights) told)) i)
+              (match k j a fit.1 on (of_first lefts rights parts) i) (match k j b fit.2 on (of_second lefts rights parts) i))
               ∙ chosen_at x (holds_true (reading c)) (reading a) (reading b)
           match_form k j at (AtMostOne es) fit on told = ap (λ t. Flag (nat_le t 1)) (match_trues k es fit.1 on told)
-          match_form k j at (When c e) fit on told = match (nth_item s.flows c).clock j e fit.2 (clock_of_clock c fit.1 (ap there (sym fit.0) ∙ on)) told
+          match_form k j at (When c e) fit on told =
+              match (nth_item s.flows c).clock j e fit.2 (clock_there s v symbolic well instant c (omega (arith, fit.1)) (ap there (sym fit.0) ∙ on)) told
           match_form k j at (Current m i e) fit on told =
               ap (λ b. cond b (whole e) ((found_in now inputs).kept m)) (there_at i fit.3)
               ∙ current_of m i e (there i) refl (λ is. match i j e fit.4 is
@@ -290,9 +268,8 @@ module _ (s : System) (v : Valuation) (now : State) (inputs : List Value) (row :
               → trues Value integers (found_in now inputs) row es ≡ trues Reading (reads_at s v) (found_at s v) symbolic es
           match_trues k None fit on told = refl
           match_trues k (More e es) fit on told = λ i.
-              cond (truth_of e (match k kind.Bool e fit.0 on (λ c w. told c (Contains-append_left (comparisons s.flows k e) (comparisons_of s.flows k es) c w)))
-              i) 1 0
-              + match_trues k es fit.1 on (λ c w. told c (Contains-append_right (comparisons s.flows k e) (comparisons_of s.flows k es) c w)) i
+              cond (truth_of e (match k kind.Bool e fit.0 on (of_first (comparisons s.flows k e) (comparisons_of s.flows k es) told)) i) 1 0
+              + match_trues k es fit.1 on (of_second (comparisons s.flows k e) (comparisons_of s.flows k es) told) i
 
         -- an item has the same
         body_match : (j : Kind) (y : Item) → ItemFits s n j y → Contains (all_items s) y → there y.clock ≡ true → whole y.body ≡ at_point x (reading y.body)
@@ -300,19 +277,16 @@ module _ (s : System) (v : Valuation) (now : State) (inputs : List Value) (row :
 
         item_match : (j : Kind) (y : Item) → ItemFits s n j y → Contains (all_items s) y
             → item_value Value integers (found_in now inputs) row y ≡ value_there x (item_value Reading (reads_at s v) (found_at s v) symbolic y)
-        item_match j y fit w = ap (λ b. cond b (Some (whole y.body)) Nothing) (there_at y.clock fit.0) ∙ by (there y.clock) refl
-          where
-            by : (b : Bool) → there y.clock ≡ b → cond b (Some (whole y.body)) Nothing ≡ value_there x (cond b (Some (reading y.body)) Nothing)
-            by true is = ap Some (body_match j y fit w is)
-            by false is = refl
+        item_match j y fit w = ap (λ b. cond b (Some (whole y.body)) Nothing) (there_at y.clock fit.0)
+            ∙ (elim (there y.clock)
+            as (λ b. there y.clock ≡ b → cond b (Some (whole y.body)) Nothing ≡ value_there x (cond b (Some (reading y.body)) Nothing))
+            [ true ↦ λ is. ap Some (body_match j y fit w is) | false ↦ λ is. refl ] refl)
 
         met_match : (j : Kind) (y : Item) → ItemFits s n j y → Contains (all_items s) y
             → is_met Value integers (found_in now inputs) row y ≡ is_met Reading (reads_at s v) (found_at s v) symbolic y
-        met_match j y fit w = ap (λ b. cond b (is_true (whole y.body)) true) (there_at y.clock fit.0) ∙ by (there y.clock) refl
-          where
-            by : (b : Bool) → there y.clock ≡ b → cond b (is_true (whole y.body)) true ≡ cond b (holds_true (reading y.body)) true
-            by true is = truth_of y.body (body_match j y fit w is)
-            by false is = refl
+        met_match j y fit w = ap (λ b. cond b (is_true (whole y.body)) true) (there_at y.clock fit.0)
+            ∙ (elim (there y.clock) as (λ b. there y.clock ≡ b → cond b (is_true (whole y.body)) true ≡ cond b (holds_true (reading y.body)) true)
+            [ true ↦ λ is. truth_of y.body (body_match j y fit w is) | false ↦ λ is. refl ] refl)
 
         after_match : (j : Kind) (y : Item) (m : ℕ) → ItemFits s n j y → Contains (all_items s) y → m < length s.memories
             → after Value integers (found_in now inputs) row y m ≡ at_point x (after Reading (reads_at s v) (found_at s v) symbolic y m)
@@ -322,71 +296,39 @@ module _ (s : System) (v : Valuation) (now : State) (inputs : List Value) (row :
 
     module _ (rows : IsWholeInstant s now inputs row) where
       -- the flows have the same
-      flows_match : (n : ℕ) → n ≤ length s.flows → (k : ℕ) → k < n → nth Value integers row k ≡ value_there x (nth Reading (reads_at s v) symbolic k)
-      flows_match zero le k less = absurd (omega arith)
-      flows_match (suc n) le k less =
-          let before = flows_match n (omega arith) in
-          elim (eq-or-lt_of_le {n = k} {m = n} (omega arith)) [
-            | inl same ↦ subst (λ j. nth Value integers row j ≡ value_there x (nth Reading (reads_at s v) symbolic j)) (sym same)
-                (rows.holds n (omega arith)
-                ∙ item_match n (omega arith) before (kind_at s.kinds n) (nth_item s.flows n) (well.flows n (omega arith)) (flow_in n (omega arith))
-                ∙ ap (value_there x) (sym (instant.holds n (omega arith))))
-            | inr below ↦ before k below
-          ]
-
-      abbrev all_agree : Type 0
-      all_agree = (k : ℕ) → k < length s.flows → nth Value integers row k ≡ value_there x (nth Reading (reads_at s v) symbolic k)
-
-      agreed : all_agree
-      agreed = flows_match (length s.flows) (omega arith)
-
-      memory_in : (m : ℕ) → m < length s.memories → Contains (all_items s) (nth_item (memory_items s) m)
-      memory_in m lt =
-          let within : m < length (memory_items s) = rw length-map lt in
-          Contains-append_right s.flows (memory_items s ++ s.assertions) (nth_item (memory_items s) m)
-          (Contains-append_left (memory_items s) s.assertions (nth_item (memory_items s) m) (Contains-get_or (memory_items s) m no_item within))
-
-      assertion_in : (k : ℕ) → k < length s.assertions → Contains (all_items s) (nth_item s.assertions k)
-      assertion_in k lt =
-          Contains-append_right s.flows (memory_items s ++ s.assertions) (nth_item s.assertions k)
-          (Contains-append_right (memory_items s) s.assertions (nth_item s.assertions k) (Contains-get_or s.assertions k no_item lt))
-
       pub flow_same : (k : ℕ) → k < length s.flows → nth Value integers row k ≡ value_there x (nth Reading (reads_at s v) symbolic k)
-      flow_same = agreed
+      flow_same = each_below (λ k. nth Value integers row k ≡ value_there x (nth Reading (reads_at s v) symbolic k)) (length s.flows) (λ n lt before.
+          rows.holds n lt ∙ item_match n (omega arith) before (kind_at s.kinds n) (nth_item s.flows n) (well.flows n lt) (flow_in s n lt)
+          ∙ ap (value_there x) (sym (instant.holds n lt)))
 
       pub there_same : (k : Option ℕ) → IsNamed (length s.flows) k → is_there Value integers row k ≡ there k
-      there_same = there_at (length s.flows) (omega arith) agreed
+      there_same = there_at (length s.flows) (omega arith) flow_same
 
       pub assertion_same : (k : ℕ) → k < length s.assertions
           → is_met Value integers (found_in now inputs) row (nth_item s.assertions k) ≡ is_met Reading (reads_at s v) (found_at s v) symbolic
           (nth_item s.assertions k)
-      assertion_same k lt = met_match (length s.flows) (omega arith) agreed kind.Bool (nth_item s.assertions k) (well.assertions k lt) (assertion_in k lt)
+      assertion_same k lt = met_match (length s.flows) (omega arith) flow_same kind.Bool (nth_item s.assertions k) (well.assertions k lt) (assertion_in s k lt)
 
       pub memory_same : (m : ℕ) → m < length s.memories
           → after Value integers (found_in now inputs) row (nth_item (memory_items s) m) m ≡ at_point x
           (after Reading (reads_at s v) (found_at s v) symbolic (nth_item (memory_items s) m) m)
-      memory_same m lt = after_match (length s.flows) (omega arith) agreed (kind_at (memory_kinds s) m) (nth_item (memory_items s) m) m (well.memories m lt)
-          (memory_in m lt) lt
+      memory_same m lt = after_match (length s.flows) (omega arith) flow_same (kind_at (memory_kinds s) m) (nth_item (memory_items s) m) m (well.memories m lt)
+          (memory_in s m lt) lt
 
       -- each item is over the flows
       fits_all : (y : Item) → Contains (all_items s) y → (j : Kind) × ItemFits s (length s.flows) j y
       fits_all y w = elim (Contains-append_cases s.flows (memory_items s ++ s.assertions) y w) [
-        | inl flow ↦ (
-          kind_at s.kinds flow.0,
-          subst (ItemFits s (length s.flows) (kind_at s.kinds flow.0)) (read_in s.flows y flow)
-              (wider_item s flow.0 (length s.flows) (omega (arith, flow.1)) (kind_at s.kinds flow.0) (nth_item s.flows flow.0) (well.flows flow.0 flow.1)),
-        )
+        | inl flow ↦
+            let j = kind_at s.kinds flow.0 in
+            let fit = wider_item s flow.0 (length s.flows) (omega (arith, flow.1)) j (nth_item s.flows flow.0) (well.flows flow.0 flow.1) in
+            (j, subst (ItemFits s (length s.flows) j) (read_in s.flows y flow) fit)
         | inr rest ↦ elim (Contains-append_cases (memory_items s) s.assertions y rest) [
-          | inl memory ↦ (
-            kind_at (memory_kinds s) memory.0,
-            subst (ItemFits s (length s.flows) (kind_at (memory_kinds s) memory.0)) (read_in (memory_items s) y memory)
-                (well.memories memory.0 (let lt : memory.0 < length (memory_items s) = memory.1 in simp length-map at lt)),
-          )
-          | inr assertion ↦ (
-            kind.Bool,
-            subst (ItemFits s (length s.flows) kind.Bool) (read_in s.assertions y assertion)
-                (well.assertions assertion.0 assertion.1),
-          )
+          | inl memory ↦
+              let j = kind_at (memory_kinds s) memory.0 in
+              let lt : memory.0 < length (memory_items s) = memory.1 in
+              (j, subst (ItemFits s (length s.flows) j) (read_in (memory_items s) y memory) (well.memories memory.0 (simp length-map at lt)))
+          | inr assertion ↦
+              (kind.Bool, subst (ItemFits s (length s.flows) kind.Bool) (read_in s.assertions y assertion) (well.assertions assertion.0 assertion.1))
         ]
       ]
 
@@ -406,8 +348,6 @@ module _ (s : System) (v : Valuation) (now : State) (inputs : List Value) (row :
       -- the operands of a present comparison have the same
       pub operands_same : (c : Comparison) → Contains (all_comparisons s) c → there c.clock ≡ true → AreMatched c
       operands_same c w on =
-          let i = within c w in (
-            match (length s.flows) (omega arith) agreed c.clock i.operand c.left i.left on i.left_all,
-            match (length s.flows) (omega arith) agreed c.clock
-                i.operand c.right i.right on i.right_all,
-          )
+          let i = within c w in
+          let same = match (length s.flows) (omega arith) flow_same c.clock i.operand in
+          (same c.left i.left on i.left_all, same c.right i.right on i.right_all)

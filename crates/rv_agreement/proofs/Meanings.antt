@@ -31,22 +31,8 @@ turned false x y = refl
 operator_same : (o : Op) (first : Bool) (choice product a b : Value) → choice ≡ cond first a b → (o ≡ op.Times → product ≡ Whole (number a *ℤ number b))
     → operation o choice product (operate o false a b) ≡ operate o first a b
 operator_same op.Arrow first choice product a b chosen times = chosen
-operator_same op.Implies first choice product a b chosen times = refl
-operator_same op.Or first choice product a b chosen times = refl
-operator_same op.Xor first choice product a b chosen times = refl
-operator_same op.And first choice product a b chosen times = refl
-operator_same op.Equal first choice product a b chosen times = refl
-operator_same op.Differs first choice product a b chosen times = refl
-operator_same op.Less first choice product a b chosen times = refl
-operator_same op.AtMost first choice product a b chosen times = refl
-operator_same op.Greater first choice product a b chosen times = refl
-operator_same op.AtLeast first choice product a b chosen times = refl
-operator_same op.Plus first choice product a b chosen times = refl
-operator_same op.Minus first choice product a b chosen times = refl
 operator_same op.Times first choice product a b chosen times = times refl
-operator_same op.Slash first choice product a b chosen times = refl
-operator_same op.Div first choice product a b chosen times = refl
-operator_same op.Mod first choice product a b chosen times = refl
+operator_same _ first choice product a b chosen times = refl
 
 product_same : (c : Bool) (y z : ℤ) (a b : Value) → (c ≡ true → number a ≡ y) → (c ≡ false → number b ≡ z)
     → cond c (Whole (y *ℤ number b)) (Whole (z *ℤ number a)) ≡ Whole (number a *ℤ number b)
@@ -72,14 +58,10 @@ module _ (program : ProgramTree) (state : State) (inputs : ℕ → Value) (row :
 
     form_same : (site : Option ℕ) (form : Form) → FormHasProducts program state row i site form
         → form_meant Value integers program (found_of state inputs) (cell row) i site form ≡ form_now program state row i site form
-    form_same site tree.True products = refl
-    form_same site tree.False products = refl
-    form_same site (tree.Number n) products = refl
     form_same site (tree.Named x) products = named_same x (is_flow i.node x)
     form_same site (tree.Not e) products = ap (λ v. Flag (not (is_true v))) (meant_same e products)
     form_same site (tree.Minus e) products = ap (λ v. Whole (negsuc 0 *ℤ number v)) (meant_same e products)
         ∙ ap Whole (less_times (number (now program state row i e)))
-    form_same site (tree.Pre e) products = refl
     form_same site (tree.Current e) products = λ t. cond (there_same (clock_in i Base e) t) (meant_same e products t) (state.kept (kept_place i site e))
     form_same site (tree.When e c) products = meant_same e products
     form_same site (tree.Binary o a b) products =
@@ -89,14 +71,13 @@ module _ (program : ProgramTree) (state : State) (inputs : ℕ → Value) (row :
         let right = meant_same b products.1 in
         (λ t. operation o (cond (state.ticked k) (right t) (left t)) (cond c (Whole (coefficient program a *ℤ number (right t)))
         (Whole (coefficient program b *ℤ number (left t)))) (operate o false (left t) (right t)))
-        ∙ operator_same o (not (state.ticked k)) (cond (state.ticked k) (now program state row i b) (now program state row i a))
-        (cond c (Whole (coefficient program a *ℤ number (now program state row i b))) (Whole (coefficient program b *ℤ number (now program state row i a))))
-        (now program state row i a) (now program state row i b) (turned (state.ticked k) (now program state row i a) (now program state row i b))
+        ∙ operator_same o _ _ _ _ _ (turned (state.ticked k) (now program state row i a) (now program state row i b))
         (λ times. product_same c (coefficient program a) (coefficient program b) (now program state row i a) (now program state row i b) (products.2 times)
         (products.3 times))
     form_same site (tree.If a b c) products = λ t. cond (is_true (meant_same a products.0 t)) (meant_same b products.1 t) (meant_same c products.2 t)
     form_same site (tree.AtMostOne es) products = ap (λ n. Flag (nat_le n 1)) (trues_same es products)
     form_same site (tree.Call f args) products = held_same (cell row (output_place program i (unwrap_or site 0) f 0))
+    form_same site _ products = refl
 
     trues_same : (es : Trees) → AllHaveProducts program state row i es
         → trues_meant Value integers program (found_of state inputs) (cell row) i es ≡ trues_now program state row i es

@@ -6,9 +6,10 @@ use Rattle.std.specs.Prelude.{nat_le}
 use Rattle.rv_tree.specs.Places.{Sites}
 use Rattle.rv_types.specs.declared.typed.Kind.{Kind}
 use Rattle.rv_types.specs.declared.typed.Kind.TheVariants as kind
-use Rattle.rv_agreement.specs.Trees.{FlatTree, Node, TreeForm, FlatTrees, Constant, Flow, Memory, Ticked, Input, Not, Binary, Scale, If, AtMostOne, When}
-use Rattle.rv_agreement.specs.Trees.{Current, None, More, Item, nth_item, System, kind_at}
+use Rattle.rv_agreement.specs.Trees.{FlatTree, Node, TreeForm, FlatTrees, Flow, Not, Binary, Scale, If, AtMostOne, When, Current, None, More, Item, nth_item}
+use Rattle.rv_agreement.specs.Trees.{System, kind_at}
 use Rattle.rv_agreement.specs.Evaluation.{Reads, Found, IsInstant, nth, is_on, held, is_there, value, form_value, trues, item_value}
+use Rattle.rv_meaning.proofs.Below.{each_below}
 use Rattle.rv_agreement.specs.Agreement.{Fits, FormFits, AllFit, ItemFits, IsNamed, IsWell}
 
 module _ (V : Type 0) (r : Reads V) (s : System) (found : Found V) where
@@ -24,11 +25,7 @@ module _ (V : Type 0) (r : Reads V) (s : System) (found : Found V) where
 
       same_form : (k : Option ℕ) (j : Kind) (at : Sites) (form : TreeForm) → FormFits s n k j at form
           → form_value V r found row at form ≡ form_value V r found other at form
-      same_form k j at (Constant c) fit = refl
       same_form k j at (Flow c) fit = ap (held V r) (agree c fit.0)
-      same_form k j at (Memory m) fit = refl
-      same_form k j at (Ticked t) fit = refl
-      same_form k j at (Input i) fit = refl
       same_form k j at (Not e) fit = ap (λ v. r.flag (not (r.truth v))) (same_value k kind.Bool e fit.1)
       same_form k j at (Binary o a b) fit = λ t. r.operate at o (same_value k fit.0 a fit.3 t) (same_value k fit.0 b fit.4 t)
       same_form k j at (Scale z e) fit = ap (r.scale z) (same_value k kind.Int e fit.1)
@@ -36,6 +33,7 @@ module _ (V : Type 0) (r : Reads V) (s : System) (found : Found V) where
       same_form k j at (AtMostOne es) fit = ap (λ c. r.flag (nat_le c 1)) (same_trues k es fit.1)
       same_form k j at (When c e) fit = same_value (nth_item s.flows c).clock j e fit.2
       same_form k j at (Current m i e) fit = λ t. cond (same_clock i fit.3 t) (same_value i j e fit.4 t) (found.kept m)
+      same_form k j at _ fit = refl
 
       same_trues : (k : Option ℕ) (es : FlatTrees) → AllFit s n k es → trues V r found row es ≡ trues V r found other es
       same_trues k None fit = refl
@@ -71,28 +69,16 @@ module _ (V : Type 0) (r : Reads V) (s : System) (found : Found V) where
     filled_row zero le = ([], record { flows = refl; holds = λ k lt. absurd (omega arith) })
     filled_row (suc n) le =
         let before = filled_row n (omega arith) in
-        let more = before.0 ++ item_value V r found before.0 (nth_item s.flows n) ∷ [] in (
-          more,
-          subst (λ k. IsFilled k more) (let e : n + 1 ≡ suc n = omega arith in e)
-              (one_filled n before.0 (item_value V r found before.0 (nth_item s.flows n)) (omega arith) refl before.1),
-        )
+        let next = item_value V r found before.0 (nth_item s.flows n) in
+        let more = before.0 ++ next ∷ [] in
+        (more, subst (λ k. IsFilled k more) (let e : n + 1 ≡ suc n = omega arith in e) (one_filled n before.0 next (omega arith) refl before.1))
 
     -- two instants agree
-    first_agree : (row other : List (Option V)) → IsInstant V r s found row → IsInstant V r s found other → (n : ℕ) → n ≤ length s.flows → (k : ℕ) → k < n
-        → nth V r row k ≡ nth V r other k
-    first_agree row other a b zero le k less = absurd (omega arith)
-    first_agree row other a b (suc n) le k less =
-        let before = first_agree row other a b n (omega arith) in
-        elim (eq-or-lt_of_le {n = k} {m = n} (omega arith)) [
-          | inl same ↦ subst (λ j. nth V r row j ≡ nth V r other j) (sym same)
-              (a.holds n (omega arith) ∙ same_item row other n before (kind_at s.kinds n) (nth_item s.flows n) (well.flows n (omega arith))
-              ∙ sym (b.holds n (omega arith)))
-          | inr below ↦ before k below
-        ]
-
     only_row : (row other : List (Option V)) → IsInstant V r s found row → IsInstant V r s found other → other ≡ row
-    only_row row other a b =
-        ext_get_or Nothing other row (b.flows ∙ sym a.flows) (λ k lt. first_agree other row b a (length s.flows) (omega arith) k (omega (arith, b.flows)))
+    only_row row other a b = ext_get_or Nothing other row (b.flows ∙ sym a.flows) (λ k lt.
+        each_below (λ k. nth V r other k ≡ nth V r row k) (length s.flows) (λ n less before.
+        b.holds n less ∙ same_item other row n before (kind_at s.kinds n) (nth_item s.flows n) (well.flows n less) ∙ sym (a.holds n less))
+        k (omega (arith, b.flows)))
 
     pub one_row : (row : List (Option V)) × IsInstant V r s found row × ((other : List (Option V)) → IsInstant V r s found other → other ≡ row)
     one_row =

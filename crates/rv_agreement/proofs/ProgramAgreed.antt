@@ -4,18 +4,17 @@ use Rattle.std.proofs.Common.{sym, ◌∙◌, ap, subst, arith, Option, Some, Is
 use Rattle.std.proofs.{lemmas.List.length-map, lemmas.List.get_or-map, lemmas.List.get_or_past, lemmas.Bool.cases_lt, lemmas.Option.slice_get-get_or}
 use Rattle.std.specs.{Prelude.slice_index_or, List.Contains}
 use Rattle.std.specs.FinMap as finite
-use Rattle.rv_base.specs.declared.value.Value.{Value}
-use Rattle.rv_base.specs.declared.value.Value.TheVariants.{Flag, Label, Whole}
+use Rattle.rv_base.specs.{declared.value.Value.Value, declared.value.Value.TheVariants.Flag}
 use Rattle.rv_tree.specs.{Tree.Tree, Tree.AssertionTree, Tree.ProgramTree, Places.Identifier, Places.Sites, Places.index_of, Delays.Delay}
 use Rattle.rv_types.specs.Instances.{Body, Output, Right, Instance, main_instance, absolute, clock_in, clock_of, clock_of_arguments, output_place, node_of}
 use Rattle.rv_types.specs.Instances.{IsInstance, IsFlow}
 use Rattle.rv_types.specs.Needs.{Of, Gives, given, by_equation, by_call}
 use Rattle.rv_types.specs.{declared.typed.Kind.Kind, declared.typed.Clock.Clock, declared.typed.Clock.TheVariants.Base, Values.operand_kind}
-use Rattle.rv_types.specs.{Kinds.kind_in_program, Variables.is_integer, Lists.MemoryAt, Lists.delay_place}
+use Rattle.rv_types.specs.{Kinds.kind_in_program, Lists.MemoryAt, Lists.delay_place}
 use Rattle.rv_types.specs.declared.typed.Kind.TheVariants as kind
 use Rattle.rv_meaning.specs.Instants.{State, IsInstant, IsNext, AreGiven, is_on_in, now, value_now, right_now}
 use Rattle.rv_meaning.specs.{Meaning.is_true, Meaning.number, Runs.Instant, Runs.cell, Runs.flat, Runs.observer_place, Runs.AreStarts, Givers.AreDefined}
-use Rattle.rv_rows.specs.{declared.linear.Form.Form, Arithmetic.column_form}
+use Rattle.rv_rows.specs.Arithmetic.{column_form}
 use Rattle.rv_rows.specs.Forms as forms
 use Rattle.rv_agreement.specs.Valuations.{Valuation, Reading, at_point, holds_true, form_of, rank, whole_count, readings, spelled, width, reads_at, found_at}
 use Rattle.rv_agreement.specs.Valuations.{IsSymbolic, Comparison, all_comparisons, IsPresent, IsRowOf, read, tested, Agrees, updated, next_tick, IsCoded}
@@ -33,19 +32,16 @@ use Rattle.rv_agreement.specs.Agreement as flats
 use Rattle.rv_agreement.proofs.Matching.{IsFound, IsTold, read_in, flow_same, assertion_same, memory_same}
 use Rattle.rv_agreement.proofs.Systems.{forward, backward, comparison_there, comparison_from}
 use Rattle.rv_agreement.proofs.Meanings.{held_same, on_same, meant_same, there_same}
-use Rattle.rv_agreement.proofs.Witnessed.{numbered, length-numbered, numbered_at, wholes_are, has_kind, kinds_same, places_same, width_same, memory_of}
-use Rattle.rv_agreement.proofs.Witnessed.{number_of, own_number, place_numbered, clock_of_tick, tick_at, tick_numbered, is_tick}
-use Rattle.rv_agreement.proofs.{LinearLemmas.Laws, Operators.truth_at, Operators.number_at, OneRow.one_row, Found.is_found, Agreed.tell_agreed}
-use Rattle.rv_agreement.proofs.{Agreed.some_agreed, Agreed.alike, Spelled.same_bits, Stepped.spelled_as, Translated.on_clock, Translated.value_read}
+use Rattle.rv_agreement.proofs.Witnessed.{numbered, length-numbered, numbered_at, has_kind, kinds_same, places_same, width_same, memory_of, number_of}
+use Rattle.rv_agreement.proofs.Witnessed.{by_number, by_place, in_system, in_program, place_numbered, clock_of_tick, tick_at, tick_numbered, is_tick}
+use Rattle.rv_agreement.proofs.{Operators.on_at, Operators.number_at, OneRow.one_row, Found.is_found, Agreed.tell_agreed, Agreed.some_agreed, Agreed.alike}
+use Rattle.rv_agreement.proofs.{Spelled.same_bits, Translated.on_clock, Translated.value_read}
+use Rattle.rv_agreement.proofs.Stepped.{wholes_are, integers_are, spelled_as}
 use Rattle.rv_agreement.proofs.{Indexed.index_is, Indexed.indexed, Indexed.row_agrees, NamedParts.names_more, NamedParts.operands_named, NamedParts.AreNamedIn}
 
 -- a row has nothing at a place that it does not have
 no_cell : (row : Instant) (q : Sites) → (IsSome (finite.get row q) → ⊥) → cell row q ≡ Nothing
-no_cell row q none = by (finite.get row q) none
-  where
-    by : (o : Option (Option Value)) → (IsSome o → ⊥) → flat o ≡ Nothing
-    by Nothing none = refl
-    by (Some v) none = absurd (none refl)
+no_cell row q none = elim (finite.get row q) as (λ o. (IsSome o → ⊥) → flat o ≡ Nothing) [ Nothing ↦ λ no. refl | Some v ↦ λ no. absurd (no refl) ] none
 
 -- a value is absent or true where it is not there or true
 pub allowed : (b : Bool) (v : Value) → ((cond b (Some v) Nothing ≡ Nothing) ⊎ (cond b (Some v) Nothing ≡ Some (Flag true))) ↔ (cond b (is_true v) true ≡ true)
@@ -58,21 +54,7 @@ allowed true v = (to, from v)
 
     from : (v : Value) → is_true v ≡ true → (Some v ≡ Nothing) ⊎ (Some v ≡ Some (Flag true))
     from (Flag b) e = inr (ap (λ t. Some (Flag t)) e)
-    from (Label l) e = absurd (grind arith)
-    from (Whole z) e = absurd (grind arith)
-
--- integers that are the values of forms
-integers_are : (x : List ℤ) (ks : List Kind) (f : ℕ → Value) (g : ℕ → Form) → ((m : ℕ) → m < length ks → number (f m) ≡ forms.value (g m) x)
-    → integers_of ks f ≡ forms.values (flats.forms_from ks g) x
-integers_are x [] f g is = refl
-integers_are x (k ∷ ks) f g is = split (is_integer k) (is 0 (omega arith))
-    (integers_are x ks (λ m. f (suc m)) (λ m. g (suc m)) (λ m lt. is (suc m) (omega arith)))
-  where
-    split : (b : Bool) → number (f 0) ≡ forms.value (g 0) x → integers_of ks (λ m. f (suc m)) ≡ forms.values (flats.forms_from ks (λ m. g (suc m))) x
-        → cond b (number (f 0) ∷ integers_of ks (λ m. f (suc m))) (integers_of ks (λ m. f (suc m))) ≡ forms.values
-        (cond b (g 0 ∷ flats.forms_from ks (λ m. g (suc m))) (flats.forms_from ks (λ m. g (suc m)))) x
-    split true head rest = λ i. head i ∷ rest i
-    split false head rest = rest
+    from _ e = absurd (grind arith)
 
 -- where nothing has ticked, nothing has in the list
 none_ticked : (g : Option Sites → Bool) (ks : List (Option Sites)) → ((o : Option Sites) → g o ≡ false) → (k : ℕ) → slice_index_or (map g ks) k false ≡ false
@@ -189,10 +171,6 @@ module _ (program : ProgramTree) (main : Identifier) (numbers : Numbers) (s : Sy
       (column_form (width_same program main numbers s witness t) (whole_count (kinds_same program main numbers s witness t) + rank (witness.inputs t) j))
 
   -- the cells of what is no flow
-  is_flow_of : (q : Sites) → Contains numbers.flows q → IsFlow program main q
-  is_flow_of q w = subst (IsFlow program main) (indexed numbers.flows q w).1
-      (witness.translated.sequence.only (index_of numbers.flows q) (indexed numbers.flows q w).0)
-
   past_flows : {V : Type 0} (row : List (Option V)) → length row ≡ length s.flows → (q : Sites) → (IsFlow program main q → ⊥)
       → get_or row (index_of numbers.flows q) Nothing ≡ Nothing
   past_flows row long q none = elim (cases_lt (index_of numbers.flows q) (length numbers.flows)) [
@@ -246,11 +224,7 @@ module _ (program : ProgramTree) (main : Identifier) (numbers : Numbers) (s : Sy
     whole_names : (i : Instance) (e : Tree) → Names i place_in tick_in (IsClockOf numbers s i) e
         → Names i (λ q. (found_in (flat_state state) (flat_given inputs)).kept (index_of numbers.memories q) ≡ found_there.kept q)
         (λ k. (found_in (flat_state state) (flat_given inputs)).ticked (tick_number numbers k) ≡ found_there.ticked k) (λ x. Unit {0}) e
-    whole_names i e names = names_more i place_in (λ q. (found_in (flat_state state) (flat_given inputs)).kept (index_of numbers.memories q) ≡ found_there.kept
-        q)
-        tick_in (λ k. (found_in (flat_state state) (flat_given inputs)).ticked (tick_number numbers k) ≡ found_there.ticked k) (IsClockOf numbers s i)
-        (λ x. Unit {0})
-        (kept_found state inputs) (ticked_found state inputs) (λ x is. tt) e names
+    whole_names i e names = names_more i _ _ _ _ _ _ (kept_found state inputs) (ticked_found state inputs) (λ x is. tt) e names
 
     pub whole_instant : IsWholeInstant s (flat_state state) (flat_given inputs) (row_of (cell row))
     whole_instant = forward Value integers (λ b. refl) program main numbers s witness.translated (found_in (flat_state state) (flat_given inputs)) found_there
@@ -275,27 +249,24 @@ module _ (program : ProgramTree) (main : Identifier) (numbers : Numbers) (s : Sy
   pub typed_state : (state : State) (inputs : ℕ → Value) → AreStarts program main state.kept → AreGiven program main inputs
       → IsTyped s (flat_state state) (flat_given inputs)
   typed_state state inputs starts given_typed = record {
-    memories = record { many = long_kept state; each = λ m lt. memory_typed m (omega (arith, lt, long_kinds)) };
-    given = record { many = long_given inputs; each = input_typed };
-  }
-    where
-      memory_typed : (m : ℕ) → m < length s.memories → flats.HasKind s.labels (kind_at (memory_kinds s) m)
-          (slice_index_or (flat_state state).kept m (Flag false))
-      memory_typed m lt =
-          let o = memory_of program main numbers s witness m lt in
-          let has = has_kind program (operand_kind program o.0.node o.1.operand) (state.kept (delay_place o.0 o.1)) (starts o.0 o.1 o.2.0 o.2.1) in
-          subst (flats.HasKind s.labels (kind_at (memory_kinds s) m)) (sym (kept_at state m lt ∙ ap state.kept o.3))
-          (subst (λ j. flats.HasKind s.labels j (state.kept (delay_place o.0 o.1))) (sym o.4)
-          (subst (λ ls. flats.HasKind ls (operand_kind program o.0.node o.1.operand) (state.kept (delay_place o.0 o.1))) (sym witness.labels) has))
-
-      input_typed : (j : ℕ) → j < length s.inputs → flats.HasKind s.labels (kind_at s.inputs j) (slice_index_or (flat_given inputs) j (Flag false))
-      input_typed j lt =
+    memories = record {
+      many = long_kept state;
+      each = λ m lt.
+          let less : m < length s.memories = omega (arith, lt, long_kinds) in
+          subst (flats.HasKind s.labels (kind_at (memory_kinds s) m)) (sym (kept_at state m less))
+          (by_number program main numbers s witness (λ ls j q n. flats.HasKind ls j (state.kept q))
+          (λ i d is. has_kind program (operand_kind program i.node d.operand) (state.kept (delay_place i d)) (starts i d is.0 is.1)) m less);
+    };
+    given = record {
+      many = long_given inputs;
+      each = λ j lt.
           let less : j < length given_kinds = omega (arith, lt, ap length witness.inputs) in
-          let has = has_kind program (kind_at given_kinds j) (inputs j) (given_typed j (kind_at given_kinds j) (slice_get-get_or given_kinds j kind.Bool less))
-          in
+          let k = kind_at given_kinds j in
           subst (flats.HasKind s.labels (kind_at s.inputs j)) (sym (given_at inputs j lt))
-          (subst (λ ks. flats.HasKind s.labels (kind_at ks j) (inputs j)) (sym witness.inputs)
-          (subst (λ ls. flats.HasKind ls (kind_at given_kinds j) (inputs j)) (sym witness.labels) has))
+          (in_system program main numbers s witness (λ ls k. flats.HasKind ls k (inputs j)) j
+          (has_kind program k (inputs j) (given_typed j k (slice_get-get_or given_kinds j kind.Bool less))));
+    };
+  }
 
   clocks : AreNamed program main (λ q. Unit {0}) (λ k. Unit {0}) (IsClockOf numbers s)
   clocks = record {
@@ -306,8 +277,7 @@ module _ (program : ProgramTree) (main : Identifier) (numbers : Numbers) (s : Sy
     where
       clock_names : (i : Instance) (e : Tree) → Names i place_in tick_in (IsClockOf numbers s i) e
           → Names i (λ q. Unit {0}) (λ k. Unit {0}) (IsClockOf numbers s i) e
-      clock_names i e names = names_more i place_in (λ q. Unit {0}) tick_in (λ k. Unit {0}) (IsClockOf numbers s i) (IsClockOf numbers s i) (λ q w. tt)
-          (λ k w. tt) (λ x is. is) e names
+      clock_names i e names = names_more i place_in _ tick_in _ (IsClockOf numbers s i) _ (λ q w. tt) (λ k w. tt) (λ x is. is) e names
 
   -- A valuation.
   module _ (v : Valuation) where
@@ -315,89 +285,51 @@ module _ (program : ProgramTree) (main : Identifier) (numbers : Numbers) (s : Sy
     spells_flat : (state : State) (inputs : ℕ → Value) → SpellsOf program main listed v state inputs → Spells s v (flat_state state) (flat_given inputs)
     spells_flat state inputs spells = record {
       ticks = λ m lt. ticked_at state m lt ∙ spells.ticks (slice_index_or s.ticks m Nothing) (is_tick program main numbers s witness m lt);
-      memories = memory;
+      memories = λ m lt.
+          subst (IsSpelled s.labels (kind_at (memory_kinds s) m) (v.kept (slice_index_or (memory_places s) m []))) (sym (kept_at state m lt))
+          (by_number program main numbers s witness (λ ls j q n. IsSpelled ls j (v.kept q) (state.kept q)) spells.memories m lt);
       given = λ j lt.
           subst (IsSpelled s.labels (kind_at s.inputs j) (v.input j)) (sym (given_at inputs j lt))
-          (subst (λ ks. IsSpelled s.labels (kind_at ks j) (v.input j) (inputs j)) (sym witness.inputs)
-          (subst (λ ls. IsSpelled ls (kind_at given_kinds j) (v.input j) (inputs j)) (sym witness.labels)
-          (spells.given j (omega (arith, lt, ap length witness.inputs)))));
+          (in_system program main numbers s witness (λ ls k. IsSpelled ls k (v.input j) (inputs j)) j
+          (spells.given j (omega (arith, lt, ap length witness.inputs))));
     }
-      where
-        memory : (m : ℕ) → m < length s.memories → IsSpelled s.labels (kind_at (memory_kinds s) m) (v.kept (slice_index_or (memory_places s) m []))
-            (slice_index_or (flat_state state).kept m (Flag false))
-        memory m lt =
-            let o = memory_of program main numbers s witness m lt in
-            subst (IsSpelled s.labels (kind_at (memory_kinds s) m) (v.kept (slice_index_or (memory_places s) m []))) (sym (kept_at state m lt))
-            (subst (λ p. IsSpelled s.labels (kind_at (memory_kinds s) m) (v.kept p) (state.kept p)) (sym o.3)
-            (subst (λ j. IsSpelled s.labels j (v.kept (delay_place o.0 o.1)) (state.kept (delay_place o.0 o.1))) (sym o.4)
-            (subst (λ ls. IsSpelled ls (operand_kind program o.0.node o.1.operand) (v.kept (delay_place o.0 o.1)) (state.kept (delay_place o.0 o.1)))
-            (sym witness.labels) (spells.memories o.0 o.1 o.2))))
 
     spells_places : (state : State) (inputs : ℕ → Value) → Spells s v (flat_state state) (flat_given inputs) → SpellsOf program main listed v state inputs
     spells_places state inputs spells = record {
       ticks = λ k is.
           let n = tick_at program main numbers s witness k (tick_numbered program main numbers s witness k is) in
           ap state.ticked (sym n.1) ∙ sym (ticked_at state (tick_number numbers k) n.0) ∙ spells.ticks (tick_number numbers k) n.0 ∙ ap v.ticked n.1;
-      memories = λ i d is. by_number (index_of numbers.memories (delay_place i d)) (delay_place i d) (operand_kind program i.node d.operand)
-          (number_of program main numbers s witness i d is);
+      memories = by_place program main numbers s witness (λ ls j q n. IsSpelled ls j (v.kept q) (state.kept q))
+          (λ m lt. subst (IsSpelled s.labels (kind_at (memory_kinds s) m) (v.kept (slice_index_or (memory_places s) m []))) (kept_at state m lt)
+          (spells.memories m lt));
       given = λ j lt.
           let less : j < length s.inputs = omega (arith, lt, ap length witness.inputs) in
-          subst (λ ls. IsSpelled ls (kind_at given_kinds j) (v.input j) (inputs j)) witness.labels
-          (subst (λ ks. IsSpelled s.labels (kind_at ks j) (v.input j) (inputs j)) witness.inputs
-          (subst (IsSpelled s.labels (kind_at s.inputs j) (v.input j)) (given_at inputs j less) (spells.given j less)));
+          in_program program main numbers s witness (λ ls k. IsSpelled ls k (v.input j) (inputs j)) j
+          (subst (IsSpelled s.labels (kind_at s.inputs j) (v.input j)) (given_at inputs j less) (spells.given j less));
     }
-      where
-        by_number : (m : ℕ) (p : Sites) (j : Kind) → (m < length s.memories) × (slice_index_or (memory_places s) m [] ≡ p) × (kind_at (memory_kinds s) m ≡ j)
-            → IsSpelled counts j (v.kept p) (state.kept p)
-        by_number m p j n =
-            subst (λ ls. IsSpelled ls j (v.kept p) (state.kept p)) witness.labels
-            (subst (λ j. IsSpelled s.labels j (v.kept p) (state.kept p)) n.2
-            (subst (λ p. IsSpelled s.labels (kind_at (memory_kinds s) m) (v.kept p) (state.kept p)) n.1
-            (subst (IsSpelled s.labels (kind_at (memory_kinds s) m) (v.kept (slice_index_or (memory_places s) m []))) (kept_at state m n.0)
-            (spells.memories m n.0))))
 
     coded_places : IsCoded s v → IsCodedOf program main listed v
     coded_places coded = record {
-      memories = λ i d is. by_number (index_of numbers.memories (delay_place i d)) (delay_place i d) (operand_kind program i.node d.operand)
-          (number_of program main numbers s witness i d is);
-      inputs = λ j lt.
-          subst (λ ls. IsCodedAs ls (kind_at given_kinds j) (v.input j)) witness.labels
-          (subst (λ ks. IsCodedAs s.labels (kind_at ks j) (v.input j)) witness.inputs (coded.inputs j (omega (arith, lt, ap length witness.inputs))));
+      memories = by_place program main numbers s witness (λ ls j q n. IsCodedAs ls j (v.kept q)) coded.memories;
+      inputs = λ j lt. in_program program main numbers s witness (λ ls k. IsCodedAs ls k (v.input j)) j
+          (coded.inputs j (omega (arith, lt, ap length witness.inputs)));
     }
-      where
-        by_number : (m : ℕ) (p : Sites) (j : Kind) → (m < length s.memories) × (slice_index_or (memory_places s) m [] ≡ p) × (kind_at (memory_kinds s) m ≡ j)
-            → IsCodedAs counts j (v.kept p)
-        by_number m p j n =
-            subst (λ ls. IsCodedAs ls j (v.kept p)) witness.labels
-            (subst (λ j. IsCodedAs s.labels j (v.kept p)) n.2
-            (subst (λ p. IsCodedAs s.labels (kind_at (memory_kinds s) m) (v.kept p)) n.1 (coded.memories m n.0)))
 
     coded_flat : IsCodedOf program main listed v → IsCoded s v
     coded_flat coded = record {
-      memories = memory;
-      inputs = λ j lt.
-          subst (λ ks. IsCodedAs s.labels (kind_at ks j) (v.input j)) (sym witness.inputs)
-          (subst (λ ls. IsCodedAs ls (kind_at given_kinds j) (v.input j)) (sym witness.labels) (coded.inputs j (omega (arith, lt, ap length witness.inputs))));
+      memories = by_number program main numbers s witness (λ ls j q n. IsCodedAs ls j (v.kept q)) coded.memories;
+      inputs = λ j lt. in_system program main numbers s witness (λ ls k. IsCodedAs ls k (v.input j)) j
+          (coded.inputs j (omega (arith, lt, ap length witness.inputs)));
     }
-      where
-        memory : (m : ℕ) → m < length s.memories → IsCodedAs s.labels (kind_at (memory_kinds s) m) (v.kept (slice_index_or (memory_places s) m []))
-        memory m lt =
-            let o = memory_of program main numbers s witness m lt in
-            subst (λ p. IsCodedAs s.labels (kind_at (memory_kinds s) m) (v.kept p)) (sym o.3)
-            (subst (λ j. IsCodedAs s.labels j (v.kept (delay_place o.0 o.1))) (sym o.4)
-            (subst (λ ls. IsCodedAs ls (operand_kind program o.0.node o.1.operand) (v.kept (delay_place o.0 o.1))) (sym witness.labels)
-            (coded.memories o.0 o.1 o.2)))
 
     -- the names of an expression are found at the valuation
     symbolic_names : (i : Instance) (e : Tree) → Names i place_in tick_in (λ x. Unit {0}) e
         → Names i (λ q. (found_at s v).kept (index_of numbers.memories q) ≡ (found_by program main listed v).kept q)
         (λ k. (found_at s v).ticked (tick_number numbers k) ≡ (found_by program main listed v).ticked k) (λ x. Unit {0}) e
-    symbolic_names i e names = names_more i place_in (λ q. (found_at s v).kept (index_of numbers.memories q) ≡ (found_by program main listed v).kept q)
-        tick_in (λ k. (found_at s v).ticked (tick_number numbers k) ≡ (found_by program main listed v).ticked k) (λ x. Unit {0}) (λ x. Unit {0})
-        (kept_read v) (ticked_read v) (λ x is. tt) e names
+    symbolic_names i e names = names_more i _ _ _ _ _ _ (kept_read v) (ticked_read v) (λ x is. tt) e names
 
     unclocked : (i : Instance) (e : Tree) → Names i place_in tick_in (IsClockOf numbers s i) e → Names i place_in tick_in (λ x. Unit {0}) e
-    unclocked i e names = names_more i place_in place_in tick_in tick_in (IsClockOf numbers s i) (λ x. Unit {0}) (λ q w. w) (λ k w. w) (λ x is. tt) e names
+    unclocked i e names = names_more i place_in _ tick_in _ (IsClockOf numbers s i) _ (λ q w. w) (λ k w. w) (λ x is. tt) e names
 
     -- the symbolic instant of the flat system is that of the program
     pub symbolic_places : (symbolic : List (Option Reading)) → IsSymbolic s v symbolic
@@ -500,46 +432,23 @@ module _ (program : ProgramTree) (main : Identifier) (numbers : Numbers) (s : Sy
       )
 
       pub leads_same : (w : Valuation) → LeadsTo program main listed v cells w ↔ Leads s v symbolic w
-      leads_same w = (to, from)
-        where
-          to_memory : (m : ℕ) → m < length s.memories → LeadsTo program main listed v cells w
-              → IsSpelledAs s.labels (kind_at (memory_kinds s) m) (w.kept (slice_index_or (memory_places s) m [])) (updated s v symbolic m)
-          to_memory m lt leads =
-              let o = memory_of program main numbers s witness m lt in
-              let own = own_number program main numbers s witness m o.0 o.1 o.2 lt o.3 in
-              subst (λ j. IsSpelledAs s.labels (kind_at (memory_kinds s) m) (w.kept (slice_index_or (memory_places s) m [])) (updated s v symbolic j)) own
-              (subst (IsSpelledAs s.labels (kind_at (memory_kinds s) m) (w.kept (slice_index_or (memory_places s) m []))) (sym (updated_same o.0 o.1 o.2))
-              (subst (λ p. IsSpelledAs s.labels (kind_at (memory_kinds s) m) (w.kept p) (updated_at program main listed v cells o.0 o.1)) (sym o.3)
-              (subst (λ j. IsSpelledAs s.labels j (w.kept (delay_place o.0 o.1)) (updated_at program main listed v cells o.0 o.1)) (sym o.4)
-              (subst (λ ls. IsSpelledAs ls (operand_kind program o.0.node o.1.operand) (w.kept (delay_place o.0 o.1))
-              (updated_at program main listed v cells o.0 o.1)) (sym witness.labels) (leads.memories o.0 o.1 o.2)))))
-
-          to : LeadsTo program main listed v cells w → Leads s v symbolic w
-          to leads = record {
-            ticks = λ k lt. leads.ticks (slice_index_or s.ticks k Nothing) (is_tick program main numbers s witness k lt) ∙ sym (tick_same k lt);
-            memories = λ m lt. to_memory m lt leads;
-          }
-
-          from_memory : (i : Instance) (d : Delay) → IsDelay program main i d → Leads s v symbolic w
-              → IsSpelledAs counts (operand_kind program i.node d.operand) (w.kept (delay_place i d)) (updated_at program main listed v cells i d)
-          from_memory i d is leads =
-              let m = index_of numbers.memories (delay_place i d) in
-              let n = number_of program main numbers s witness i d is in
-              subst (λ ls. IsSpelledAs ls (operand_kind program i.node d.operand) (w.kept (delay_place i d)) (updated_at program main listed v cells i d))
-              witness.labels
-              (subst (λ j. IsSpelledAs s.labels j (w.kept (delay_place i d)) (updated_at program main listed v cells i d)) n.2
-              (subst (λ p. IsSpelledAs s.labels (kind_at (memory_kinds s) m) (w.kept p) (updated_at program main listed v cells i d)) n.1
-              (subst (IsSpelledAs s.labels (kind_at (memory_kinds s) m) (w.kept (slice_index_or (memory_places s) m []))) (updated_same i d is)
-              (leads.memories m n.0))))
-
-          from : Leads s v symbolic w → LeadsTo program main listed v cells w
-          from leads = record {
-            ticks = λ k is.
-                let n = tick_at program main numbers s witness k (tick_numbered program main numbers s witness k is) in
-                ap w.ticked (sym n.1) ∙ leads.ticks (tick_number numbers k) n.0 ∙ tick_same (tick_number numbers k) n.0
-                ∙ ap (next_tick_at program main listed v cells) n.1;
-            memories = λ i d is. from_memory i d is leads;
-          }
+      leads_same w = (
+        λ leads. record {
+          ticks = λ k lt. leads.ticks (slice_index_or s.ticks k Nothing) (is_tick program main numbers s witness k lt) ∙ sym (tick_same k lt);
+          memories = by_number program main numbers s witness (λ ls j q m. IsSpelledAs ls j (w.kept q) (updated s v symbolic m))
+              (λ i d is. subst (IsSpelledAs counts (operand_kind program i.node d.operand) (w.kept (delay_place i d))) (sym (updated_same i d is))
+              (leads.memories i d is));
+        },
+        λ leads. record {
+          ticks = λ k is.
+              let n = tick_at program main numbers s witness k (tick_numbered program main numbers s witness k is) in
+              ap w.ticked (sym n.1) ∙ leads.ticks (tick_number numbers k) n.0 ∙ tick_same (tick_number numbers k) n.0
+              ∙ ap (next_tick_at program main listed v cells) n.1;
+          memories = λ i d is.
+              subst (IsSpelledAs counts (operand_kind program i.node d.operand) (w.kept (delay_place i d))) (updated_same i d is)
+              (by_place program main numbers s witness (λ ls j q m. IsSpelledAs ls j (w.kept q) (updated s v symbolic m)) leads.memories i d is);
+        },
+      )
 
       pub agrees_places : (x : List ℤ) → Agrees s v symbolic x → AgreesWith program main listed v cells x
       agrees_places x holds c side r is row =
@@ -566,8 +475,7 @@ module _ (program : ProgramTree) (main : Identifier) (numbers : Numbers) (s : Sy
         sym (agreeing first one.1 q) ∙ ap (λ row. get_or row (index_of numbers.flows q) Nothing) (left ∙ sym right) ∙ agreeing second other.1 q
 
   -- A state, inputs and their instant.
-  module _ (laws : Laws) (state : State) (inputs : ℕ → Value) (row : Instant) (starts : AreStarts program main state.kept)
-      (given_typed : AreGiven program main inputs)
+  module _ (state : State) (inputs : ℕ → Value) (row : Instant) (starts : AreStarts program main state.kept) (given_typed : AreGiven program main inputs)
       (instant : IsInstant program main state inputs row) (products : HaveProducts program main state row) where
     typed : IsTyped s (flat_state state) (flat_given inputs)
     typed = typed_state state inputs starts given_typed
@@ -579,19 +487,12 @@ module _ (program : ProgramTree) (main : Identifier) (numbers : Numbers) (s : Sy
     pub some_agreed_of : (v : Valuation) × (cells : Sites → Option Reading) × IsCodedOf program main listed v
         × IsAgreedOf program main listed v cells state inputs
     some_agreed_of =
-        let a = some_agreed laws s (flat_state state) (flat_given inputs) (row_of (cell row)) witness.well typed rows in
+        let a = some_agreed s (flat_state state) (flat_given inputs) (row_of (cell row)) witness.well typed rows in
         let v = a.0 in
-        let cells : Sites → Option Reading = λ q. by.nth Reading (reads_at s v) a.1 (index_of numbers.flows q) in (
-          v,
-          cells,
-          coded_places v a.2,
-          (
-            spells_places v state inputs a.3.0,
-            symbolic_at v a.1 a.3.1,
-            subst (AgreesWith program main listed v cells) (point_same state inputs)
-                (agrees_places v a.1 cells (λ q. refl) (point s (flat_state state) (flat_given inputs)) a.3.2),
-          ),
-        )
+        let cells : Sites → Option Reading = λ q. by.nth Reading (reads_at s v) a.1 (index_of numbers.flows q) in
+        let agrees = agrees_places v a.1 cells (λ q. refl) (point s (flat_state state) (flat_given inputs)) a.3.2 in
+        let here = subst (AgreesWith program main listed v cells) (point_same state inputs) agrees in
+        (v, cells, coded_places v a.2, (spells_places v state inputs a.3.0, symbolic_at v a.1 a.3.1, here))
 
     -- A valuation that agrees.
     module _ (v : Valuation) (cells : Sites → Option Reading) (agreed : IsAgreedOf program main listed v cells state inputs) where
@@ -602,29 +503,25 @@ module _ (program : ProgramTree) (main : Identifier) (numbers : Numbers) (s : Sy
       flat_symbolic = symbolic_flat v cells agrees_cells agreed.1.0
 
       flat_agreed : IsAgreed s v (row_of cells) (flat_state state) (flat_given inputs)
-      flat_agreed = (
-        spells_flat v state inputs agreed.0,
-        flat_symbolic,
-        subst (Agrees s v (row_of cells)) (sym (point_same state inputs))
-            (agrees_flat v (row_of cells) cells agrees_cells (point_of program main listed state inputs) agreed.2),
-      )
+      flat_agreed =
+          let agrees = agrees_flat v (row_of cells) cells agrees_cells (point_of program main listed state inputs) agreed.2 in
+          (spells_flat v state inputs agreed.0, flat_symbolic, subst (Agrees s v (row_of cells)) (sym (point_same state inputs)) agrees)
 
       abbrev x : List ℤ
       x = point s (flat_state state) (flat_given inputs)
 
       found : IsFound s v (flat_state state) (flat_given inputs) (row_of (cell row)) (row_of cells) x
-      found = is_found laws s v (flat_state state) (flat_given inputs) typed flat_agreed.0 (row_of (cell row)) (row_of cells)
+      found = is_found s v (flat_state state) (flat_given inputs) typed flat_agreed.0 (row_of (cell row)) (row_of cells)
 
       tell : (c : Comparison) → Contains (all_comparisons s) c → IsTold s v (flat_state state) (flat_given inputs) (row_of (cell row)) (row_of cells) x c
-      tell = tell_agreed laws s v (flat_state state) (flat_given inputs) (row_of (cell row)) (row_of cells) flat_agreed.2
+      tell = tell_agreed s v (flat_state state) (flat_given inputs) (row_of (cell row)) (row_of cells) flat_agreed.2
 
       -- the flows have the same
       flow_given : (q : Sites) → cell row q ≡ value_there (point_of program main listed state inputs) (cells q)
       flow_given q = elim (cases_lt (index_of numbers.flows q) (length numbers.flows)) [
         | inl lt ↦
             sym (agrees_row state inputs row instant products q)
-            ∙ flow_same s v (flat_state state) (flat_given inputs) (row_of (cell row)) (row_of cells) x laws witness.well found flat_symbolic tell rows
-            (index_of numbers.flows q) (let many = witness.translated.many in omega (arith, lt, many))
+            ∙ flow_same s v _ _ _ _ _ witness.well found flat_symbolic tell rows (index_of numbers.flows q) (omega (arith, lt, witness.translated.many))
             ∙ (λ t. value_there (point_same state inputs t) (agrees_cells q t))
         | inr le ↦
             let none : IsFlow program main q → ⊥ = λ f. let w = indexed numbers.flows q (witness.translated.sequence.flows q f) in
@@ -634,19 +531,14 @@ module _ (program : ProgramTree) (main : Identifier) (numbers : Numbers) (s : Sy
 
       there_given : (k : Option Sites) → is_on_in row k ≡ is_there_at program main listed v cells k
       there_given Nothing = refl
-      there_given (Some q) = sym (on_same (cell row q)) ∙ ap (by.is_on Value integers) (flow_given q) ∙ on_at (cells q)
-        where
-          on_at : (o : Option Reading) → by.is_on Value integers (value_there (point_of program main listed state inputs) o) ≡ by.is_on Reading
-              (readings (columns_of program main listed) v.test) o
-          on_at Nothing = refl
-          on_at (Some a) = truth_at (point_of program main listed state inputs) a
+      there_given (Some q) = sym (on_same (cell row q)) ∙ ap (by.is_on Value integers) (flow_given q)
+          ∙ on_at (point_of program main listed state inputs) (columns_of program main listed) v.test (cells q)
 
       pub assertion_given : (i : Instance) (a : AssertionTree) → IsInstance program main i → Contains i.node.assertions a
           → cond (is_on_in row (clock_in i Base a.body)) (is_true (now program state row i a.body)) true ≡ is_met_at program main listed v cells i a
       assertion_given i a inst w =
           let there = witness.translated.asserts i a inst w in
-          let same = assertion_same s v (flat_state state) (flat_given inputs) (row_of (cell row)) (row_of cells) x laws witness.well found flat_symbolic tell
-          rows there.0 there.1 in
+          let same = assertion_same s v _ _ _ _ _ witness.well found flat_symbolic tell rows there.0 there.1 in
           let item : nth_item s.assertions there.0 ≡ assertion_item program numbers i a = read_in s.assertions (assertion_item program numbers i a) there in
           let names = witness.named.assertions i a inst w in
           (λ t. cond (sym (whole_there state inputs row instant products i (clock_in i Base a.body)) t)
@@ -665,8 +557,7 @@ module _ (program : ProgramTree) (main : Identifier) (numbers : Numbers) (s : Sy
           let m = index_of numbers.memories (delay_place i d) in
           let n = number_of program main numbers s witness i d is in
           let among = place_numbered program main numbers s witness i d is in
-          let same = memory_same s v (flat_state state) (flat_given inputs) (row_of (cell row)) (row_of cells) x laws witness.well found flat_symbolic tell rows
-          m n.0 in
+          let same = memory_same s v _ _ _ _ _ witness.well found flat_symbolic tell rows m n.0 in
           let item : nth_item (memory_items s) m ≡ delay_item program numbers i d = witness.translated.memory i d is.0 is.1 in
           let names = witness.named.memories i d is.0 is.1 in
           (λ t. cond (sym (whole_there state inputs row instant products i (clock_in i Base d.operand)) t)
@@ -706,7 +597,7 @@ module _ (program : ProgramTree) (main : Identifier) (numbers : Numbers) (s : Sy
                 ap (λ p. number (next.kept p)) at
                 ∙ ap number (is_next.memories i d is.0 is.1 ∙ memory_given i d is
                 ∙ ap (at_point (point_of program main listed state inputs)) (sym (updated i d is)))
-                ∙ number_at laws (point_of program main listed state inputs) (columns_of program main listed) v.test (after (delay_place i d))
+                ∙ number_at (point_of program main listed state inputs) (columns_of program main listed) v.test (after (delay_place i d))
                 ∙ ap (λ p. forms.value (form_of (columns_of program main listed) v.test (after p)) (point_of program main listed state inputs)) (sym at)
 
             each : (m : ℕ) → m < length (kinds_of program main listed)
@@ -724,9 +615,8 @@ module _ (program : ProgramTree) (main : Identifier) (numbers : Numbers) (s : Sy
             → LeadsTo program main listed v cells w
         leads_to_of w after later other = record {
           ticks = λ k is. sym (other.0.ticks k is) ∙ is_next.ticks k ∙ (λ t. agreed.0.ticks k is t || there_given k t);
-          memories = λ i d is. spelled_as (point_of program main listed state inputs) counts (operand_kind program i.node d.operand) (w.kept (delay_place i d))
-              (updated_at program main listed v cells i d)
-              (next.kept (delay_place i d)) (is_next.memories i d is.0 is.1 ∙ memory_given i d is) (other.0.memories i d is);
+          memories = λ i d is. spelled_as _ counts (operand_kind program i.node d.operand) _ _ _
+              (is_next.memories i d is.0 is.1 ∙ memory_given i d is) (other.0.memories i d is);
         }
 
       -- there is what each memory has
@@ -739,13 +629,12 @@ module _ (program : ProgramTree) (main : Identifier) (numbers : Numbers) (s : Sy
         → AreAlikeOf program main listed v first w
     alike_of v w first second one other =
         let flat_one = flat_agreed v first one in
-        let both = alike laws s (flat_state state) (flat_given inputs) (row_of (cell row)) v w (row_of first) (row_of second) witness.well typed rows flat_one
+        let both = alike s (flat_state state) (flat_given inputs) (row_of (cell row)) v w (row_of first) (row_of second) witness.well typed rows flat_one
         (flat_agreed w second other) in
         record {
           ticks = λ k is. sym (one.0.ticks k is) ∙ other.0.ticks k is;
-          memories = λ i d b is less. same_bits counts (operand_kind program i.node d.operand) (v.kept (delay_place i d)) (w.kept (delay_place i d))
-              (state.kept (delay_place i d)) (one.0.memories i d is) (other.0.memories i d is) b less;
-          inputs = λ j b lt less. same_bits counts (kind_at given_kinds j) (v.input j) (w.input j) (inputs j) (one.0.given j lt) (other.0.given j lt) b less;
+          memories = λ i d b is less. same_bits counts (operand_kind program i.node d.operand) _ _ _ (one.0.memories i d is) (other.0.memories i d is) b less;
+          inputs = λ j b lt less. same_bits counts (kind_at given_kinds j) _ _ _ (one.0.given j lt) (other.0.given j lt) b less;
           tests = λ c side is present.
               both.tests (flat_compared program numbers c) side (comparison_there program main numbers s witness.translated defined
               (indexed numbers.flows) clocks c is)

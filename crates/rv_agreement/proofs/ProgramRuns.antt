@@ -1,58 +1,45 @@
 -- The instants of a run of a program, and what is inductive over the valuations of its flat system.
-use Rattle.std.proofs.Common.{◌≡◌, ◌↔◌, ℕ, zero, suc, ◌+◌, ◌<◌, ◌≤◌, ℤ, Bool, true, false, ◌||◌, cond, List, [], map, length, sym, ◌∙◌, ap, subst, arith}
-use Rattle.std.proofs.Common.{Option, Some, None as Nothing}
+use Rattle.std.proofs.Common.{◌≡◌, ℕ, suc, ◌+◌, ◌<◌, ◌≤◌, ℤ, Bool, true, false, ◌||◌, cond, List, [], map, length, sym, ◌∙◌, ap, subst, arith, Option, Some}
+use Rattle.std.proofs.Common.{None as Nothing}
 use Rattle.std.proofs.lemmas.Option.{slice_get-get_or}
 use Rattle.std.specs.{Prelude.slice_index_or, FinMap.empty}
 use Rattle.rv_base.specs.{declared.value.Value.Value, declared.value.Value.TheVariants.Flag}
 use Rattle.rv_tree.specs.{Tree.ProgramTree, Places.Identifier, Places.Sites}
-use Rattle.rv_types.specs.{declared.typed.Kind.Kind, declared.typed.Clock.TheVariants.Base, Values.operand_kind, Lists.delay_place, Instances.Instance}
-use Rattle.rv_types.specs.{Instances.main_instance, Instances.clock_in, Instances.IsNode, Needs.IsSequence, WellFormed.AreWell}
+use Rattle.rv_types.specs.{declared.typed.Kind.Kind, declared.typed.Clock.TheVariants.Base, Values.operand_kind, Instances.Instance, Instances.main_instance}
+use Rattle.rv_types.specs.{Instances.clock_in, Instances.IsNode, WellFormed.AreWell}
 use Rattle.rv_types.specs.declared.typed.Kind.TheVariants as kind
 use Rattle.rv_types.specs.Values as types
 use Rattle.rv_meaning.specs.Runs.{History, Instant, cell, cells, AssertionsHold, AreStarts, IsRun, IsAllowed, observer_place}
-use Rattle.rv_meaning.specs.Instants.{State, IsInstant, IsNext, IsStart, AllowsAt, AreGiven, is_on_in, now}
+use Rattle.rv_meaning.specs.Instants.{State, IsInstant, IsNext, AllowsAt, AreGiven, is_on_in, now}
 use Rattle.rv_meaning.specs.{Meaning.is_true, Following.IsStateAt, Givers.AreDefined}
 use Rattle.rv_rows.specs.Forms as forms
 use Rattle.rv_agreement.specs.Trees.{System, nth_item, memory_items, kind_at}
 use Rattle.rv_agreement.specs.ProgramAgreement.{IsCodedOf, IsInitialOf, SpellsOf, IsAgreedOf, IsAllowedOf, GivesOf, LeadsTo, AreAlikeOf, AreUpdated, updates_of}
 use Rattle.rv_agreement.specs.ProgramAgreement.{integers_of, point_of, HaveProducts, KeepsProducts, IsSystemOf, memories_of}
 use Rattle.rv_agreement.specs.{Evaluation.integers, Valuations.Valuation, Valuations.Reading, Valuations.IsCodedAs, Agreement.found_in, Agreement.HasKind}
-use Rattle.rv_agreement.specs.{Agreement.IsSpelled, FlatRuns.IsFlatRun, FlatRuns.AreMetIn, FlatRuns.IsInductive, Programs.label_counts, Programs.input_kinds}
-use Rattle.rv_agreement.specs.{Programs.kinds_of, Translation.Numbers, Translation.clock_number, Translation.delay_item}
+use Rattle.rv_agreement.specs.{Agreement.IsSpelled, FlatRuns.IsFlatRun, FlatRuns.AreMetIn, FlatRuns.IsInductive, Programs.input_kinds, Programs.kinds_of}
+use Rattle.rv_agreement.specs.{Translation.Numbers, Translation.clock_number, Translation.delay_item}
 use Rattle.rv_agreement.specs.Evaluation as by
 use Rattle.rv_agreement.specs.Agreement as flats
 use Rattle.rv_agreement.proofs.Witnessed.{has_kind, memory_of, own_number, clock_of_tick}
 use Rattle.rv_agreement.proofs.ProgramAgreed.{allowed, flat_state, flat_given, row_of, long_kinds, kept_at, never_ticked, ticked_at, long_kept, long_ticked}
 use Rattle.rv_agreement.proofs.ProgramAgreed.{agrees_row, whole_instant, whole_read, whole_there, typed_state, assertion_given, some_agreed_of, alike_of}
 use Rattle.rv_agreement.proofs.ProgramAgreed.{gives_of, leads_to_of, updates_are_of}
-use Rattle.rv_agreement.proofs.{LinearLemmas.Laws, Inductive.observer_true}
-
--- the laws of runs
-pub record RunLaws : Type 0 where
-  pub some : (program : ProgramTree) (main : Identifier) (starts : Sites → Value) (h : History) (t : ℕ) → AreWell program → IsNode program main
-      → (state : State) × IsStateAt program main starts (cells h) t state
-  pub start : (program : ProgramTree) (main : Identifier) (starts : Sites → Value) (h : History) (state : State)
-      → IsStateAt program main starts (cells h) 0 state ↔ IsStart program main starts state
-  pub next : (program : ProgramTree) (main : Identifier) (starts : Sites → Value) (h : History) (t : ℕ) (state next : State)
-      → IsStateAt program main starts (cells h) t state → IsStateAt program main starts (cells h) (t + 1) next
-      → IsNext program main state (slice_index_or h t empty) next
-  pub instant : (program : ProgramTree) (main : Identifier) (starts : Sites → Value) (inputs : ℕ → ℕ → Value) (n : ℕ) (h : History) (t : ℕ) (state : State)
-      → IsRun program main starts inputs n h → t < n → IsStateAt program main starts (cells h) t state
-      → IsInstant program main state (inputs t) (slice_index_or h t empty)
-      × (AssertionsHold program main starts h t ↔ AllowsAt program main state (slice_index_or h t empty))
-  pub typed : (program : ProgramTree) (main : Identifier) (sequence : List Sites) (state next : State) (inputs : ℕ → Value) (row : Instant)
-      → AreWell program → IsNode program main → IsSequence program main sequence → AreStarts program main state.kept → AreGiven program main inputs
-      → IsInstant program main state inputs row → IsNext program main state row next → AreStarts program main next.kept
+use Rattle.rv_agreement.proofs.Inductive.{observer_true}
+use Rattle.rv_meaning.proofs.TypedStates
+use Rattle.rv_meaning.proofs.{Defined.are_defined, Following.instant_of_run, Following.allowed_alike, Steps.next_state, Brought.state_at, Brought.is_state_at}
 
 -- a value of a type that bits spell has a code that names a label
 coded_as : (labels : List ℕ) (k : Kind) (bits : ℕ → Bool) (v : Value) → HasKind labels k v → IsSpelled labels k bits v → IsCodedAs labels k bits
-coded_as labels kind.Bool bits v has is = tt
-coded_as labels kind.Int bits v has is = tt
 coded_as labels (kind.Labels i) bits v has is = subst (HasKind labels (kind.Labels i)) is has
+coded_as labels _ bits v has is = tt
 
-module _ (laws : Laws) (runs : RunLaws) (program : ProgramTree) (main : Identifier) (numbers : Numbers) (s : System)
-    (witness : IsSystemOf program main numbers s) (defined : AreDefined program main)
-    (sound : AreWell program) (node : IsNode program main) where
+module _ (program : ProgramTree) (main : Identifier) (numbers : Numbers) (s : System)
+    (witness : IsSystemOf program main numbers s) (sound : AreWell program) (node : IsNode program main) where
+  -- each flow has one giver
+  defined : AreDefined program main
+  defined = are_defined program main sound node
+
   abbrev state_of : State → flats.State
   state_of state = flat_state program main numbers s witness defined state
 
@@ -72,18 +59,16 @@ module _ (laws : Laws) (runs : RunLaws) (program : ProgramTree) (main : Identifi
       ticks = long_ticked program main numbers s witness defined next ∙ sym witness.well.ticks;
       ticked = λ k lt.
           let less : k < length s.ticks = omega (arith, lt, witness.well.ticks) in
+          let first : Instance = main_instance program main in
           ticked_at program main numbers s witness defined next k less
           ∙ is_next.ticks (slice_index_or s.ticks k Nothing)
-          ∙ (λ t. sym (ticked_at program main numbers s witness defined state k less) t || sym (there main_instance' (slice_index_or s.ticks k Nothing)) t)
+          ∙ (λ t. sym (ticked_at program main numbers s witness defined state k less) t || sym (there first (slice_index_or s.ticks k Nothing)) t)
           ∙ ap (λ c. slice_index_or (state_of state).ticked k false || by.is_there Value integers (flat_row row) c)
           (sym (clock_of_tick program main numbers s witness k less));
       memories = long_kept program main numbers s witness defined next ∙ long_kinds program main numbers s witness defined;
       kept = memory_next;
     }
       where
-        main_instance' : Instance
-        main_instance' = main_instance program main
-
         memory_next : (m : ℕ) → m < length s.memories → slice_index_or (state_of next).kept m (Flag false) ≡ by.after Value integers
             (found_in (state_of state) (given_of inputs)) (flat_row row) (nth_item (memory_items s) m) m
         memory_next m lt =
@@ -124,86 +109,70 @@ module _ (laws : Laws) (runs : RunLaws) (program : ProgramTree) (main : Identifi
     given_typed t lt = λ j k is. run.inputs_typed t j k lt is
 
     pub instant_at : (t : ℕ) → t < n → (state : State) → IsStateAt program main starts (cells h) t state → IsInstant program main state (inputs t) (row_at t)
-    instant_at t lt state is = (runs.instant program main starts inputs n h t state run lt is).0
+    instant_at t lt state is = instant_of_run program main starts inputs h t state is n run lt
 
     -- what the memories hold has its type
     pub typed_at : (t : ℕ) → t ≤ n → (state : State) → IsStateAt program main starts (cells h) t state → AreStarts program main state.kept
-    typed_at zero le state is = λ i d inst w.
-        subst (types.HasKind program (operand_kind program i.node d.operand)) (sym (((runs.start program main starts h state).0 is).memories i d inst w))
-        (run.starts_typed i d inst w)
-    typed_at (suc t) le state is =
-        let before = runs.some program main starts h t sound node in
-        let lt : t < n = omega (arith, le) in
-        let typed = typed_at t (omega (arith, le)) before.0 before.1 in
-        let more : suc t ≡ t + 1 = omega arith in
-        let is_next = runs.next program main starts h t before.0 state before.1 (subst (λ u. IsStateAt program main starts (cells h) u state) more is) in
-        runs.typed program main numbers.flows before.0 state (inputs t) (row_at t) sound node witness.translated.sequence typed (given_typed t lt)
-        (instant_at t lt before.0 before.1) is_next
+    typed_at = TypedStates.typed_at program main sound node numbers.flows witness.translated.sequence starts inputs n h run
 
     abbrev brought : ℕ → State
-    brought t = (runs.some program main starts h t sound node).0
+    brought t = state_at program starts (cells h) t main sound node
 
     brought_is : (t : ℕ) → IsStateAt program main starts (cells h) t (brought t)
-    brought_is t = (runs.some program main starts h t sound node).1
+    brought_is t = is_state_at program starts (cells h) t main sound node sound.numbered
+
+    products_at : KeepsProducts program main → (t : ℕ) → t < n → HaveProducts program main (brought t) (row_at t)
+    products_at keeps t lt = keeps (brought t) (inputs t) (row_at t) (typed_at t (omega (arith, lt)) (brought t) (brought_is t)) (given_typed t lt)
+        (instant_at t lt (brought t) (brought_is t))
 
     -- a run of the program is one of the flat system
     flat_run : KeepsProducts program main → IsFlatRun s n (λ t. state_of (brought t)) (λ t. given_of (inputs t)) (λ t. flat_row (row_at t))
     flat_run keeps = record {
-      start = never_ticked program main numbers s witness defined (brought 0) ((runs.start program main starts h (brought 0)).0 (brought_is 0)).ticks;
+      start = never_ticked program main numbers s witness defined (brought 0) (brought_is 0).ticks;
       typed = λ t lt. typed_state program main numbers s witness defined (brought t) (inputs t) (typed_at t (omega (arith, lt)) (brought t) (brought_is t))
           (given_typed t lt);
       instant = λ t lt. whole_instant program main numbers s witness defined (brought t) (inputs t) (row_at t) (instant_at t lt (brought t) (brought_is t))
-          (products_at t lt);
+          (products_at keeps t lt);
       next = λ t lt.
           let more : t + 1 ≡ suc t = omega arith in
-          flat_next (brought t) (inputs t) (row_at t) (instant_at t lt (brought t) (brought_is t)) (products_at t lt) (brought (suc t))
-          (runs.next program main starts h t (brought t) (brought (suc t)) (brought_is t)
+          flat_next (brought t) (inputs t) (row_at t) (instant_at t lt (brought t) (brought_is t)) (products_at keeps t lt) (brought (suc t))
+          (next_state program main starts h t (brought t) (brought (suc t)) (brought_is t)
           (subst (λ u. IsStateAt program main starts (cells h) u (brought (suc t))) (sym more) (brought_is (suc t))));
     }
-      where
-        products_at : (t : ℕ) → t < n → HaveProducts program main (brought t) (row_at t)
-        products_at t lt = keeps (brought t) (inputs t) (row_at t) (typed_at t (omega (arith, lt)) (brought t) (brought_is t)) (given_typed t lt)
-            (instant_at t lt (brought t) (brought_is t))
 
     pub safe_at : KeepsProducts program main → (holds : Valuation → List ℤ → Bool) → IsInductive s holds → (t : ℕ) → t < n → IsAllowed program main starts h t
         → cells h t (observer_place program main) ≡ Some (Flag true)
     safe_at keeps holds inductive t lt met =
         let at : (u : ℕ) → u < n → IsInstant program main (brought u) (inputs u) (row_at u) = λ u less. instant_at u less (brought u) (brought_is u) in
-        let products : (u : ℕ) → u < n → HaveProducts program main (brought u) (row_at u) = λ u less. keeps (brought u) (inputs u) (row_at u)
-        (typed_at u (omega (arith, less)) (brought u) (brought_is u)) (given_typed u less) (at u less) in
-        sym (flat_observer (brought t) (inputs t) (row_at t) (at t lt) (products t lt))
-        ∙ observer_true laws s witness.well holds inductive n (λ u. state_of (brought u)) (λ u. given_of (inputs u)) (λ u. flat_row (row_at u))
+        sym (flat_observer (brought t) (inputs t) (row_at t) (at t lt) (products_at keeps t lt))
+        ∙ observer_true s witness.well holds inductive n (λ u. state_of (brought u)) (λ u. given_of (inputs u)) (λ u. flat_row (row_at u))
         (flat_run keeps) t lt
         (λ u le.
         let less : u < n = omega (arith, le, lt) in
-        flat_met (brought u) (inputs u) (row_at u) (at u less) (products u less)
-        ((runs.instant program main starts inputs n h u (brought u) run less (brought_is u)).1.0 (met u le)))
+        flat_met (brought u) (inputs u) (row_at u) (at u less) (products_at keeps u less)
+        ((allowed_alike program main starts inputs h u (brought u) (brought_is u)).0 (met u le)))
 
     -- An instant of the run.
     module _ (t : ℕ) (lt : t < n) (state : State) (is : IsStateAt program main starts (cells h) t state) where
       -- a valuation that spells the state and the inputs has codes of labels
       pub coded_of : (v : Valuation) → SpellsOf program main (memories_of s) v state (inputs t) → IsCodedOf program main (memories_of s) v
       coded_of v spells = record {
-        memories = λ i d delay.
-            coded_as (label_counts program main (memories_of s)) (operand_kind program i.node d.operand) (v.kept (delay_place i d))
-            (state.kept (delay_place i d))
-            (has_kind program (operand_kind program i.node d.operand) (state.kept (delay_place i d))
-            (typed_at t (omega (arith, lt)) state is i d delay.0 delay.1)) (spells.memories i d delay);
+        memories = λ i d delay. coded_as _ (operand_kind program i.node d.operand) _ _
+            (has_kind program _ _ (typed_at t (omega (arith, lt)) state is i d delay.0 delay.1)) (spells.memories i d delay);
         inputs = λ j less.
-            coded_as (label_counts program main (memories_of s)) (kind_at (input_kinds program main (memories_of s)) j) (v.input j) (inputs t j)
-            (has_kind program (kind_at (input_kinds program main (memories_of s)) j) (inputs t j)
-            (given_typed t lt j (kind_at (input_kinds program main (memories_of s)) j)
-            (slice_get-get_or (input_kinds program main (memories_of s)) j kind.Bool less))) (spells.given j less);
+            let k = kind_at (input_kinds program main (memories_of s)) j in
+            coded_as _ k _ _ (has_kind program k _ (given_typed t lt j k (slice_get-get_or (input_kinds program main (memories_of s)) j kind.Bool less)))
+            (spells.given j less);
       }
 
       -- where the assertions hold, a valuation that agrees is allowed
       pub allowed_of : (v : Valuation) (symbolic : Sites → Option Reading) → HaveProducts program main state (row_at t) → AssertionsHold program main starts h t
           → IsAgreedOf program main (memories_of s) v symbolic state (inputs t) → IsAllowedOf program main (memories_of s) v symbolic
       allowed_of v symbolic products hold agreed =
-          let allows = (runs.instant program main starts inputs n h t state run lt is).1.0 hold in (
+          let allows = (allowed_alike program main starts inputs h t state is).0 hold in (
             coded_of v agreed.0,
             λ i a inst w.
-                sym (assertion_given program main numbers s witness defined laws state (inputs t) (row_at t) (typed_at t (omega (arith, lt)) state is)
+                sym (assertion_given program main numbers s witness defined state (inputs t) (row_at t) (typed_at t (omega (arith, lt)) state is)
                 (given_typed t lt) (instant_at t lt state is) products v symbolic agreed i a inst w)
                 ∙ (allowed (is_on_in (row_at t) (clock_in i Base a.body)) (now program state (row_at t) i a.body)).0 (allows i a inst w),
           )
@@ -212,7 +181,7 @@ module _ (laws : Laws) (runs : RunLaws) (program : ProgramTree) (main : Identifi
     pub initial_of : (lt : 0 < n) (state : State) (is : IsStateAt program main starts (cells h) 0 state) (v : Valuation) (symbolic : Sites → Option Reading)
         → IsAgreedOf program main (memories_of s) v symbolic state (inputs 0) → IsInitialOf program main (memories_of s) v
     initial_of lt state is v symbolic agreed = record {
-      ticks = λ k tick. sym (agreed.0.ticks k tick) ∙ ((runs.start program main starts h state).0 is).ticks k;
+      ticks = λ k tick. sym (agreed.0.ticks k tick) ∙ is.ticks k;
       memories = (coded_of 0 lt state is v agreed.0).memories;
     }
 
@@ -234,27 +203,27 @@ module _ (laws : Laws) (runs : RunLaws) (program : ProgramTree) (main : Identifi
       products_here = keeps state (inputs t) (row_at t) typed_here (given_typed t lt) at_instant
 
       pub some_at : (v : Valuation) × (symbolic : symbolic_of) × IsCodedOf program main (memories_of s) v × agrees_at v symbolic
-      some_at = some_agreed_of program main numbers s witness defined laws state (inputs t) (row_at t) typed_here (given_typed t lt) at_instant products_here
+      some_at = some_agreed_of program main numbers s witness defined state (inputs t) (row_at t) typed_here (given_typed t lt) at_instant products_here
 
       pub alike_at : (v w : Valuation) (first second : symbolic_of) → agrees_at v first → agrees_at w second → AreAlikeOf program main (memories_of s) v first w
-      alike_at = alike_of program main numbers s witness defined laws state (inputs t) (row_at t) typed_here (given_typed t lt) at_instant products_here
+      alike_at = alike_of program main numbers s witness defined state (inputs t) (row_at t) typed_here (given_typed t lt) at_instant products_here
 
       module _ (next : State) (next_is : IsStateAt program main starts (cells h) (t + 1) next) (v : Valuation) (symbolic : symbolic_of)
           (agreed : agrees_at v symbolic) where
         is_next : IsNext program main state (row_at t) next
-        is_next = runs.next program main starts h t state next is next_is
+        is_next = next_state program main starts h t state next is next_is
 
         pub gives_at : GivesOf program main (memories_of s) v symbolic state (inputs t) (row_at t) next
-        gives_at = gives_of program main numbers s witness defined laws state (inputs t) (row_at t) typed_here (given_typed t lt) at_instant products_here v
+        gives_at = gives_of program main numbers s witness defined state (inputs t) (row_at t) typed_here (given_typed t lt) at_instant products_here v
             symbolic agreed next is_next
 
         pub leads_at : (w : Valuation) (after : symbolic_of) (later : ℕ → Value) → IsAgreedOf program main (memories_of s) w after next later
             → LeadsTo program main (memories_of s) v symbolic w
-        leads_at = leads_to_of program main numbers s witness defined laws state (inputs t) (row_at t) typed_here (given_typed t lt) at_instant products_here v
+        leads_at = leads_to_of program main numbers s witness defined state (inputs t) (row_at t) typed_here (given_typed t lt) at_instant products_here v
             symbolic agreed next is_next
 
         pub updates_at : (after : Sites → Reading) → AreUpdated program main (memories_of s) v symbolic after
             → integers_of (kinds_of program main (memories_of s)) (λ m. next.kept (slice_index_or (map (λ m. m.place) (memories_of s)) m [])) ≡ forms.values
             (updates_of program main (memories_of s) v symbolic after) (point_of program main (memories_of s) state (inputs t))
-        updates_at = updates_are_of program main numbers s witness defined laws state (inputs t) (row_at t) typed_here (given_typed t lt) at_instant
+        updates_at = updates_are_of program main numbers s witness defined state (inputs t) (row_at t) typed_here (given_typed t lt) at_instant
             products_here v symbolic agreed next is_next

@@ -1,22 +1,22 @@
 -- A flat system that is read from its program has the instants of the program, whatever expressions are read as, and its comparisons.
-use Rattle.std.proofs.Common.{◌≡◌, ℕ, ◌<◌, Bool, cond, List, [], ◌∷◌, ◌++◌, map, length, refl, sym, ◌∙◌, ap, subst, arith, Option, Some, inl, inr}
-use Rattle.std.proofs.Common.{None as Nothing}
+use Rattle.std.proofs.Common.{◌≡◌, ℕ, ◌<◌, Bool, cond, List, [], ◌++◌, map, length, refl, sym, ◌∙◌, ap, subst, arith, Option, Some, inl, inr, None as Nothing}
 use Rattle.std.proofs.lemmas.List.{length-map, get_or-map}
-use Rattle.std.proofs.lemmas.List.Elements.{Contains-get_or, Contains-append_left, Contains-append_right, Contains-append_cases}
+use Rattle.std.proofs.lemmas.List.Elements.{Contains-append_right, Contains-append_cases}
 use Rattle.std.specs.{Prelude.slice_index_or, List.Contains}
 use Rattle.rv_tree.specs.{Tree.Tree, Tree.ProgramTree, Places.Identifier, Places.Sites, Places.index_of}
 use Rattle.rv_types.specs.Instances.{Body, Output, Instance, absolute, clock_in, clock_of_arguments, output_place}
 use Rattle.rv_types.specs.Needs.{Giver, Given, Of, Gives}
 use Rattle.rv_types.specs.{declared.typed.Clock.Clock, declared.typed.Clock.TheVariants.Base, Lists.delay_place}
 use Rattle.rv_meaning.specs.Givers.{AreDefined}
-use Rattle.rv_agreement.specs.Trees.{Item, nth_item, no_item, System, memory_items}
+use Rattle.rv_agreement.specs.Trees.{Item, nth_item, System, memory_items}
 use Rattle.rv_agreement.specs.Evaluation.{Reads, Found, IsInstant, nth, held, item_value}
 use Rattle.rv_agreement.specs.Valuations.{Comparison, comparisons, item_comparisons, all_items, all_comparisons}
 use Rattle.rv_agreement.specs.Programs.{FoundAt, given_by, IsInstantOf, Compared, compared, IsComparison, in_flow, in_memory, in_assertion}
 use Rattle.rv_agreement.specs.Translation.{Names, Numbers, clock_number, tick_number, flat_of, giver_item, assertion_item, IsTranslated, AreNamed, IsClockOf}
 use Rattle.rv_agreement.specs.Translation.{AreIndexed, flat_compared}
-use Rattle.rv_agreement.proofs.{Translated.value_read, Translated.on_clock, Translated.compared_read, Matching.read_in}
-use Rattle.rv_types.proofs.Members.{cons_cases, in_flat_map, in_map, in_tail, nothing_in, of_flat_map}
+use Rattle.rv_agreement.proofs.{Translated.value_read, Translated.on_clock, Translated.compared_read, Matching.read_in, Matching.flow_in, Matching.memory_in}
+use Rattle.rv_base.proofs.Lists.{from_map as given_by_map}
+use Rattle.rv_types.proofs.Members.{in_flat_map, in_map, nothing_in, of_flat_map}
 
 module _ (V : Type 0) (r : Reads V) (flagged : (b : Bool) → r.truth (r.flag b) ≡ b) (p : ProgramTree) (main : Identifier) (numbers : Numbers) (s : System)
     (translated : IsTranslated p main numbers s)
@@ -63,11 +63,7 @@ module _ (V : Type 0) (r : Reads V) (flagged : (b : Bool) → r.truth (r.flag b)
       ∙ ap (given_by V r p at_place (λ u. nth V r row (index_of numbers.flows u))) (defined.one q f.0 g here gives)
 
 pub from_map : {X Y : Type 0} (f : X → Y) (xs : List X) (y : Y) → Contains (map f xs) y → (x : X) × Contains xs x × (y ≡ f x)
-from_map f [] y w = nothing_in y w
-from_map f (x ∷ xs) y w = elim (cons_cases (f x) (map f xs) y w) [
-  | inl is ↦ (x, (0, omega arith, refl), sym is)
-  | inr rest ↦ let r = from_map f xs y rest in (r.0, in_tail x xs r.0 r.1, r.2)
-]
+from_map f xs y w = let r = given_by_map f xs y w in (r.0, r.1, sym r.2)
 
 -- The comparisons.
 module _ (p : ProgramTree) (main : Identifier) (numbers : Numbers) (s : System) (translated : IsTranslated p main numbers s) (defined : AreDefined p main)
@@ -95,20 +91,16 @@ module _ (p : ProgramTree) (main : Identifier) (numbers : Numbers) (s : System) 
       let f = translated.flow (index_of numbers.flows q) lt in
       let here : Gives p main q f.0 = subst (λ u. Gives p main u f.0) v.1 f.1 in
       by_item (nth_item s.flows (index_of numbers.flows q)) i (clock_in i k e) e c
-      (Contains-append_left s.flows (memory_items s ++ s.assertions) (nth_item s.flows (index_of numbers.flows q))
-      (Contains-get_or s.flows (index_of numbers.flows q) no_item lt))
+      (flow_in s (index_of numbers.flows q) lt)
       (f.2 ∙ ap (giver_item p numbers) (defined.one q f.0 (Of i k (Body e)) here gives)) (names.flows q i k e gives) w
   comparison_there c (in_memory i d inst there w) =
       let v = translated.memory_there i d inst there in
       by_item (nth_item (memory_items s) (index_of numbers.memories (delay_place i d))) i (clock_in i Base d.operand) d.operand c
-      (Contains-append_right s.flows (memory_items s ++ s.assertions) (nth_item (memory_items s) (index_of numbers.memories (delay_place i d)))
-      (Contains-append_left (memory_items s) s.assertions (nth_item (memory_items s) (index_of numbers.memories (delay_place i d)))
-      (Contains-get_or (memory_items s) (index_of numbers.memories (delay_place i d)) no_item (rw length-map v))))
+      (memory_in s (index_of numbers.memories (delay_place i d)) v)
       (translated.memory i d inst there) (names.memories i d inst there) w
   comparison_there c (in_assertion i a inst there w) =
       by_item (assertion_item p numbers i a) i (clock_in i Base a.body) a.body c
-      (Contains-append_right s.flows (memory_items s ++ s.assertions) (assertion_item p numbers i a)
-      (Contains-append_right (memory_items s) s.assertions (assertion_item p numbers i a) (translated.asserts i a inst there)))
+      (Contains-append_right s.flows _ _ (Contains-append_right (memory_items s) _ _ (translated.asserts i a inst there)))
       refl (names.assertions i a inst there) w
 
   -- and no others
@@ -146,5 +138,5 @@ module _ (p : ProgramTree) (main : Identifier) (numbers : Numbers) (s : System) 
       by_giver y flow (Of i k (Body e), gives, is) w =
           let f = from_item y i (clock_in i k e) e d (sym (read_in s.flows y flow) ∙ is) (names.flows (slice_index_or numbers.flows flow.0 []) i k e gives) w in
           (f.0, in_flow (slice_index_or numbers.flows flow.0 []) i k e gives f.1, f.2)
-      by_giver y flow (Of i k (Output c j), gives, is) w = nothing_in d (subst (λ z. Contains (item_comparisons s.flows z) d) (sym (read_in s.flows y flow) ∙ is)
-          w)
+      by_giver y flow (Of i k (Output c j), gives, is) w =
+          nothing_in d (subst (λ z. Contains (item_comparisons s.flows z) d) (sym (read_in s.flows y flow) ∙ is) w)

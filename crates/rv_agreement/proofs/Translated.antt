@@ -4,7 +4,7 @@ use Rattle.std.proofs.Common.{Some, None as Nothing}
 use Rattle.std.proofs.lemmas.List.{map-append}
 use Rattle.std.specs.Prelude.{nat_le, nat_eq}
 use Rattle.rv_tree.specs.{declared.tree.Op.Op, Tree.Tree, Tree.Form, Tree.Trees, Tree.ProgramTree, Places.Identifier, Places.Sites, Places.is_flow}
-use Rattle.rv_tree.specs.{Places.index_of}
+use Rattle.rv_tree.specs.Places.{index_of}
 use Rattle.rv_tree.specs.declared.tree.Op.TheVariants as op
 use Rattle.rv_tree.specs.Tree as tree
 use Rattle.rv_types.specs.Instances.{Instance, place, absolute, clock_of, clock_in, output_place}
@@ -20,41 +20,12 @@ use Rattle.rv_agreement.specs.Evaluation as by
 -- An operator under a function, and with equal parts.
 operation_under : {A B : Type 0} (f : A → B) (o : Op) (c p z : A) → f (operation o c p z) ≡ operation o (f c) (f p) (f z)
 operation_under f op.Arrow c p z = refl
-operation_under f op.Implies c p z = refl
-operation_under f op.Or c p z = refl
-operation_under f op.Xor c p z = refl
-operation_under f op.And c p z = refl
-operation_under f op.Equal c p z = refl
-operation_under f op.Differs c p z = refl
-operation_under f op.Less c p z = refl
-operation_under f op.AtMost c p z = refl
-operation_under f op.Greater c p z = refl
-operation_under f op.AtLeast c p z = refl
-operation_under f op.Plus c p z = refl
-operation_under f op.Minus c p z = refl
-operation_under f op.Times c p z = refl
-operation_under f op.Slash c p z = refl
-operation_under f op.Div c p z = refl
-operation_under f op.Mod c p z = refl
+operation_under f _ c p z = refl
 
 operation_same : {A : Type 0} (o : Op) (c d p q y z : A) → (o ≡ op.Arrow → c ≡ d) → p ≡ q → y ≡ z → operation o c p y ≡ operation o d q z
 operation_same op.Arrow c d p q y z choice product other = choice refl
-operation_same op.Implies c d p q y z choice product other = other
-operation_same op.Or c d p q y z choice product other = other
-operation_same op.Xor c d p q y z choice product other = other
-operation_same op.And c d p q y z choice product other = other
-operation_same op.Equal c d p q y z choice product other = other
-operation_same op.Differs c d p q y z choice product other = other
-operation_same op.Less c d p q y z choice product other = other
-operation_same op.AtMost c d p q y z choice product other = other
-operation_same op.Greater c d p q y z choice product other = other
-operation_same op.AtLeast c d p q y z choice product other = other
-operation_same op.Plus c d p q y z choice product other = other
-operation_same op.Minus c d p q y z choice product other = other
 operation_same op.Times c d p q y z choice product other = product
-operation_same op.Slash c d p q y z choice product other = other
-operation_same op.Div c d p q y z choice product other = other
-operation_same op.Mod c d p q y z choice product other = other
+operation_same _ c d p q y z choice product other = other
 
 module _ (V : Type 0) (r : Reads V) (flagged : (b : Bool) → r.truth (r.flag b) ≡ b) (program : ProgramTree) (numbers : Numbers) (found : Found V)
     (row : List (Option V)) (at_place : FoundAt V)
@@ -96,9 +67,6 @@ module _ (V : Type 0) (r : Reads V) (flagged : (b : Bool) → r.truth (r.flag b)
 
     form_read : (site : Option ℕ) (form : Form) → FormNames i IsKept IsTick Any site form
         → read (flat_form program numbers i site form) ≡ form_meant V r program at_place cells i site form
-    form_read site tree.True names = refl
-    form_read site tree.False names = refl
-    form_read site (tree.Number n) names = refl
     form_read site (tree.Named x) names = name_read [] x (is_flow i.node x)
     form_read site (tree.Not e) names = ap (λ v. r.flag (not (r.truth v))) (value_read e names)
     form_read site (tree.Minus e) names = ap (r.scale (negsuc 0)) (value_read e names)
@@ -111,18 +79,8 @@ module _ (V : Type 0) (r : Reads V) (flagged : (b : Bool) → r.truth (r.flag b)
         let c = is_constant (node_scope program i.node) a in
         let left = value_read a names.1 in
         let right = value_read b names.2 in
-        operation_under (by.form_value V r found row at) o
-        (flat.If (flat.Node [] (flat.Ticked (tick_number numbers k))) (flat_of program numbers i b) (flat_of program numbers i a))
-        (cond c (flat.Scale (coefficient program a) (flat_of program numbers i b)) (flat.Scale (coefficient program b) (flat_of program numbers i a)))
-        (flat.Binary o (flat_of program numbers i a) (flat_of program numbers i b))
-        ∙ operation_same o
-        (cond (r.truth (r.flag (found.ticked (tick_number numbers k)))) (read (flat_of program numbers i b)) (read (flat_of program numbers i a)))
-        (cond (at_place.ticked k) (has b) (has a))
-        (by.form_value V r found row at (cond c (flat.Scale (coefficient program a) (flat_of program numbers i b))
-        (flat.Scale (coefficient program b) (flat_of program numbers i a))))
-        (cond c (r.scale (coefficient program a) (has b)) (r.scale (coefficient program b) (has a)))
-        (r.operate at o (read (flat_of program numbers i a)) (read (flat_of program numbers i b)))
-        (r.operate at o (has a) (has b))
+        operation_under (by.form_value V r found row at) o _ _ _
+        ∙ operation_same o _ _ _ _ _ _
         (λ arrow. λ j. cond ((flagged (found.ticked (tick_number numbers k)) ∙ names.0 arrow) j) (right j) (left j))
         (scale_read at c (coefficient program a) (coefficient program b) (flat_of program numbers i a) (flat_of program numbers i b)
         ∙ (λ j. cond c (r.scale (coefficient program a) (right j)) (r.scale (coefficient program b) (left j))))
@@ -130,6 +88,7 @@ module _ (V : Type 0) (r : Reads V) (flagged : (b : Bool) → r.truth (r.flag b)
     form_read site (tree.If a b c) names = λ j. cond (r.truth (value_read a names.0 j)) (value_read b names.1 j) (value_read c names.2 j)
     form_read site (tree.AtMostOne es) names = ap (λ n. r.flag (nat_le n 1)) (trues_read es names)
     form_read site (tree.Call f args) names = ap (by.held V r) (agrees (output_place program i (unwrap_or site 0) f 0))
+    form_read site _ names = refl
 
     trues_read : (es : Trees) → AllNames i IsKept IsTick Any es → by.trues V r found row (flats_of program numbers i es) ≡ trues_meant V r program at_place
         cells i es
@@ -187,14 +146,9 @@ module _ (program : ProgramTree) (numbers : Numbers) (flows : List Item) (i : In
 
     form_read' : (k : Option Sites) (site : Option ℕ) (form : Form) → FormNames i AnyPlace AnyTick IsClock site form
         → comparisons flows (clock_number numbers k) (flat_form program numbers i site form) ≡ map flat_comparison (form_compared program i k site form)
-    form_read' k site tree.True names = refl
-    form_read' k site tree.False names = refl
-    form_read' k site (tree.Number n) names = refl
     form_read' k site (tree.Named x) names = named_in (clock_number numbers k) [] x (is_flow i.node x)
     form_read' k site (tree.Not e) names = compared_read k e names
     form_read' k site (tree.Minus e) names = compared_read k e names
-    form_read' k site (tree.Pre e) names = refl
-    form_read' k site (tree.Current e) names = refl
     form_read' k site (tree.When e c) names =
         ap (λ j. comparisons flows j (flat_of program numbers i e)) names.0
         ∙ compared_read (absolute i (clock_of i.node c.text)) e names.1
@@ -208,32 +162,21 @@ module _ (program : ProgramTree) (numbers : Numbers) (flows : List Item) (i : In
         let self : Compared = record { at = at; clock = k; operator = o; within = i; left = a; right = b } in
         let left = compared_read k a names.1 in
         let right = compared_read k b names.2 in
-        operation_under (form_comparisons flows n at) o
-        (flat.If (flat.Node [] (flat.Ticked (tick_number numbers t))) g f)
-        (cond c (flat.Scale (coefficient program a) g) (flat.Scale (coefficient program b) f))
-        (flat.Binary o f g)
-        ∙ operation_same o
-        ([] ++ (comparisons flows n g ++ comparisons flows n f))
-        (map flat_comparison (compared program i k b ++ compared program i k a))
-        (form_comparisons flows n at (cond c (flat.Scale (coefficient program a) g) (flat.Scale (coefficient program b) f)))
-        (map flat_comparison (cond c (compared program i k b) (compared program i k a)))
-        (own o (flat_comparison self) ++ (comparisons flows n f ++ comparisons flows n g))
-        (map flat_comparison (own_compared o self ++ (compared program i k a ++ compared program i k b)))
+        operation_under (form_comparisons flows n at) o _ _ _
+        ∙ operation_same o _ _ _ _ _ _
         (λ arrow. (λ j. right j ++ left j) ∙ sym (map-append flat_comparison (compared program i k b) (compared program i k a)))
         (scale_in n at c (coefficient program a) (coefficient program b) f g ∙ (λ j. cond c (right j) (left j))
         ∙ sym (map_cond flat_comparison c (compared program i k b) (compared program i k a)))
         ((λ j. own_read o self j ++ (left j ++ right j))
         ∙ (λ j. map flat_comparison (own_compared o self) ++ sym (map-append flat_comparison (compared program i k a) (compared program i k b)) j)
         ∙ sym (map-append flat_comparison (own_compared o self) (compared program i k a ++ compared program i k b)))
-        ∙ sym (operation_under (map flat_comparison) o (compared program i k b ++ compared program i k a)
-        (cond c (compared program i k b) (compared program i k a))
-        (own_compared o self ++ (compared program i k a ++ compared program i k b)))
+        ∙ sym (operation_under (map flat_comparison) o _ _ _)
     form_read' k site (tree.If a b c) names =
         (λ j. compared_read k a names.0 j ++ (compared_read k b names.1 j ++ compared_read k c names.2 j))
         ∙ (λ j. map flat_comparison (compared program i k a) ++ sym (map-append flat_comparison (compared program i k b) (compared program i k c)) j)
         ∙ sym (map-append flat_comparison (compared program i k a) (compared program i k b ++ compared program i k c))
     form_read' k site (tree.AtMostOne es) names = all_read k es names
-    form_read' k site (tree.Call f args) names = refl
+    form_read' k site _ names = refl
 
     all_read : (k : Option Sites) (es : Trees) → AllNames i AnyPlace AnyTick IsClock es
         → comparisons_of flows (clock_number numbers k) (flats_of program numbers i es) ≡ map flat_comparison (compared_all program i k es)

@@ -1,28 +1,24 @@
 -- The memories, ticks, inputs and columns of a program by their numbers in a flat system that is read from it.
-use Rattle.std.proofs.Common.{◌≡◌, inl, inr, ℕ, zero, suc, ◌+◌, ◌<◌, Bool, true, false, cond, List, [], ◌∷◌, map, length, get_or, refl, sym, ◌∙◌, ap, subst}
-use Rattle.std.proofs.Common.{arith, Option, Some, None as Nothing}
-use Rattle.std.proofs.{lemmas.List.length-map, lemmas.List.get_or-map, lemmas.List.Elements.Contains-get_or}
+use Rattle.std.proofs.Common.{◌≡◌, inl, inr, ℕ, zero, suc, ◌+◌, ◌<◌, Bool, List, [], ◌∷◌, map, length, get_or, refl, sym, ◌∙◌, ap, subst, subst₂, arith, Option}
+use Rattle.std.proofs.Common.{Some, None as Nothing}
+use Rattle.std.proofs.{lemmas.Simd.map-map, lemmas.List.length-map, lemmas.List.get_or-map, lemmas.List.Elements.Contains-get_or}
 use Rattle.std.specs.{Prelude.slice_index_or, List.Contains}
 use Rattle.rv_base.specs.declared.value.Value.{Value}
 use Rattle.rv_base.specs.declared.value.Value.TheVariants as value
 use Rattle.rv_tree.specs.{declared.tree.TypeDecl.TypeDecl, Tree.ProgramTree, Places.Identifier, Places.Sites, Places.index_of, Delays.Delay}
-use Rattle.rv_types.specs.{declared.typed.Kind.Kind, Values.label_count, Values.labels_at, Values.operand_kind, Variables.is_integer, Lists.MemoryAt}
-use Rattle.rv_types.specs.{Lists.memory_at, Lists.delay_place, Instances.Instance}
+use Rattle.rv_types.specs.{declared.typed.Kind.Kind, Values.label_count, Values.labels_at, Values.operand_kind, Lists.MemoryAt, Lists.memory_at}
+use Rattle.rv_types.specs.{Lists.delay_place, Instances.Instance}
 use Rattle.rv_types.specs.declared.typed.Kind.TheVariants as kind
 use Rattle.rv_types.specs.Values as types
 use Rattle.rv_types.specs.Lists as listed
-use Rattle.rv_meaning.specs.Meaning.{number}
 use Rattle.rv_agreement.specs.Trees.{Kept, System, memory_kinds, memory_places, kind_at}
-use Rattle.rv_agreement.specs.ProgramAgreement.{integers_of, IsTick, IsDelay, IsSystemOf, memories_of}
-use Rattle.rv_agreement.specs.{Valuations.whole_count, Valuations.width, Valuations.wholes, Agreement.HasKind, Programs.kinds_of, Programs.columns_of}
+use Rattle.rv_agreement.specs.ProgramAgreement.{IsTick, IsDelay, IsSystemOf, memories_of}
+use Rattle.rv_agreement.specs.{Valuations.whole_count, Valuations.width, Agreement.HasKind, Programs.kinds_of, Programs.columns_of}
+use Rattle.rv_agreement.specs.Programs.{input_kinds, label_counts}
 use Rattle.rv_agreement.specs.{Translation.Numbers, Translation.clock_number, Translation.tick_number}
 use Rattle.rv_agreement.proofs.{Systems.from_map, Indexed.indexed}
 use Rattle.rv_types.proofs.Members.{cons_cases, in_map, in_tail}
 use Rattle.rv_base.proofs.Options.{some_same}
-
-map_twice : {X Y Z : Type 0} (f : X → Y) (g : Y → Z) (h : X → Z) → ((x : X) → g (f x) ≡ h x) → (xs : List X) → map g (map f xs) ≡ map h xs
-map_twice f g h same [] = refl
-map_twice f g h same (x ∷ xs) = λ i. same x i ∷ map_twice f g h same xs i
 
 -- the first so many that a function numbers
 abbrev pub numbered : {X : Type 0} → ℕ → (ℕ → X) → List X
@@ -38,19 +34,6 @@ numbered_at zero f j d lt = absurd (omega arith)
 numbered_at (suc n) f zero d lt = refl
 numbered_at (suc n) f (suc j) d lt = numbered_at n (λ i. f (suc i)) j d (omega arith)
 
--- integers of a list are those of a function that gives its values
-pub wholes_are : (ks : List Kind) (vs : List Value) (f : ℕ → Value) → length vs ≡ length ks → ((m : ℕ) → m < length ks → get_or vs m (value.Flag false) ≡ f m)
-    → wholes ks vs ≡ integers_of ks f
-wholes_are [] vs f many is = refl
-wholes_are (k ∷ ks) [] f many is = absurd (omega arith)
-wholes_are (k ∷ ks) (v ∷ vs) f many is = by (is_integer k) (ap number (is 0 (omega arith)))
-    (wholes_are ks vs (λ m. f (suc m)) (omega arith) (λ m lt. is (suc m) (omega arith)))
-  where
-    by : (b : Bool) → number v ≡ number (f 0) → wholes ks vs ≡ integers_of ks (λ m. f (suc m))
-        → cond b (number v ∷ wholes ks vs) (wholes ks vs) ≡ cond b (number (f 0) ∷ integers_of ks (λ m. f (suc m))) (integers_of ks (λ m. f (suc m)))
-    by true head rest = λ i. head i ∷ rest i
-    by false head rest = rest
-
 -- the number of labels of an enumeration
 labels_same : (ds : List TypeDecl) (i : ℕ) → labels_at ds i ≡ slice_index_or (map (λ d. label_count d) ds) i 0
 labels_same [] i = refl
@@ -59,19 +42,11 @@ labels_same (d ∷ ds) (suc i) = labels_same ds i
 
 pub has_kind : (program : ProgramTree) (j : Kind) (v : Value) → types.HasKind program j v → HasKind (map (λ d. label_count d) program.types) j v
 has_kind program kind.Bool (value.Flag b) has = tt
-has_kind program kind.Bool (value.Label l) has = absurd has
-has_kind program kind.Bool (value.Whole z) has = absurd has
-has_kind program kind.Int (value.Flag b) has = absurd has
-has_kind program kind.Int (value.Label l) has = absurd has
 has_kind program kind.Int (value.Whole z) has = tt
-has_kind program (kind.Labels i) (value.Flag b) has = absurd has
 has_kind program (kind.Labels i) (value.Label l) has = subst (λ n. l < n) (labels_same program.types i) has
-has_kind program (kind.Labels i) (value.Whole z) has = absurd has
+has_kind program _ _ has = absurd has
 
 module _ (program : ProgramTree) (main : Identifier) (numbers : Numbers) (s : System) (witness : IsSystemOf program main numbers s) where
-  abbrev listed_memories : List MemoryAt
-  listed_memories = memories_of s
-
   abbrev pub m_kinds : List Kind
   m_kinds = kinds_of program main (memories_of s)
 
@@ -79,10 +54,10 @@ module _ (program : ProgramTree) (main : Identifier) (numbers : Numbers) (s : Sy
   m_places = listed.memory_places (memories_of s)
 
   pub kinds_same : memory_kinds s ≡ m_kinds
-  kinds_same = sym (map_twice (λ m. record { place = m.place; kind = m.kind }) (λ m. m.kind) (λ m. m.kind) (λ m. refl) s.memories)
+  kinds_same = sym (map-map (λ (m : MemoryAt). m.kind) (λ m. record { place = m.place; kind = m.kind }) s.memories)
 
   pub places_same : memory_places s ≡ m_places
-  places_same = sym (map_twice (λ m. record { place = m.place; kind = m.kind }) (λ m. m.place) (λ m. m.place) (λ m. refl) s.memories)
+  places_same = sym (map-map (λ (m : MemoryAt). m.place) (λ m. record { place = m.place; kind = m.kind }) s.memories)
 
   pub width_same : width s ≡ columns_of program main (memories_of s)
   width_same = λ t. whole_count (kinds_same t) + whole_count (witness.inputs t)
@@ -135,6 +110,48 @@ module _ (program : ProgramTree) (main : Identifier) (numbers : Numbers) (s : Sy
       subst (λ ps. Contains ps (delay_place i d)) (sym witness.translated.memory_numbers)
       (subst (Contains (memory_places s)) n.1 (Contains-get_or (memory_places s) (index_of numbers.memories (delay_place i d)) [] (rw length-map n.0)))
 
+  -- the number of the memory of a `pre` or `current` is its own
+  pub own_number : (m : ℕ) (i : Instance) (d : Delay) → IsDelay program main i d → m < length s.memories
+      → slice_index_or (memory_places s) m [] ≡ delay_place i d
+      → index_of numbers.memories (delay_place i d) ≡ m
+  own_number m i d is lt at = let n = number_of i d is in witness.well.memories_apart (index_of numbers.memories (delay_place i d)) m n.0 lt (n.1 ∙ sym at)
+
+  abbrev counts : List ℕ
+  counts = label_counts program main (memories_of s)
+
+  -- what holds of the memory of each `pre` and `current` holds by its number, and the other way round
+  pub by_number : (P : List ℕ → Kind → Sites → ℕ → Type 0) → ((i : Instance) (d : Delay) → IsDelay program main i d
+      → P counts (operand_kind program i.node d.operand) (delay_place i d) (index_of numbers.memories (delay_place i d)))
+      → (m : ℕ) → m < length s.memories → P s.labels (kind_at (memory_kinds s) m) (slice_index_or (memory_places s) m []) m
+  by_number P each m lt =
+      let o = memory_of m lt in
+      let k = index_of numbers.memories (delay_place o.0 o.1) in
+      subst₂ (P s.labels (kind_at (memory_kinds s) m)) (sym o.3) (own_number m o.0 o.1 o.2 lt o.3)
+      (subst₂ (λ ls j. P ls j (delay_place o.0 o.1) k) (sym witness.labels) (sym o.4) (each o.0 o.1 o.2))
+
+  pub by_place : (P : List ℕ → Kind → Sites → ℕ → Type 0)
+      → ((m : ℕ) → m < length s.memories → P s.labels (kind_at (memory_kinds s) m) (slice_index_or (memory_places s) m []) m)
+      → (i : Instance) (d : Delay) → IsDelay program main i d
+      → P counts (operand_kind program i.node d.operand) (delay_place i d) (index_of numbers.memories (delay_place i d))
+  by_place P each i d is =
+      let n = number_of i d is in
+      let m = index_of numbers.memories (delay_place i d) in
+      subst₂ (λ ls j. P ls j (delay_place i d) m) witness.labels n.2 (subst (λ q. P s.labels (kind_at (memory_kinds s) m) q m) n.1 (each m n.0))
+
+  -- the same of inputs
+  pub in_system : (P : List ℕ → Kind → Type 0) (j : ℕ) → P counts (kind_at (input_kinds program main (memories_of s)) j) → P s.labels (kind_at s.inputs j)
+  in_system P j h = subst₂ (λ ls ks. P ls (kind_at ks j)) (sym witness.labels) (sym witness.inputs) h
+
+  pub in_program : (P : List ℕ → Kind → Type 0) (j : ℕ) → P s.labels (kind_at s.inputs j) → P counts (kind_at (input_kinds program main (memories_of s)) j)
+  in_program P j h = subst₂ (λ ls ks. P ls (kind_at ks j)) witness.labels witness.inputs h
+
+  -- the place of a tick
+  ticked_place : (q : Sites) → Contains (Nothing ∷ map Some numbers.ticks) (Some q) → Contains numbers.ticks q
+  ticked_place q v = elim (cons_cases Nothing (map Some numbers.ticks) (Some q) v) [
+    | inl is ↦ absurd (let e : Nothing ≡ Some q = is in cc)
+    | inr rest ↦ let f = from_map Some numbers.ticks (Some q) rest in subst (Contains numbers.ticks) (sym (some_same q f.0 f.2)) f.1
+  ]
+
   -- a tick has a number, and what has one is a tick
   pub tick_at : (k : Option Sites) → Contains s.ticks k → (tick_number numbers k < length s.ticks)
       × (slice_index_or s.ticks (tick_number numbers k) Nothing ≡ k)
@@ -142,27 +159,17 @@ module _ (program : ProgramTree) (main : Identifier) (numbers : Numbers) (s : Sy
     where
       by : (k : Option Sites) → Contains (Nothing ∷ map Some numbers.ticks) k
           → (tick_number numbers k < length s.ticks) × (slice_index_or s.ticks (tick_number numbers k) Nothing ≡ k)
-      by Nothing v = (
-        let e = ap length witness.translated.tick_places in
-            omega (arith, e),
-        ap (λ ks. slice_index_or ks 0 Nothing) witness.translated.tick_places,
-      )
-      by (Some q) v = elim (cons_cases Nothing (map Some numbers.ticks) (Some q) v) [
-        | inl is ↦ absurd (let e : Nothing ≡ Some q = is in cc)
-        | inr rest ↦
-            let f = from_map Some numbers.ticks (Some q) rest in
-            let among : Contains numbers.ticks q = subst (Contains numbers.ticks) (sym (some_same q f.0 f.2)) f.1 in
-            let n = indexed numbers.ticks q among in
-            let e = ap length witness.translated.tick_places in
-            let many = length-map numbers.ticks Some in
-            let next : index_of numbers.ticks q + 1 ≡ suc (index_of numbers.ticks q) = omega arith in (
-              omega (arith, e, many, n.0),
-              ap (λ ks. slice_index_or ks (index_of numbers.ticks q + 1) Nothing) witness.translated.tick_places
-                  ∙ ap (λ m. slice_index_or (Nothing ∷ map Some numbers.ticks) m Nothing) next
-                  ∙ get_or-map Some numbers.ticks (index_of numbers.ticks q) [] Nothing n.0
-                  ∙ ap Some n.1,
-            )
-      ]
+      by Nothing v = let all = witness.translated.tick_places in
+          let e = ap length all in (omega (arith, e), ap (λ ks. slice_index_or ks 0 Nothing) all)
+      by (Some q) v =
+          let n = indexed numbers.ticks q (ticked_place q v) in
+          let e = ap length witness.translated.tick_places in
+          let next : index_of numbers.ticks q + 1 ≡ suc (index_of numbers.ticks q) = omega arith in
+          let here = ap (λ ks. slice_index_or ks (index_of numbers.ticks q + 1) Nothing) witness.translated.tick_places
+          ∙ ap (λ m. slice_index_or (Nothing ∷ map Some numbers.ticks) m Nothing) next
+          ∙ get_or-map Some numbers.ticks (index_of numbers.ticks q) [] Nothing n.0
+          ∙ ap Some n.1 in
+          (omega (arith, e, length-map numbers.ticks Some, n.0), here)
 
   pub tick_numbered : (k : Option Sites) → IsTick program main k → Contains s.ticks k
   tick_numbered k is = subst (λ ks. Contains ks k) (sym witness.translated.tick_places) (by k is)
@@ -178,20 +185,7 @@ module _ (program : ProgramTree) (main : Identifier) (numbers : Numbers) (s : Sy
     where
       by : (k : Option Sites) → Contains (Nothing ∷ map Some numbers.ticks) k → IsTick program main k
       by Nothing w = tt
-      by (Some q) w = elim (cons_cases Nothing (map Some numbers.ticks) (Some q) w) [
-        | inl is ↦ absurd (let e : Nothing ≡ Some q = is in cc)
-        | inr rest ↦
-            let f = from_map Some numbers.ticks (Some q) rest in
-            witness.translated.ticks.only q (subst (Contains numbers.ticks) (sym (some_same q f.0 f.2)) f.1)
-      ]
-
-  -- the number of the memory of a `pre` or `current` is its own
-  pub own_number : (m : ℕ) (i : Instance) (d : Delay) → IsDelay program main i d → m < length s.memories
-      → slice_index_or (memory_places s) m [] ≡ delay_place i d
-      → index_of numbers.memories (delay_place i d) ≡ m
-  own_number m i d is lt at =
-      let n = number_of i d is in
-      witness.well.memories_apart (index_of numbers.memories (delay_place i d)) m n.0 lt (n.1 ∙ sym at)
+      by (Some q) w = witness.translated.ticks.only q (ticked_place q w)
 
   -- the clock of a tick, by the numbers of both
   pub clock_of_tick : (k : ℕ) → k < length s.ticks → slice_index_or s.tick_clocks k Nothing ≡ clock_number numbers (slice_index_or s.ticks k Nothing)

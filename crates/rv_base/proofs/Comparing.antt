@@ -42,5 +42,4 @@ equal-here o rest whole e h = ap (λ v. ordering_then v rest) (sym e) ∙ h
 -- elements that differ decide
 pub decided-here : (o rest whole : Ordering) → (o ≢ Equal) → ordering_then o rest ≡ whole → o ≡ whole
 decided-here Equal rest whole n h = absurd (n refl)
-decided-here Less rest whole n h = h
-decided-here Greater rest whole n h = h
+decided-here _ rest whole n h = h

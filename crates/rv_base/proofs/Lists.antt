@@ -1,6 +1,6 @@
 -- Lists: positions, appended lists, and what is contained in them.
 use Rattle.std.proofs.Common.{ℕ, ◌<◌, ◌≡◌, List, length, ⊎_elim, arith, Some, slice_get, ◌≢◌, zero, suc, [], ◌∷◌, ap, ◌⊎◌, inl, inr, ◌+◌, ◌++◌, take, sym, ◌∙◌}
-use Rattle.std.proofs.Common.{refl, get_or, Bool, true, false, set, length-append, subst, ◌-◌, map, drop, drop-cons, add-one}
+use Rattle.std.proofs.Common.{refl, get_or, Bool, true, false, set, subst, ◌-◌, map, drop, drop-cons, add-one}
 use Rattle.std.proofs.lemmas.Option.{slice_get_cases, same_Some, slice_get_within, get_or_from_slice_get, none-some, slice_get-get_or, slice_get_read}
 use Rattle.std.proofs.lemmas.List.{take_more, length-append, append_assoc, append-nil, nil_from_length, get_or_append_left, get_or-append-add, length-map}
 use Rattle.std.proofs.{lemmas.Bool.cases_eq, lemmas.Bool.cases_lt, Math.Seq.get_or-append_seam}

@@ -1,7 +1,7 @@
 -- Truth values: what a conjunction, a disjunction and a choice say of their parts.
-use Rattle.std.proofs.Common.{◌≡◌, ◌⊎◌, Bool, true, false, ◌||◌, refl, inl, inr, ◌&&◌, not, sym, ℕ, ◌<◌, nat_lt, arith, ◌≤◌, cond}
-use Rattle.std.specs.Prelude.{not, ◌&&◌, if◌then◌else◌}
+use Rattle.std.proofs.Common.{◌≡◌, ◌⊎◌, Bool, true, false, ◌||◌, refl, inl, inr, sym, ℕ, ◌<◌, nat_lt, arith, ◌≤◌, cond}
 use Rattle.std.proofs.lemmas.Bool.Decides.{nat_tests}
+use Rattle.std.specs.Prelude.{not, ◌&&◌, if◌then◌else◌}
 
 pub clash : (b : Bool) → b ≡ true → b ≡ false → ⊥
 clash b e f = cc

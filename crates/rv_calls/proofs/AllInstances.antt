@@ -1,44 +1,35 @@
 -- Where no node reaches itself, unrolling gives all instances.
 use Rattle.std.proofs.Common.{◌≡◌, ℕ, zero, suc, ◌-◌, ◌<◌, ◌≤◌, ◌⊎◌, inl, inr, Bool, true, false, List, [], ◌∷◌, ◌++◌, length, get_or, set, replicate, refl}
 use Rattle.std.proofs.Common.{sym, ◌∙◌, ap, subst, arith}
-use Rattle.std.proofs.lemmas.List.{length-set, length-replicate, get_or-set_other, get_or-replicate}
-use Rattle.std.proofs.lemmas.List.Elements.{Contains-append_right, Contains-get_or}
+use Rattle.std.proofs.lemmas.List.{length-set, length_push, length-replicate, get_or-set_other}
+use Rattle.std.proofs.lemmas.List.Elements.{Contains-get_or}
 use Rattle.std.specs.List.{Contains, flat_map}
 use Rattle.rv_tree.specs.{Tree.NodeTree, Tree.ProgramTree, Places.Identifier, Places.is_among, Places.index_of}
 use Rattle.rv_types.specs.{Names.name_faults, Instances.CallTree, Instances.calls, Instances.Instance, Instances.no_node, Instances.node_of, Instances.callee}
 use Rattle.rv_types.specs.{Instances.unrolled, Instances.all_instances, Instances.main_instance, Instances.IsInstance, Instances.is_main, Instances.is_callee}
 use Rattle.rv_calls.specs.{Reach.Reaches, Reach.itself, Reach.by_call, Reach.HasNoRecursion, Graphs.falses}
 use Rattle.rv_instances.specs.AllInstances.{names_of}
-use Rattle.rv_calls.proofs.Walks.{snoc_at, snoc_front, snoc_length, set_falses}
-use Rattle.rv_instances.proofs.Known.{called, calls_declared, node_of_number}
-use Rattle.rv_types.proofs.Members.{cons_cases, in_flat_map, nothing_in, of_flat_map}
+use Rattle.rv_calls.proofs.Walks.{AllDiffer, snoc_each, snoc_differ, set_falses, all_false}
+use Rattle.rv_instances.proofs.{Known.called, Known.calls_declared, Known.node_of_number, Lists.equal_at}
+use Rattle.rv_types.proofs.Members.{at_head, cons_cases, in_flat_map, in_tail, nothing_in, of_flat_map}
 
 -- different numbers below a bound are no more than the bound
 pigeons : (xs : List ℕ) (bs : List Bool) → ((i : ℕ) → i < length xs → get_or xs i 0 < length bs)
-    → ((i : ℕ) → i < length xs → get_or bs (get_or xs i 0) false ≡ false)
-    → ((i j : ℕ) → i < j → j < length xs → get_or xs i 0 ≡ get_or xs j 0 → ⊥) → length xs ≤ falses bs
+    → ((i : ℕ) → i < length xs → get_or bs (get_or xs i 0) false ≡ false) → AllDiffer xs → length xs ≤ falses bs
 pigeons [] bs within free apart = omega arith
 pigeons (x ∷ xs) bs within free apart =
     let more = pigeons xs (set bs x true)
-    (λ i lt. let n = length-set bs x true in let h = within (suc i) (omega (arith, lt)) in omega (arith, n, h))
+    (λ i lt. omega (arith, length-set bs x true, within (suc i) (omega (arith, lt))))
     (λ i lt. get_or-set_other bs x (get_or xs i 0) true false (λ e. apart 0 (suc i) (omega arith) (omega (arith, lt)) (sym e))
     ∙ free (suc i) (omega (arith, lt)))
     (λ i j less lt. apart (suc i) (suc j) (omega (arith, less)) (omega (arith, lt))) in
-    let one = set_falses bs x (within 0 (omega arith)) (free 0 (omega arith)) in
-    omega (arith, more, one)
+    omega (arith, more, set_falses bs x (within 0 (omega arith)) (free 0 (omega arith)))
 
-all_false : (n : ℕ) → falses (replicate n false) ≡ n
-all_false zero = refl
-all_false (suc n) = let h = all_false n in omega (arith, h)
-
-pub pigeonhole : (n : ℕ) (xs : List ℕ) → ((i : ℕ) → i < length xs → get_or xs i 0 < n) → ((i j : ℕ) → i < j → j < length xs → get_or xs i 0 ≡ get_or xs j 0 → ⊥)
-    → length xs ≤ n
+pub pigeonhole : (n : ℕ) (xs : List ℕ) → ((i : ℕ) → i < length xs → get_or xs i 0 < n) → AllDiffer xs → length xs ≤ n
 pigeonhole n xs within apart =
     let l = length-replicate {A = Bool} n false in
-    let f = all_false n in
-    let h = pigeons xs (replicate n false) (λ i lt. let h = within i lt in omega (arith, l, h))
-    (λ i lt. get_or-replicate {A = Bool} n (get_or xs i 0) false false (within i lt)) apart in
-    omega (arith, h, f)
+    let h = pigeons xs (replicate n false) (λ i lt. omega (arith, l, within i lt)) (λ i lt. equal_at n (get_or xs i 0) false) apart in
+    omega (arith, h, all_false n)
 
 -- what reaches a node reaches what that calls
 reach_on : (p : ProgramTree) (n f : Identifier) (c : CallTree) → Reaches p n f → Contains (calls (node_of p n)) c → Reaches p c.name f
@@ -52,9 +43,11 @@ Deep p (suc levels) a left i = ((i ≡ a) × (left ≡ levels)) ⊎ ((c : CallTr
 
 deep_contains : (p : ProgramTree) (levels : ℕ) (a : Instance) (left : ℕ) (i : Instance) → Deep p levels a left i → Contains (unrolled p levels a) i
 deep_contains p zero a left i d = absurd d
-deep_contains p (suc levels) a left i (inl d) = subst (λ (j : Instance). Contains (unrolled p (suc levels) a) j) (sym d.0) (0, omega arith, refl)
+deep_contains p (suc levels) a left i (inl d) =
+    subst (λ (j : Instance). Contains (unrolled p (suc levels) a) j) (sym d.0)
+    (at_head a (flat_map (λ (c : CallTree). unrolled p levels (callee p a c)) (calls a.node)))
 deep_contains p (suc levels) a left i (inr d) =
-    Contains-append_right (a ∷ []) (flat_map (λ (c : CallTree). unrolled p levels (callee p a c)) (calls a.node)) i
+    in_tail a (flat_map (λ (c : CallTree). unrolled p levels (callee p a c)) (calls a.node)) i
     (in_flat_map (λ (c : CallTree). unrolled p levels (callee p a c)) (calls a.node) d.0 i d.1 (deep_contains p levels (callee p a d.0) left i d.2))
 
 deep_step : (p : ProgramTree) (levels : ℕ) (a : Instance) (left : ℕ) (i : Instance) (c : CallTree) → Deep p levels a (suc left) i → Contains (calls i.node) c
@@ -87,7 +80,7 @@ record Trail (p : ProgramTree) (i : Instance) : Type 0 where
   is_node : number < length p.nodes
   node_is : i.node ≡ get_or p.nodes number no_node
   within : (j : ℕ) → j < length trail → get_or trail j 0 < length p.nodes
-  apart : (j k : ℕ) → j < k → k < length trail → get_or trail j 0 ≡ get_or trail k 0 → ⊥
+  apart : AllDiffer trail
   reaches : (j : ℕ) → j < length trail → Reaches p i.node.name.text (get_or p.nodes (get_or trail j 0) no_node).name.text
   some : 0 < length trail
 
@@ -95,15 +88,15 @@ module _ (p : ProgramTree) (main : Identifier) (named : name_faults p ≡ []) (n
   start : Trail p (main_instance p main)
   start =
       let to = called p named main declared in
+      let k = index_of (names_of p) main in
       record {
-        trail = index_of (names_of p) main ∷ [];
-        number = index_of (names_of p) main;
+        trail = k ∷ [];
+        number = k;
         is_node = to.0;
         node_is = to.1;
-        within = λ j lt. subst (λ k. get_or (index_of (names_of p) main ∷ []) k 0 < length p.nodes) (let z : 0 ≡ j = omega (arith, lt) in z) to.0;
-        apart = λ j k less lt e. omega (arith, less, lt);
-        reaches = λ j lt. subst (λ k. Reaches p (node_of p main).name.text (get_or p.nodes (get_or (index_of (names_of p) main ∷ []) k 0) no_node).name.text)
-            (let z : 0 ≡ j = omega (arith, lt) in z)
+        within = snoc_each (λ u. u < length p.nodes) [] k (λ j lt. absurd (omega (arith, lt))) to.0;
+        apart = λ j m less lt e. omega (arith, less, lt);
+        reaches = snoc_each (λ u. Reaches p (node_of p main).name.text (get_or p.nodes u no_node).name.text) [] k (λ j lt. absurd (omega (arith, lt)))
             (subst (λ (n : NodeTree). Reaches p (node_of p main).name.text n.name.text) to.1 itself);
         some = omega arith;
       }
@@ -122,37 +115,23 @@ module _ (p : ProgramTree) (main : Identifier) (named : name_faults p ≡ []) (n
         number = k;
         is_node = to.0;
         node_is = to.1;
-        within = λ j lt. elim (snoc_at t.trail k j lt) [
-          | inl s ↦ subst (λ u. u < length p.nodes) (sym s.1) (t.within j s.0)
-          | inr s ↦ subst (λ u. u < length p.nodes) (sym s.1) to.0
-        ];
-        apart = λ j m less lt e.
-            let n = snoc_length t.trail k in
-            let before : j < length t.trail = omega (arith, n, less, lt) in
-            elim (snoc_at t.trail k m lt) [
-              | inl s ↦ t.apart j m less s.0 (sym (snoc_front t.trail k j before) ∙ e ∙ s.1)
-              | inr s ↦
-                  let is : get_or t.trail j 0 ≡ k = sym (snoc_front t.trail k j before) ∙ e ∙ s.1 in
-                  none i.node c (record {
-                    node = at_node;
-                    call = w;
-                    back = subst (λ f. Reaches p i.node.name.text f) (ap (λ u. (get_or p.nodes u no_node).name.text) is ∙ to.2) (t.reaches j before);
-                  })
-            ];
-        reaches = λ j lt. elim (snoc_at t.trail k j lt) [
-          | inl s ↦ subst (λ u. Reaches p (node_of p c.name).name.text (get_or p.nodes u no_node).name.text) (sym s.1)
-              (subst (λ g. Reaches p g (get_or p.nodes (get_or t.trail j 0) no_node).name.text) (sym last_name)
-              (reach_on p i.node.name.text (get_or p.nodes (get_or t.trail j 0) no_node).name.text c (t.reaches j s.0) in_node))
-          | inr s ↦ subst (λ u. Reaches p (node_of p c.name).name.text (get_or p.nodes u no_node).name.text) (sym s.1)
-              (subst (λ (n : NodeTree). Reaches p (node_of p c.name).name.text n.name.text) to.1 itself)
-        ];
-        some = let n = snoc_length t.trail k in omega (arith, n);
+        within = snoc_each (λ u. u < length p.nodes) t.trail k t.within to.0;
+        apart = snoc_differ t.trail k t.apart (λ j lt is. none i.node c (record {
+          node = at_node;
+          call = w;
+          back = subst (λ f. Reaches p i.node.name.text f) (ap (λ u. (get_or p.nodes u no_node).name.text) is ∙ to.2) (t.reaches j lt);
+        }));
+        reaches = snoc_each (λ u. Reaches p (node_of p c.name).name.text (get_or p.nodes u no_node).name.text) t.trail k
+            (λ j lt. subst (λ g. Reaches p g (get_or p.nodes (get_or t.trail j 0) no_node).name.text) (sym last_name)
+            (reach_on p i.node.name.text (get_or p.nodes (get_or t.trail j 0) no_node).name.text c (t.reaches j lt) in_node))
+            (subst (λ (n : NodeTree). Reaches p (node_of p c.name).name.text n.name.text) to.1 itself);
+        some = omega (arith, length_push t.trail k);
       }
 
   -- an instance with its trail stands in what main is unrolled to
   found : (i : Instance) → IsInstance p main i → (t : Trail p i) × Deep p (length p.nodes) (main_instance p main) (length p.nodes - length t.trail) i
   unfolding start next
-  found _ is_main = (start, at (length p.nodes) (let w = start.within 0 start.some in omega (arith, w)))
+  found _ is_main = (start, at (length p.nodes) (omega (arith, start.within 0 start.some)))
     where
       at : (n : ℕ) → 0 < n → Deep p n (main_instance p main) (n - 1) (main_instance p main)
       at zero lt = absurd (omega (arith, lt))
@@ -161,7 +140,7 @@ module _ (p : ProgramTree) (main : Identifier) (named : name_faults p ≡ []) (n
       let before = found i is in
       let t = next i c before.0 w in
       let few = pigeonhole (length p.nodes) t.trail t.within t.apart in
-      let size = snoc_length before.0.trail (index_of (names_of p) c.name) in
+      let size = length_push before.0.trail (index_of (names_of p) c.name) in
       let left : length p.nodes - length before.0.trail ≡ suc (length p.nodes - length t.trail) = omega (arith, few, size) in (
         t,
         deep_step p (length p.nodes) (main_instance p main) (length p.nodes - length t.trail) i c

@@ -1,12 +1,11 @@
 -- The names of the nodes of a program, collected one after the other.
-use Rattle.std.proofs.Common.{◌≡◌, ◌+◌, Bool, true, false, cond, ◌||◌, List, [], ◌∷◌, ◌++◌, map, refl, sym, ◌∙◌, ap, arith}
+use Rattle.std.proofs.Common.{◌≡◌, Bool, true, false, cond, ◌||◌, List, [], ◌∷◌, ◌++◌, map, refl, sym, ◌∙◌, ap}
 use Rattle.std.proofs.lemmas.List.{append-nil, append_assoc}
 use Rattle.rv_tree.specs.{declared.tree.Name.Name, Tree.NodeTree, Tree.node_tree, Places.Identifier, Places.is_same, Places.is_among}
-use Rattle.rv_types.specs.{declared.fault.NameFault.TheVariants.DefinedTwice, Names.texts, Names.is_declared, Names.repeated}
+use Rattle.rv_types.specs.{Names.texts, Names.is_declared, Names.repeated}
 use Rattle.rv_tree.specs.declared.tree.Node as declared
 use Rattle.rv_calls.specs.{Numbering.with_names, Callings.node_texts}
-use Rattle.rv_instances.proofs.Known.{not_before}
-use Rattle.rv_types.proofs.RightNames.{both_empty}
+use Rattle.rv_types.proofs.{Members.at_head, Members.not_before, RightNames.both_empty}
 
 -- names of which none stands twice, one after the other
 pub among_append : (xs ys : List Identifier) (z : Identifier) → is_among (xs ++ ys) z ≡ (is_among xs z || is_among ys z)
@@ -21,10 +20,8 @@ pub with_distinct : (ys : List Identifier) (before xs : List Name) → repeated 
     → with_names ys (texts xs) ≡ ys ++ texts xs
 with_distinct ys before [] e same = sym (append-nil ys)
 with_distinct ys before (x ∷ xs) e same =
-    let new : is_among ys x.text ≡ false = same x.text ∙ not_before before (x ∷ xs) e 0 (omega arith) in
-    ap (λ b. with_names (cond b ys (ys ++ x.text ∷ [])) (texts xs)) new
-    ∙ with_distinct (ys ++ x.text ∷ []) (x ∷ before) xs (both_empty (cond (is_declared before x.text) (DefinedTwice x.at ∷ []) []) (repeated (x ∷ before) xs)
-    e).1
+    let new : is_among ys x.text ≡ false = same x.text ∙ not_before before (x ∷ xs) e x.text (at_head x.text (texts xs)) in
+    ap (λ b. with_names (cond b ys (ys ++ x.text ∷ [])) (texts xs)) new ∙ with_distinct (ys ++ x.text ∷ []) (x ∷ before) xs (both_empty _ _ e).1
     (λ z. among_append ys (x.text ∷ []) z ∙ turned (is_among ys z) (is_same x.text z) (is_declared before z) (same z))
     ∙ append_assoc ys (x.text ∷ []) (texts xs)
   where

@@ -1,58 +1,33 @@
 -- How a search in depth goes on, whatever it finds.
-use Rattle.std.proofs.Common.{◌≡◌, ℕ, ◌+◌, ◌-◌, ◌<◌, inl, inr, true, false, List, [], ◌∷◌, ◌++◌, length, get_or, set, take, sym, ◌∙◌, ap, subst, arith}
-use Rattle.std.proofs.Common.{length-take-le}
-use Rattle.std.proofs.lemmas.List.{length-set}
-use Rattle.rv_calls.specs.{Graphs.Graph, Graphs.falses, declared.graph.Walk.Walk, Components.AreVertices, Components.IsDepth}
-use Rattle.rv_calls.proofs.Walks.{snoc_at, snoc_length, get_or-take_below, set_falses}
-
-vertices_snoc : (g : Graph) (vs : List ℕ) (v : ℕ) → AreVertices g vs → v < length g → AreVertices g (vs ++ v ∷ [])
-vertices_snoc g vs v are within i lt = elim (snoc_at vs v i lt) [
-  | inl s ↦ subst (λ u. u < length g) (sym s.1) (are i s.0)
-  | inr s ↦ subst (λ u. u < length g) (sym s.1) within
-]
-
-vertices_front : (g : Graph) (vs : List ℕ) → AreVertices g vs → AreVertices g (take (length vs - 1) vs)
-vertices_front g vs are i lt =
-    let n = length-take-le (length vs - 1) vs (omega arith) in
-    let below : i < length vs - 1 = omega (arith, n, lt) in
-    subst (λ u. u < length g) (sym (get_or-take_below vs (length vs - 1) i 0 below)) (are i (omega (arith, below)))
+use Rattle.std.proofs.Common.{◌≡◌, ℕ, ◌+◌, ◌-◌, ◌<◌, true, false, [], ◌∷◌, ◌++◌, length, get_or, set, take, sym, ◌∙◌, ap, subst, arith, length-take-le}
+use Rattle.std.proofs.lemmas.List.{length-set, length_push}
+use Rattle.rv_calls.specs.{Graphs.Graph, Graphs.falses, declared.graph.Walk.Walk, Components.IsDepth}
+use Rattle.rv_calls.proofs.Walks.{snoc_each, front_each, set_falses}
 
 -- what is left to do
 abbrev pub weight : Walk → ℕ
 weight w = falses w.entered + falses w.entered + length w.path
 
 module _ (g : Graph) where
-  pub step_entered : (w : Walk) → IsDepth g w → (v : ℕ) (new : Walk) → v < length g
+  step_entered : (w : Walk) → IsDepth g w → (v : ℕ) (new : Walk) → v < length g
       → new ≡ record w { entered = set w.entered v true; cursor = set w.cursor v 0; path = w.path ++ v ∷ [] } → IsDepth g new
-  step_entered w d v new within is = subst (IsDepth g) (sym is) after
-    where
-      after : IsDepth g (record { entered = set w.entered v true; finished = w.finished; cursor = set w.cursor v 0; path = w.path ++ v ∷ []; order = w.order })
-      after = record {
-        entered = length-set w.entered v true ∙ d.entered;
-        finished = d.finished;
-        cursor = length-set w.cursor v 0 ∙ d.cursor;
-        path = vertices_snoc g w.path v d.path within;
-        order = d.order;
-      }
+  step_entered w d v new within is = subst (IsDepth g) (sym is) (record {
+    entered = length-set w.entered v true ∙ d.entered;
+    finished = d.finished;
+    cursor = length-set w.cursor v 0 ∙ d.cursor;
+    path = snoc_each (λ u. u < length g) w.path v d.path within;
+    order = d.order;
+  })
 
   step_left : (w : Walk) → IsDepth g w → (v : ℕ) (new : Walk) → v < length g
       → new ≡ record w { finished = set w.finished v true; path = take (length w.path - 1) w.path; order = w.order ++ v ∷ [] } → IsDepth g new
-  step_left w d v new within is = subst (IsDepth g) (sym is) after
-    where
-      after : IsDepth g (record {
-        entered = w.entered;
-        finished = set w.finished v true;
-        cursor = w.cursor;
-        path = take (length w.path - 1) w.path;
-        order = w.order ++ v ∷ [];
-      })
-      after = record {
-        entered = d.entered;
-        finished = length-set w.finished v true ∙ d.finished;
-        cursor = d.cursor;
-        path = vertices_front g w.path d.path;
-        order = vertices_snoc g w.order v d.order within;
-      }
+  step_left w d v new within is = subst (IsDepth g) (sym is) (record {
+    entered = d.entered;
+    finished = length-set w.finished v true ∙ d.finished;
+    cursor = d.cursor;
+    path = front_each (λ u. u < length g) w.path d.path;
+    order = snoc_each (λ u. u < length g) w.order v d.order within;
+  })
 
 module _ (g : Graph) (w : Walk) (d : IsDepth g w) where
   turned : (mid : Walk) → mid ≡ record w { cursor = mid.cursor } → length mid.cursor ≡ length g → IsDepth g mid
@@ -70,11 +45,10 @@ module _ (g : Graph) (w : Walk) (d : IsDepth g w) where
     left_step v new some last new_is = (
       step_left g mid (turned mid is size) v new (top_within v some last) new_is,
       (let p = ap length (ap (λ (m : Walk). m.path) new_is) in
-          let q = length-take-le (length mid.path - 1) mid.path (omega arith) in
           let r = ap (λ (m : Walk). length m.path) is in
           let e = ap (λ (m : Walk). falses m.entered) new_is in
           let f = ap (λ (m : Walk). falses m.entered) is in
-          omega (arith, p, q, r, e, f, some)),
+          omega (arith, p, length-take-le (length mid.path - 1) mid.path (omega arith), r, e, f, some)),
     )
 
     pub went_step : (child : ℕ) (new : Walk) → child < length g → get_or w.entered child false ≡ false
@@ -82,9 +56,9 @@ module _ (g : Graph) (w : Walk) (d : IsDepth g w) where
         → IsDepth g new × (weight new < weight w)
     went_step child new within free new_is = (
       step_entered g mid (turned mid is size) child new within new_is,
-      (let p = ap (λ (m : Walk). length m.path) new_is ∙ snoc_length mid.path child in
+      (let p = ap (λ (m : Walk). length m.path) new_is ∙ length_push mid.path child in
           let r = ap (λ (m : Walk). length m.path) is in
           let e = ap (λ (m : Walk). falses m.entered) new_is ∙ ap (λ (m : Walk). falses (set m.entered child true)) is in
-          let one = set_falses w.entered child (let n = d.entered in omega (arith, n, within)) free in
+          let one = set_falses w.entered child (omega (arith, d.entered, within)) free in
           omega (arith, p, r, e, one)),
     )

@@ -1,5 +1,5 @@
 -- A walk over instances that waits for those of which it has not looked at the calls.
-use Rattle.std.proofs.Common.{◌≡◌, ℕ, zero, suc, ◌+◌, ◌<◌, inl, inr, List, [], ◌∷◌, ◌++◌, map, reverse, length, get_or, sym, ◌∙◌, ap, subst, arith}
+use Rattle.std.proofs.Common.{◌≡◌, ℕ, zero, suc, ◌<◌, inl, inr, List, [], ◌∷◌, ◌++◌, map, reverse, length, get_or, sym, ◌∙◌, ap, subst, arith}
 use Rattle.std.proofs.lemmas.List.{append_assoc, append-nil, reverse-append}
 use Rattle.std.proofs.lemmas.List.Elements.{Contains-append_left, Contains-append_cases, Contains-push}
 use Rattle.std.specs.List.{Contains, flat_map}
@@ -7,7 +7,7 @@ use Rattle.rv_instances.specs.declared.answer.Instance.{Instance}
 use Rattle.rv_calls.specs.Listing.{called_instance, listed, all_listed, ahead, IsExpansion}
 use Rattle.rv_calls.specs.{declared.calls.Calling.Calling, Graphs.IsGraph, Graphs.IsOrdered, Callings.callees, Callings.call_graph}
 use Rattle.rv_instances.proofs.Lists.{contains_at, length_map}
-use Rattle.rv_calls.proofs.Lowering.{edge_of}
+use Rattle.rv_calls.proofs.Lowering.{edge_of, callee_within as edge_within}
 use Rattle.rv_types.proofs.ConstantKinds.{of_reverse}
 use Rattle.rv_base.proofs.Lists.{flat_map_same, from_map}
 
@@ -65,19 +65,11 @@ module _ (t : List (List Calling)) (graph : IsGraph (call_graph t)) (order : Lis
   pub ahead_next : (waiting rest next : List Instance) (i : Instance) → i.node < length t → waiting ≡ rest ++ i ∷ []
       → next ≡ rest ++ reverse (map (called_instance i.path) (get_or t i.node [])) → ahead t waiting ≡ i ∷ ahead t next
   ahead_next waiting rest next i lt taken is =
-      ap (ahead t) taken
-      ∙ ahead_push t rest i
-      ∙ ap (λ l. l ++ ahead t rest) (listed_step t order ordered i.node i.path lt)
-      ∙ ap (λ l. i ∷ l) (sym (ahead_callees t i.path rest (get_or t i.node [])))
-      ∙ ap (λ l. i ∷ ahead t l) (sym is)
+      ap (ahead t) taken ∙ ahead_push t rest i ∙ ap (λ l. l ++ ahead t rest) (listed_step t order ordered i.node i.path lt)
+      ∙ ap (λ l. i ∷ l) (sym (ahead_callees t i.path rest (get_or t i.node []))) ∙ ap (λ l. i ∷ ahead t l) (sym is)
 
   callee_within : (k : ℕ) (c : Calling) → k < length t → Contains (get_or t k []) c → c.callee < length t
-  callee_within k c lt w =
-      let e = edge_of t k c w in
-      let size = length_map callees t in
-      let to = e.2 in
-      let h = graph k e.0 (omega (arith, size, lt)) e.1 in
-      omega (arith, h, to, size)
+  callee_within k c lt w = omega (arith, edge_within t graph k c lt w, length_map callees t)
 
   pub expansion_step : (root : ℕ) (found waiting rest next : List Instance) (i : Instance) → IsExpansion t root found waiting → waiting ≡ rest ++ i ∷ []
       → next ≡ rest ++ reverse (map (called_instance i.path) (get_or t i.node [])) → IsExpansion t root (found ++ i ∷ []) next
@@ -96,4 +88,4 @@ module _ (t : List (List Calling)) (graph : IsGraph (call_graph t)) (order : Lis
   -- less is ahead then
   pub ahead_less : (waiting rest next : List Instance) (i : Instance) → i.node < length t → waiting ≡ rest ++ i ∷ []
       → next ≡ rest ++ reverse (map (called_instance i.path) (get_or t i.node [])) → length (ahead t next) < length (ahead t waiting)
-  ahead_less waiting rest next i lt taken is = let e = ap length (ahead_next waiting rest next i lt taken is) in omega (arith, e)
+  ahead_less waiting rest next i lt taken is = omega (arith, ap length (ahead_next waiting rest next i lt taken is))

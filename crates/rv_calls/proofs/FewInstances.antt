@@ -40,7 +40,6 @@ module _ (p : ProgramTree) (main : Identifier) (named : name_faults p ≡ []) (n
   few_instances =
       let d : Numbered = record { path = []; node = 0 } in
       let size = places_size instances (map (numbered p) (all_instances p main)) among in
-      let many = length_map (numbered p) (all_instances p main) in
       let h = pigeonhole (length (map (numbered p) (all_instances p main))) (places_in instances (map (numbered p) (all_instances p main)) among)
       (λ i lt. (place_of instances (map (numbered p) (all_instances p main)) among i d (omega (arith, lt, size))).0)
       (λ i j less lt e.
@@ -49,11 +48,10 @@ module _ (p : ProgramTree) (main : Identifier) (named : name_faults p ≡ []) (n
       let same : get_or instances i d ≡ get_or instances j d = sym a.1 ∙ ap (λ k. get_or (map (numbered p) (all_instances p main)) k d) e ∙ b.1 in
       not_itself (get_or instances j d).path
       (subst (λ (x : Numbered). IsBefore x.path (get_or instances j d).path) same (are.rising i j d less (omega (arith, lt, size))))) in
-      omega (arith, h, size, many)
+      omega (arith, h, size, length_map (numbered p) (all_instances p main))
 
 pub expanded_program : (p : ProgramTree) (main : ℕ) (instances : List Numbered) → IsBounded p → name_faults p ≡ [] → AreSited p → AreWell p → HasNoRecursion p
-    → main < length p.nodes → AreInstances p (name_at p main) instances
-    → instance_count p (name_at p main) ≤ 4000 → IsExpanded p (name_at p main) instances
+    → main < length p.nodes → AreInstances p (name_at p main) instances → instance_count p (name_at p main) ≤ 4000 → IsExpanded p (name_at p main) instances
 expanded_program p main instances bounded named sited well none lt are few =
     let declared = name_declared p named main lt in
     let all = few_instances p (name_at p main) named none declared instances are in

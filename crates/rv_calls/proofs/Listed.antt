@@ -1,8 +1,8 @@
 -- The instances that a walk comes to are all instances, in the order of their paths.
 use Rattle.std.proofs.Common.{◌≡◌, ℕ, zero, suc, ◌+◌, ◌-◌, ◌<◌, ◌≤◌, inl, inr, List, [], ◌∷◌, ◌++◌, length, get_or, refl, sym, ◌∙◌, ap, subst, arith}
-use Rattle.std.proofs.{lemmas.List.append_assoc, lemmas.List.append-nil, lemmas.List.get_or_past, lemmas.Bool.cases_eq, lemmas.List.Sums.sum_by-cons}
-use Rattle.std.proofs.{lemmas.List.Elements.Contains-append_right, lemmas.List.Elements.Contains-append_cases, lemmas.List.Elements.Contains-get_or}
-use Rattle.std.proofs.{lemmas.List.Sorted.Contains-permutation, lemmas.List.Sorted.IsPermutation-sym, lemmas.List.Sorted.sum_by-IsPermutation}
+use Rattle.std.proofs.lemmas.List.{append_assoc, append-nil, get_or_past, Elements.Contains-get_or, Sums.sum_by-cons}
+use Rattle.std.proofs.lemmas.List.Sorted.{Contains-permutation, IsPermutation-sym, sum_by-IsPermutation}
+use Rattle.std.proofs.lemmas.Bool.{cases_eq, cases_lt, cases_order}
 use Rattle.std.specs.List.{Contains, flat_map, sum_by}
 use Rattle.rv_tree.specs.{Tree.None, Tree.NodeTree, Tree.ProgramTree, Places.Identifier, Places.index_of}
 use Rattle.rv_types.specs.Instances.{CallTree, calls, Instance, no_node, callee, unrolled, main_instance, IsInstance, is_main, is_callee, name_at}
@@ -10,43 +10,19 @@ use Rattle.rv_types.specs.{Names.name_faults, Needs.IsBefore, WellFormed.AreSite
 use Rattle.rv_instances.specs.{declared.answer.Instance.Instance as Numbered, AllInstances.names_of, AllInstances.AreInstances, AllInstances.numbered}
 use Rattle.rv_calls.specs.Listing.{listed, all_listed, AreSorted, AreAllSorted}
 use Rattle.rv_calls.specs.{declared.calls.Calling.Calling, Reach.HasNoRecursion, Callings.calling, Callings.callings, Callings.callings_of}
-use Rattle.rv_instances.proofs.Lists.{nat_split, length_map, beside}
+use Rattle.rv_instances.proofs.Lists.{length_map, beside, before_longer}
+use Rattle.rv_instances.proofs.Ordered.{AreInOrder, in_order_at, in_order_flat, in_order_from}
 use Rattle.rv_instances.proofs.Known.{map_at, called, calls_declared, number_of_node, node_of_number, name_declared}
 use Rattle.rv_calls.proofs.{Recursions.table_at, Recursions.table_size, Recursions.tabled, Recursions.untabled, AllInstances.all_found}
-use Rattle.rv_types.proofs.Members.{cons_cases, in_flat_map, nothing_in, of_flat_map}
+use Rattle.rv_types.proofs.Members.{at_head, cons_cases, in_flat_map, in_tail, nothing_in, of_flat_map}
 
--- Paths in order.
+-- Instances in the order of their paths, and calls in that of their sites.
 
-under_is_after : (path : List ℕ) (x : ℕ) (rest : List ℕ) → IsBefore path (path ++ x ∷ rest)
-under_is_after [] x rest = tt
-under_is_after (y ∷ path) x rest = inr (refl, under_is_after path x rest)
+abbrev PathsRise : Numbered → Numbered → Type 0
+PathsRise x y = IsBefore x.path y.path
 
--- each path stands before those of the rest
-abbrev AreRising : List Numbered → Type 0
-AreRising [] = Unit {0}
-AreRising (x ∷ xs) = ((y : Numbered) → Contains xs y → IsBefore x.path y.path) × AreRising xs
-
-rising_append : (xs ys : List Numbered) → AreRising xs → AreRising ys → ((x y : Numbered) → Contains xs x → Contains ys y → IsBefore x.path y.path)
-    → AreRising (xs ++ ys)
-rising_append [] ys p q across = q
-rising_append (x ∷ xs) ys p q across = (
-  λ y w. elim (Contains-append_cases xs ys y w) [
-    | inl here ↦ p.0 y here
-    | inr there ↦ across x y (0, omega arith, refl) there
-  ],
-  rising_append xs ys p.1 q (λ a b w v. across a b (Contains-append_right (x ∷ []) xs a w) v),
-)
-
-rising_at : (xs : List Numbered) → AreRising xs → (j k : ℕ) (x : Numbered) → j < k → k < length xs → IsBefore (get_or xs j x).path (get_or xs k x).path
-rising_at [] p j k x less lt = absurd (omega (arith, lt))
-rising_at (y ∷ ys) p j zero x less lt = absurd (omega (arith, less))
-rising_at (y ∷ ys) p zero (suc k) x less lt = p.0 (get_or ys k x) (Contains-get_or ys k x (omega (arith, lt)))
-rising_at (y ∷ ys) p (suc j) (suc k) x less lt = rising_at ys p.1 j k x (omega (arith, less)) (omega (arith, lt))
-
--- calls whose sites rise
-abbrev HaveRisingSites : List Calling → Type 0
-HaveRisingSites [] = Unit {0}
-HaveRisingSites (c ∷ cs) = ((d : Calling) → Contains cs d → c.site < d.site) × HaveRisingSites cs
+abbrev SitesRise : Calling → Calling → Type 0
+SitesRise c d = c.site < d.site
 
 -- what is listed below a path begins with that
 under : (t : List (List Calling)) (levels : ℕ) (path : List ℕ) (k : ℕ) (x : Numbered) → Contains (listed t levels path k) x
@@ -61,78 +37,48 @@ under t (suc levels) path k x w = elim (cons_cases (record { path = path; node =
           (c.0.site ∷ u.0, u.1 ∙ append_assoc path (c.0.site ∷ []) u.0)
     ]
 
-module _ (t : List (List Calling)) (sites : (k : ℕ) → HaveRisingSites (get_or t k [])) where
-  rising_below : (levels : ℕ) (path : List ℕ) (cs : List Calling) → ((c : Calling) → AreRising (listed t levels (path ++ c.site ∷ []) c.callee))
-      → HaveRisingSites cs
-      → AreRising (flat_map (λ (c : Calling). listed t levels (path ++ c.site ∷ []) c.callee) cs)
-  rising_below levels path [] each s = tt
-  rising_below levels path (c ∷ cs) each s =
-      rising_append (listed t levels (path ++ c.site ∷ []) c.callee) (flat_map (λ (c : Calling). listed t levels (path ++ c.site ∷ []) c.callee) cs)
-      (each c) (rising_below levels path cs each s.1)
-      (λ x y w v.
-      let a = under t levels (path ++ c.site ∷ []) c.callee x w in
-      let d = of_flat_map (λ (c : Calling). listed t levels (path ++ c.site ∷ []) c.callee) cs y v in
-      let b = under t levels (path ++ d.0.site ∷ []) d.0.callee y d.2 in
-      subst (λ l. IsBefore l y.path) (sym (a.1 ∙ append_assoc path (c.site ∷ []) a.0))
-      (subst (IsBefore (path ++ c.site ∷ a.0)) (sym (b.1 ∙ append_assoc path (d.0.site ∷ []) b.0)) (beside path c.site d.0.site a.0 b.0 (s.0 d.0 d.1))))
+-- and what is listed below a call goes on with its site
+under_call : (t : List (List Calling)) (levels : ℕ) (path : List ℕ) (c : Calling) (x : Numbered) → Contains (listed t levels (path ++ c.site ∷ []) c.callee) x
+    → (rest : List ℕ) × (x.path ≡ path ++ c.site ∷ rest)
+under_call t levels path c x w = let u = under t levels (path ++ c.site ∷ []) c.callee x w in (u.0, u.1 ∙ append_assoc path (c.site ∷ []) u.0)
 
-  rising_listed : (levels : ℕ) (path : List ℕ) (k : ℕ) → AreRising (listed t levels path k)
-  rising_listed zero path k = tt
-  rising_listed (suc levels) path k = (
-    λ y w.
-        let c = of_flat_map (λ (c : Calling). listed t levels (path ++ c.site ∷ []) c.callee) (get_or t k []) y w in
-        let u = under t levels (path ++ c.0.site ∷ []) c.0.callee y c.2 in
-        subst (IsBefore path) (sym (u.1 ∙ append_assoc path (c.0.site ∷ []) u.0)) (under_is_after path c.0.site u.0),
-    rising_below levels path (get_or t k []) (λ c. rising_listed levels (path ++ c.site ∷ []) c.callee) (sites k),
-  )
-
--- sites that do not fall and are apart rise
-rising_sites : (cs : List Calling) → ((i j : ℕ) (c : Calling) → i < j → j < length cs → (get_or cs i c).site < (get_or cs j c).site) → HaveRisingSites cs
-rising_sites [] rise = tt
-rising_sites (c ∷ cs) rise = (
-  λ d w.
-      let lt = w.1 in
-      subst (λ (e : Calling). c.site < e.site) w.2 (rise 0 (suc w.0) d (omega arith) (omega (arith, lt))),
-  rising_sites cs (λ i j d less lt. rise (suc i) (suc j) d (omega (arith, less)) (omega (arith, lt))),
+rising_listed : (t : List (List Calling)) → ((k : ℕ) → AreInOrder SitesRise (get_or t k [])) → (levels : ℕ) (path : List ℕ) (k : ℕ)
+    → AreInOrder PathsRise (listed t levels path k)
+rising_listed t sites zero path k = tt
+rising_listed t sites (suc levels) path k = (
+  λ y w.
+      let c = of_flat_map (λ (c : Calling). listed t levels (path ++ c.site ∷ []) c.callee) (get_or t k []) y w in
+      let u = under_call t levels path c.0 y c.2 in
+      subst (IsBefore path) (sym u.1) (before_longer path c.0.site u.0),
+  in_order_flat PathsRise SitesRise (λ (c : Calling). listed t levels (path ++ c.site ∷ []) c.callee)
+      (λ c. rising_listed t sites levels (path ++ c.site ∷ []) c.callee)
+      (λ c d less x y w v.
+      let a = under_call t levels path c x w in
+      let b = under_call t levels path d y v in
+      subst (λ l. IsBefore l y.path) (sym a.1) (subst (IsBefore (path ++ c.site ∷ a.0)) (sym b.1) (beside path c.site d.site a.0 b.0 less)))
+      (get_or t k []) (sites k),
 )
 
 -- How many calls have a site.
 
-one : ℕ → Calling → ℕ
+abbrev one : ℕ → Calling → ℕ
 one s c = 1 - ((c.site - s) + (s - c.site))
-
-one_is : (s : ℕ) (c : Calling) → c.site ≡ s → one s c ≡ 1
-unfolding one
-one_is s c e = omega (arith, e)
-
-none_is : (s : ℕ) (c : Calling) → (c.site ≡ s → ⊥) → one s c ≡ 0
-unfolding one
-none_is s c e = elim (nat_split c.site s) [
-  | inl lt ↦ omega (arith, lt)
-  | inr le ↦ elim (nat_split s c.site) [ inl less ↦ omega (arith, less) | inr more ↦ absurd (e (omega (arith, le, more))) ]
-]
 
 count_in : (s : ℕ) (cs : List Calling) (k : ℕ) (d : Calling) → k < length cs → (get_or cs k d).site ≡ s → 1 ≤ sum_by (one s) cs
 count_in s [] k d lt e = absurd (omega (arith, lt))
-count_in s (c ∷ cs) zero d lt e = let h = one_is s c e in let sums = sum_by-cons (one s) c cs in omega (arith, h, sums)
-count_in s (c ∷ cs) (suc k) d lt e = let h = count_in s cs k d (omega (arith, lt)) e in let sums = sum_by-cons (one s) c cs in omega (arith, h, sums)
+count_in s (c ∷ cs) zero d lt e = omega (arith, e, sum_by-cons (one s) c cs)
+count_in s (c ∷ cs) (suc k) d lt e = omega (arith, count_in s cs k d (omega (arith, lt)) e, sum_by-cons (one s) c cs)
 
 count_two : (s : ℕ) (cs : List Calling) (i j : ℕ) (d : Calling) → i < j → j < length cs → (get_or cs i d).site ≡ s → (get_or cs j d).site ≡ s
     → 2 ≤ sum_by (one s) cs
 count_two s [] i j d less lt e f = absurd (omega (arith, lt))
 count_two s (c ∷ cs) i zero d less lt e f = absurd (omega (arith, less))
-count_two s (c ∷ cs) zero (suc j) d less lt e f = let h = one_is s c e in let k = count_in s cs j d (omega (arith, lt)) f in
-    let sums = sum_by-cons (one s) c cs in omega (arith, h, k, sums)
-count_two s (c ∷ cs) (suc i) (suc j) d less lt e f = let h = count_two s cs i j d (omega (arith, less)) (omega (arith, lt)) e f in
-    let sums = sum_by-cons (one s) c cs in omega (arith, h, sums)
+count_two s (c ∷ cs) zero (suc j) d less lt e f = omega (arith, e, count_in s cs j d (omega (arith, lt)) f, sum_by-cons (one s) c cs)
+count_two s (c ∷ cs) (suc i) (suc j) d less lt e f = omega (arith, count_two s cs i j d (omega (arith, less)) (omega (arith, lt)) e f, sum_by-cons (one s) c cs)
 
 count_none : (s : ℕ) (cs : List Calling) → ((k : ℕ) (d : Calling) → k < length cs → (get_or cs k d).site ≡ s → ⊥) → sum_by (one s) cs ≡ 0
 count_none s [] none = refl
-count_none s (c ∷ cs) none =
-    let h = none_is s c (none 0 c (omega arith)) in
-    let more = count_none s cs (λ k d lt. none (suc k) d (omega (arith, lt))) in
-    let sums = sum_by-cons (one s) c cs in
-    omega (arith, h, more, sums)
+count_none s (c ∷ cs) none = omega (arith, none 0 c (omega arith), count_none s cs (λ k d lt. none (suc k) d (omega (arith, lt))), sum_by-cons (one s) c cs)
 
 abbrev AreApart : List Calling → Type 0
 AreApart cs = (i j : ℕ) (d : Calling) → i < j → j < length cs → (get_or cs i d).site ≡ (get_or cs j d).site → ⊥
@@ -141,38 +87,27 @@ count_one : (s : ℕ) (cs : List Calling) → AreApart cs → sum_by (one s) cs 
 count_one s [] apart = omega arith
 count_one s (c ∷ cs) apart = elim (cases_eq c.site s) [
   | inl same ↦
-      let h = one_is s c same in
       let none = count_none s cs (λ k d lt e. apart 0 (suc k) d (omega arith) (omega (arith, lt)) (same ∙ sym e)) in
-      let sums = sum_by-cons (one s) c cs in
-      omega (arith, h, none, sums)
+      omega (arith, same, none, sum_by-cons (one s) c cs)
   | inr other ↦
-      let h = none_is s c (λ e. other e) in
       let more = count_one s cs (λ i j d less lt. apart (suc i) (suc j) d (omega (arith, less)) (omega (arith, lt))) in
-      let sums = sum_by-cons (one s) c cs in
-      omega (arith, h, more, sums)
+      omega (arith, other, more, sum_by-cons (one s) c cs)
 ]
 
 -- what is sorted and apart rises
-sorted_rising : (calls sorted : List Calling) → AreApart calls → AreSorted calls sorted → HaveRisingSites sorted
-sorted_rising calls sorted apart are = rising_sites sorted rise
-  where
-    rise : (i j : ℕ) (d : Calling) → i < j → j < length sorted → (get_or sorted i d).site < (get_or sorted j d).site
-    rise i j d less lt =
-        let s = (get_or sorted j d).site in
-        let up = are.rising i j d (omega (arith, less)) lt in
-        elim (cases_eq (get_or sorted i d).site s) [
-          | inl same ↦
-              let two = count_two s sorted i j d less lt same refl in
-              let few = count_one s calls apart in
-              let sums = sum_by-IsPermutation (one s) calls sorted are.same in
-              absurd (omega (arith, two, few, sums))
-          | inr other ↦ elim (nat_split (get_or sorted i d).site s) [ inl below ↦ below | inr ge ↦ absurd (other (omega (arith, up, ge))) ]
-        ]
+sorted_rising : (calls sorted : List Calling) → AreApart calls → AreSorted calls sorted → AreInOrder SitesRise sorted
+sorted_rising calls sorted apart are = in_order_from SitesRise sorted (λ i j d less lt.
+    let s = (get_or sorted j d).site in
+    elim (cases_order (get_or sorted i d).site s) [
+      | inl same ↦
+          absurd (omega (arith, count_two s sorted i j d less lt same refl, count_one s calls apart, sum_by-IsPermutation (one s) calls sorted are.same))
+      | inr (inl below) ↦ below
+      | inr (inr above) ↦ absurd (omega (arith, above, are.rising i j d (omega (arith, less)) lt))
+    ])
 
 callings_apart : (names : List Identifier) (n : NodeTree) → HasSites n → AreApart (callings names (calls n))
 callings_apart names n has i j d less lt e =
-    let size = length_map (calling names) (calls n) in
-    let within : j < length (calls n) = omega (arith, size, lt) in
+    let within : j < length (calls n) = omega (arith, length_map (calling names) (calls n), lt) in
     has.apart i j no_call less within
     (sym (ap (λ (c : Calling). c.site) (map_at (calling names) (calls n) i d no_call (omega (arith, less, within))))
     ∙ e ∙ ap (λ (c : Calling). c.site) (map_at (calling names) (calls n) j d no_call within))
@@ -181,12 +116,12 @@ callings_apart names n has i j d less lt e =
     no_call = record { at = 0; site = 0; name = []; args = None }
 
 module _ (p : ProgramTree) (named : name_faults p ≡ []) (sited : AreSited p) (sorted : List (List Calling)) (are : AreAllSorted (callings_of p) sorted) where
-  sites_of_sorted : (k : ℕ) → HaveRisingSites (get_or sorted k [])
-  sites_of_sorted k = elim (nat_split k (length p.nodes)) [
+  sites_of_sorted : (k : ℕ) → AreInOrder SitesRise (get_or sorted k [])
+  sites_of_sorted k = elim (cases_lt k (length p.nodes)) [
     | inl lt ↦ sorted_rising (callings (names_of p) (calls (get_or p.nodes k no_node))) (get_or sorted k [])
         (callings_apart (names_of p) (get_or p.nodes k no_node) (sited (get_or p.nodes k no_node) (Contains-get_or p.nodes k no_node lt)))
-        (subst (λ cs. AreSorted cs (get_or sorted k [])) (table_at p named k lt) (are.each k (let n = table_size p named in omega (arith, n, lt))))
-    | inr le ↦ subst HaveRisingSites (sym (get_or_past sorted k [] (let n = table_size p named in let m = are.size in omega (arith, n, m, le)))) tt
+        (subst (λ cs. AreSorted cs (get_or sorted k [])) (table_at p named k lt) (are.each k (omega (arith, table_size p named, lt))))
+    | inr le ↦ subst (AreInOrder SitesRise) (sym (get_or_past sorted k [] (omega (arith, table_size p named, are.size, le)))) tt
   ]
 
   -- a call, sorted
@@ -194,14 +129,14 @@ module _ (p : ProgramTree) (named : name_faults p ≡ []) (sited : AreSited p) (
       → Contains (get_or sorted k []) (calling (names_of p) c)
   in_sorted k c lt w =
       Contains-permutation (get_or (callings_of p) k []) (get_or sorted k []) (calling (names_of p) c)
-      (are.each k (let n = table_size p named in omega (arith, n, lt))).same (tabled p named k c lt w)
+      (are.each k (omega (arith, table_size p named, lt))).same (tabled p named k c lt w)
 
   of_sorted : (k : ℕ) (c : Calling) → k < length p.nodes → Contains (get_or sorted k []) c
       → (d : CallTree) × Contains (calls (get_or p.nodes k no_node)) d × (calling (names_of p) d ≡ c)
   of_sorted k c lt w =
       untabled p named k c lt
       (Contains-permutation (get_or sorted k []) (get_or (callings_of p) k []) c
-      (IsPermutation-sym (get_or (callings_of p) k []) (get_or sorted k []) (are.each k (let n = table_size p named in omega (arith, n, lt))).same) w)
+      (IsPermutation-sym (get_or (callings_of p) k []) (get_or sorted k []) (are.each k (omega (arith, table_size p named, lt))).same) w)
 
   number_is : (k : ℕ) (i : Instance) → k < length p.nodes → i.node ≡ get_or p.nodes k no_node → numbered p i ≡ record { path = i.path; node = k }
   number_is k i lt is = ap (λ n. record { path = i.path; node = n }) (ap (λ (n : NodeTree). index_of (names_of p) n.name.text) is ∙ number_of_node p named k lt)
@@ -211,22 +146,21 @@ module _ (p : ProgramTree) (named : name_faults p ≡ []) (sited : AreSited p) (
   listed_all zero a k i lt is w = nothing_in i w
   listed_all (suc levels) a k i lt is w = elim (cons_cases a (flat_map (λ (c : CallTree). unrolled p levels (callee p a c)) (calls a.node)) i w) [
     | inl same ↦ subst (λ (j : Instance). Contains (listed sorted (suc levels) a.path k) (numbered p j)) same
-        (subst (λ (x : Numbered). Contains (listed sorted (suc levels) a.path k) x) (sym (number_is k a lt is)) (0, omega arith, refl))
+        (subst (λ (x : Numbered). Contains (listed sorted (suc levels) a.path k) x) (sym (number_is k a lt is))
+        (at_head (record { path = a.path; node = k }) (flat_map (λ (c : Calling). listed sorted levels (a.path ++ c.site ∷ []) c.callee) (get_or sorted k []))))
     | inr rest ↦
         let c = of_flat_map (λ (c : CallTree). unrolled p levels (callee p a c)) (calls a.node) i rest in
         let here = subst (λ (n : NodeTree). Contains (calls n) c.0) is c.1 in
         let to = called p named c.0.name (calls_declared p named (get_or p.nodes k no_node) c.0 (Contains-get_or p.nodes k no_node lt) here) in
-        Contains-append_right (record { path = a.path; node = k } ∷ [])
+        in_tail (record { path = a.path; node = k })
         (flat_map (λ (c : Calling). listed sorted levels (a.path ++ c.site ∷ []) c.callee) (get_or sorted k [])) (numbered p i)
         (in_flat_map (λ (c : Calling). listed sorted levels (a.path ++ c.site ∷ []) c.callee) (get_or sorted k []) (calling (names_of p) c.0) (numbered p i)
-        (in_sorted k c.0 lt here)
-        (listed_all levels (callee p a c.0) (index_of (names_of p) c.0.name) i to.0 to.1 c.2))
+        (in_sorted k c.0 lt here) (listed_all levels (callee p a c.0) (index_of (names_of p) c.0.name) i to.0 to.1 c.2))
   ]
 
   module _ (main : Identifier) where
     listed_only : (levels : ℕ) (a : Instance) (k : ℕ) (x : Numbered) → IsInstance p main a → k < length p.nodes → a.node ≡ get_or p.nodes k no_node
-        → Contains (listed sorted levels a.path k) x
-        → (i : Instance) × IsInstance p main i × (x ≡ numbered p i)
+        → Contains (listed sorted levels a.path k) x → (i : Instance) × IsInstance p main i × (x ≡ numbered p i)
     listed_only zero a k x inst lt is w = nothing_in x w
     listed_only (suc levels) a k x inst lt is w = elim (cons_cases (record { path = a.path; node = k })
         (flat_map (λ (c : Calling). listed sorted levels (a.path ++ c.site ∷ []) c.callee) (get_or sorted k [])) x w) [
@@ -242,14 +176,12 @@ module _ (p : ProgramTree) (named : name_faults p ≡ []) (sited : AreSited p) (
 
   pub instances_listed : (main : ℕ) → main < length p.nodes → HasNoRecursion p → AreInstances p (name_at p main) (all_listed sorted [] main)
   instances_listed main lt none =
-      let size = table_size p named in
-      let all_sorted = are.size in
       let name = name_at p main in
       let root = main_instance p name in
       let is : root.node ≡ get_or p.nodes main no_node = node_of_number p named main lt in
-      let levels : length sorted ≡ length p.nodes = omega (arith, size, all_sorted) in
+      let levels : length sorted ≡ length p.nodes = omega (arith, table_size p named, are.size) in
       record {
-        rising = λ j k x less within. rising_at (all_listed sorted [] main) (rising_listed sorted sites_of_sorted (length sorted) [] main) j k x less within;
+        rising = in_order_at PathsRise (all_listed sorted [] main) (rising_listed sorted sites_of_sorted (length sorted) [] main);
         all = λ i inst. listed_all (length sorted) root main i lt is
             (subst (λ n. Contains (unrolled p n root) i) (sym levels) (all_found p name named none (name_declared p named main lt) i inst));
         only = λ x w. listed_only name (length sorted) root main x is_main lt is w;

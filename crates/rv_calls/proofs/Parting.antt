@@ -1,6 +1,6 @@
 -- How roots get their components.
 use Rattle.std.proofs.Common.{◌≡◌, ℕ, ◌<◌, ◌⊎◌, inl, inr, [], length, get_or, refl, sym, ◌∙◌, ap, subst, arith, Option, Some, None as Nothing}
-use Rattle.std.proofs.lemmas.List.{get_or_past}
+use Rattle.std.proofs.{lemmas.List.get_or_past, lemmas.Option.same_Some}
 use Rattle.std.specs.List.{Contains}
 use Rattle.rv_calls.specs.Components.{Marks, mark_of, HasMark, AreComponents, IsReversed, IsReached, IsParted}
 use Rattle.rv_calls.specs.{Graphs.Graph, Graphs.edges, Callings.LeadsTo, Callings.there, Callings.over}
@@ -20,14 +20,11 @@ marked_or (Some r) = inr (r, refl)
 pub no_mark : {G : Type 0} (o : Option ℕ) (r : ℕ) → o ≡ Some r → o ≡ Nothing → G
 no_mark o r e n = cc
 
-pub same_mark : (r s : ℕ) → Some r ≡ Some s → r ≡ s
-same_mark r s e = cc
-
 -- only a vertex has an edge
 edge_from : (g : Graph) (a j : ℕ) → j < length (edges g a) → a < length g
 edge_from g a j lt = elim (nat_split a (length g)) [
   | inl less ↦ less
-  | inr past ↦ absurd (let e = ap length (get_or_past g a [] past) in omega (arith, e, lt))
+  | inr past ↦ absurd (omega (arith, ap length (get_or_past g a [] past), lt))
 ]
 
 -- A root without a component.
@@ -58,10 +55,8 @@ module _ (g h : Graph) (turned : IsReversed g h) (seen parts : Marks) (root : �
     seen_whole _ there from = p.start
     seen_whole _ (over a j lt rest) from =
         let w : Contains (edges g a) (get_or (edges g a) j 0) = at_contains (edges g a) (get_or (edges g a) j 0) j lt refl in
-        p.closed (get_or (edges g a) j 0) a
-        (seen_whole (get_or (edges g a) j 0) rest (lead_on g a root (get_or (edges g a) j 0) from w))
-        (turned.whole a (get_or (edges g a) j 0) (edge_from g a j lt) w)
-        (unassigned a from (over a j lt rest))
+        p.closed (get_or (edges g a) j 0) a (seen_whole (get_or (edges g a) j 0) rest (lead_on g a root (get_or (edges g a) j 0) from w))
+        (turned.whole a (get_or (edges g a) j 0) (edge_from g a j lt) w) (unassigned a from (over a j lt rest))
 
     -- the second keeps to it
     parts_whole : (x a : ℕ) → LeadsTo g x a → LeadsTo g root x → mark_of parts_new a ≡ Some root → mark_of parts_new x ≡ Some root
@@ -86,22 +81,19 @@ module _ (g h : Graph) (turned : IsReversed g h) (seen parts : Marks) (root : �
       size = q.size ∙ parted.size;
       own = λ k r e. elim (q.kept k) [
         | inl same ↦ parted.own k r (sym same ∙ e)
-        | inr new ↦ subst (λ s. LeadsTo g s k × LeadsTo g k s) (same_mark root r (sym new ∙ e)) (back k new, q.sound k new)
+        | inr new ↦ subst (λ s. LeadsTo g s k × LeadsTo g k s) (same_Some root r (sym new ∙ e)) (back k new, q.sound k new)
       ];
       whole = λ k m r e from to. elim (q.kept k) [
         | inl same ↦
             let before : mark_of parts m ≡ Some r = parted.whole k m r (sym same ∙ e) from to in
-            elim (q.kept m) [
-              | inl also ↦ also ∙ before
-              | inr new ↦ no_mark (mark_of parts m) r before (p.within m (q.within m new).1).1
-            ]
+            elim (q.kept m) [ inl also ↦ also ∙ before | inr new ↦ no_mark (mark_of parts m) r before (p.within m (q.within m new).1).1 ]
         | inr new ↦
             parts_whole m root (lead_trans g k root m (q.sound k new) from) (lead_trans g k m root to (back k new)) q.start
-            ∙ ap Some (same_mark root r (sym new ∙ e))
+            ∙ ap Some (same_Some root r (sym new ∙ e))
       ];
       fresh = λ k r e. elim (p.kept k) [
         | inl same ↦ still r (parted.fresh k r (sym same ∙ e))
-        | inr new ↦ subst (HasMark parts_new) (same_mark root r (sym new ∙ e)) (root, q.start)
+        | inr new ↦ subst (HasMark parts_new) (same_Some root r (sym new ∙ e)) (root, q.start)
       ];
     }
 
@@ -110,7 +102,6 @@ pub parted_all : (g : Graph) (seen parts : Marks) → IsParted g seen parts → 
 parted_all g seen parts parted all = record {
   size = parted.size;
   together = λ a b a_in b_in e.
-      let w = all a a_in in
-      lead_trans g w.0 a b (parted.own a w.0 w.1).0 (parted.own b w.0 (sym e ∙ w.1)).1;
+      let w = all a a_in in lead_trans g w.0 a b (parted.own a w.0 w.1).0 (parted.own b w.0 (sym e ∙ w.1)).1;
   apart = λ a b a_in to from. let w = all a a_in in w.1 ∙ sym (parted.whole a b w.0 w.1 to from);
 }

@@ -6,9 +6,9 @@ use Rattle.rv_tree.specs.{Tree.NodeTree, Tree.ProgramTree, Places.Identifier, Pl
 use Rattle.rv_types.specs.{Names.name_faults, Instances.CallTree, Instances.calls, Instances.no_node}
 use Rattle.rv_calls.specs.Reach.{Reaches, itself, by_call, IsRecursive, HasNoRecursion, IsFirstRecursion}
 use Rattle.rv_calls.specs.Callings.{calling, callings, callings_of, callees, call_graph, LeadsTo, there, over}
-use Rattle.rv_calls.specs.declared.fault.CauseFault.TheVariants.{Recursive, Cycle, TooLarge, TooWide, Memory}
 use Rattle.rv_calls.specs.Loops.{HasNoLoop, IsFirstLoop, IsRecursion}
-use Rattle.rv_calls.specs.{declared.calls.Calling.Calling, Graphs.edges, Graphs.IsGraph, declared.fault.CauseFault.CauseFault, Nodes.IsRecursionOf}
+use Rattle.rv_calls.specs.{declared.fault.CauseFault.TheVariants.Recursive, declared.fault.CauseFault.TheVariants.Memory, declared.calls.Calling.Calling}
+use Rattle.rv_calls.specs.{Graphs.edges, Graphs.IsGraph, declared.fault.CauseFault.CauseFault, Nodes.IsRecursionOf}
 use Rattle.rv_instances.specs.AllInstances.{names_of}
 use Rattle.rv_instances.proofs.Known.{map_at, number_of_node, node_of_number, called, calls_declared, node_missing}
 use Rattle.rv_instances.proofs.Lists.{length_map}
@@ -61,9 +61,8 @@ module _ (p : ProgramTree) (named : name_faults p ≡ []) where
       let d = untabled a c.0 lt c.1 in
       let to = called p named d.0.name (calls_declared p named (get_or p.nodes a no_node) d.0 (node_in a lt) d.1) in
       let is : index_of (names_of p) d.0.name ≡ get_or (edges (call_graph (callings_of p)) a) j 0 = ap (λ (x : Calling). x.callee) d.2 ∙ c.2 in
-      let within : get_or (edges (call_graph (callings_of p)) a) j 0 < length p.nodes = let l = to.0 in omega (arith, l, is) in
-      by_call (get_or p.nodes a no_node).name.text d.0
-      (subst (λ (n : NodeTree). Contains (calls n) d.0) (sym (node_of_number p named a lt)) d.1)
+      let within : get_or (edges (call_graph (callings_of p)) a) j 0 < length p.nodes = omega (arith, to.0, is) in
+      by_call (get_or p.nodes a no_node).name.text d.0 (subst (λ (n : NodeTree). Contains (calls n) d.0) (sym (node_of_number p named a lt)) d.1)
       (subst (λ f. Reaches p (get_or p.nodes b no_node).name.text f) (ap (λ k. (get_or p.nodes k no_node).name.text) (sym is) ∙ to.2)
       (leads_reaches b (get_or (edges (call_graph (callings_of p)) a) j 0) within rest))
 
@@ -89,22 +88,19 @@ module _ (p : ProgramTree) (named : name_faults p ≡ []) where
       let k = r.node.0 in
       let lt = r.node.1 in
       let same : get_or p.nodes k no_node ≡ n = get_or_default p.nodes k no_node n lt ∙ r.node.2 in
-      let size = table_size in
       let number : index_of (names_of p) n.name.text ≡ k = ap (λ (m : NodeTree). index_of (names_of p) m.name.text) (sym same)
       ∙ number_of_node p named k lt in (
         k,
-        omega (arith, size, lt),
+        omega (arith, table_size, lt),
         tabled k c lt (subst (λ (m : NodeTree). Contains (calls m) c) (sym same) r.call),
         subst (λ u. LeadsTo (call_graph (callings_of p)) u (index_of (names_of p) c.name)) number (reaches_leads n.name.text c.name r.back),
       )
 
   -- and back
   pub loops_recursive : (k : ℕ) (c : Calling) → k < length (callings_of p) → Contains (get_or (callings_of p) k []) c
-      → LeadsTo (call_graph (callings_of p)) k c.callee
-      → (n : NodeTree) × (d : CallTree) × IsRecursive p n d × (d.at ≡ c.at)
+      → LeadsTo (call_graph (callings_of p)) k c.callee → (n : NodeTree) × (d : CallTree) × IsRecursive p n d × (d.at ≡ c.at)
   loops_recursive k c lt w lead =
-      let size = table_size in
-      let within : k < length p.nodes = omega (arith, size, lt) in
+      let within : k < length p.nodes = omega (arith, table_size, lt) in
       let d = untabled k c within w in
       let to = called p named d.0.name (calls_declared p named (get_or p.nodes k no_node) d.0 (node_in k within) d.1) in
       let is : index_of (names_of p) d.0.name ≡ c.callee = ap (λ (x : Calling). x.callee) d.2 in (
@@ -132,6 +128,4 @@ module _ (p : ProgramTree) (named : name_faults p ≡ []) where
   pub recursion_of : (f : CauseFault) → IsRecursion (call_graph (callings_of p)) (callings_of p) f → IsRecursionOf p f
   recursion_of (Recursive at) is = first_recursion at is
   recursion_of Memory is = tt
-  recursion_of (Cycle ps) is = is
-  recursion_of (TooLarge q n) is = is
-  recursion_of (TooWide at) is = is
+  recursion_of _ is = is

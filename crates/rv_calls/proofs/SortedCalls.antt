@@ -15,27 +15,23 @@ module _ (t sorted : List (List Calling)) (are : AreAllSorted t sorted) where
       → (e : ℕ) × (e < length (edges (call_graph t) k)) × (get_or (edges (call_graph t) k) e 0 ≡ get_or (edges (call_graph sorted) k) j 0)
   edge_before k j lt inside =
       let c = call_of sorted k j inside in
-      let size = length_map callees t in
       let w = Contains-permutation (get_or sorted k []) (get_or t k []) c.0
-      (IsPermutation-sym (get_or t k []) (get_or sorted k []) (are.each k (omega (arith, size, lt))).same) c.1 in
-      let e = edge_of t k c.0 w in
-      (e.0, e.1, e.2 ∙ c.2)
+      (IsPermutation-sym (get_or t k []) (get_or sorted k []) (are.each k (omega (arith, length_map callees t, lt))).same) c.1 in
+      let e = edge_of t k c.0 w in (e.0, e.1, e.2 ∙ c.2)
 
   pub sorted_graph : IsGraph (call_graph t) → IsGraph (call_graph sorted)
   sorted_graph graph k j lt inside =
       let size = same_size in
       let within : k < length (call_graph t) = omega (arith, size, lt) in
       let e = edge_before k j within inside in
-      let to = e.2 in
-      let h = graph k e.0 within e.1 in
-      omega (arith, h, to, size)
+      omega (arith, graph k e.0 within e.1, e.2, size)
 
   pub sorted_order : (order : List ℕ) → IsOrdered (call_graph t) order → IsOrdered (call_graph sorted) order
   sorted_order order o = record {
     once = o.once;
-    all = λ k lt. o.all k (let size = same_size in omega (arith, size, lt));
-    size = let size = same_size in let h = o.size in omega (arith, size, h);
-    only = λ j lt. let size = same_size in let h = o.only j lt in omega (arith, size, h);
+    all = λ k lt. o.all k (omega (arith, same_size, lt));
+    size = omega (arith, same_size, o.size);
+    only = λ j lt. omega (arith, same_size, o.only j lt);
     after = λ k j lt inside.
         let e = edge_before (get_or order k 0) j (o.only k lt) inside in
         let v = o.after k e.0 lt e.1 in

@@ -59,28 +59,20 @@ module _ (p : ProgramTree) (main : Identifier) where
   pub accepted_recursion : (g : CauseFault) → IsAccepted p main → IsRecursionOf p g → g ≡ Memory
   accepted_recursion Memory a is = refl
   accepted_recursion (Recursive b) a is = absurd (no_first b a.recursion is)
-  accepted_recursion (Cycle ps) a is = absurd is
-  accepted_recursion (TooLarge q n) a is = absurd is
-  accepted_recursion (TooWide b) a is = absurd is
+  accepted_recursion _ a is = absurd is
 
   pub accepted_size : (g : CauseFault) → IsAccepted p main → IsSizeFault p main g → g ≡ Memory
   accepted_size Memory a is = refl
   accepted_size (TooLarge q n) a is = absurd (within_not_above (measures p main) q n a.sizes is)
-  accepted_size (Recursive b) a is = absurd is
-  accepted_size (Cycle ps) a is = absurd is
-  accepted_size (TooWide b) a is = absurd is
+  accepted_size _ a is = absurd is
 
   -- each has its cause
   pub recursion_cause : (g : CauseFault) → IsRecursionOf p g → HasCause p main g
   recursion_cause Memory is = tt
   recursion_cause (Recursive b) is = is
-  recursion_cause (Cycle ps) is = absurd is
-  recursion_cause (TooLarge q n) is = absurd is
-  recursion_cause (TooWide b) is = absurd is
+  recursion_cause _ is = absurd is
 
   pub size_cause : (g : CauseFault) → HasNoRecursion p → IsSizeFault p main g → HasCause p main g
   size_cause Memory none is = tt
   size_cause (TooLarge q n) none is = (none, is)
-  size_cause (Recursive b) none is = absurd is
-  size_cause (Cycle ps) none is = absurd is
-  size_cause (TooWide b) none is = absurd is
+  size_cause _ none is = absurd is

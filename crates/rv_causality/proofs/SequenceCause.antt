@@ -56,18 +56,16 @@ module _ (p : ProgramTree) (main : Identifier) (instances : List Numbered) (know
 
   -- and an accepted one has no fault
   pub not_faulty : (g : CauseFault) → IsAccepted p main → IsSequenceFault p main g → g ≡ Memory
-  not_faulty (Recursive at) a is = absurd is
-  not_faulty (TooLarge q n) a is = absurd is
   not_faulty (Cycle ps) a is = absurd (a.cycles (sites_of ps) is.0)
   not_faulty (TooWide at) a is = absurd (not_both p main instances known (sided p main instances known) is.0.0 is.0.1 at a.weights is.1)
   not_faulty Memory a is = refl
+  not_faulty _ a is = absurd is
 
   pub sequence_cause : (g : CauseFault) → IsSequenceFault p main g → HasCause p main g
-  sequence_cause (Recursive at) is = absurd is
-  sequence_cause (TooLarge q n) is = absurd is
   sequence_cause (Cycle ps) is = (none, sizes, is)
   sequence_cause (TooWide at) is = (none, sizes, acyclic is.0.0 is.0.1, is.1)
   sequence_cause Memory is = tt
+  sequence_cause _ is = absurd is
 
   pub sequence_matches : (f g : CauseFault) → IsCause p main f → IsSequenceFault p main g → (g ≡ Memory) ⊎ Matches f g
   sequence_matches f Memory cause is = inl refl

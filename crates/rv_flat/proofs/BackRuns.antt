@@ -1,15 +1,15 @@
 -- A run of a flat system is one of its program, in whole numbers of any size.
-use Rattle.std.proofs.Common.{◌≡◌, inl, inr, ℕ, zero, suc, ◌+◌, ◌<◌, ◌≤◌, Bool, false, ◌||◌, List, [], ◌∷◌, ◌++◌, length, length-append, map, get_or, refl, sym}
-use Rattle.std.proofs.Common.{◌∙◌, ap, subst, arith, slice_get, None as Nothing, Some}
-use Rattle.std.proofs.lemmas.List.{ext_get_or, get_or-map, get_or_push, get_or_append_left}
-use Rattle.std.proofs.{Math.Nat.eq-or-lt_of_le, Math.ListN.length-map}
-use Rattle.std.specs.FinMap.{empty}
+use Rattle.std.proofs.Common.{◌≡◌, ℕ, zero, suc, ◌+◌, ◌<◌, ◌≤◌, Bool, false, ◌||◌, List, ◌∷◌, length, map, get_or, refl, sym, ◌∙◌, ap, subst, arith, slice_get}
+use Rattle.std.proofs.Common.{None as Nothing, Some}
+use Rattle.std.proofs.lemmas.List.FromFn.{length-map-range_with_len, get_or-map-range_with_len}
+use Rattle.std.proofs.{lemmas.List.ext_get_or, lemmas.Option.get_or_from_slice_get, lemmas.Option.slice_get_within, Math.ListN.length-map}
+use Rattle.std.specs.{FinMap.empty, List.range_with_len}
 use Rattle.rv_base.specs.declared.value.Value.{Value}
-use Rattle.rv_base.specs.declared.value.Value.TheVariants.{Flag, Label, Whole}
+use Rattle.rv_base.specs.declared.value.Value.TheVariants.{Flag}
 use Rattle.rv_tree.specs.{Tree.ProgramTree, Places.Identifier, Places.Sites, Places.index_of}
-use Rattle.rv_types.specs.{declared.typed.Kind.Kind, Instances.IsNode, Lists.AreRising, Lists.memory_at, Values.HasKind, Values.labels_at, WellFormed.AreWell}
+use Rattle.rv_types.specs.{declared.typed.Kind.Kind, Instances.IsNode, Lists.memory_at, Values.HasKind, WellFormed.AreWell}
 use Rattle.rv_types.specs.declared.typed.Kind.TheVariants as kind
-use Rattle.rv_meaning.specs.Runs.{History, Instant, cells, AreStarts, AreInputs, IsRun}
+use Rattle.rv_meaning.specs.Runs.{History, cells, AreStarts, AreInputs, IsRun}
 use Rattle.rv_meaning.specs.{Instants.State as Brought, Instants.IsInstant, Instants.IsNext, Following.IsStateAt, Following.AreSteps}
 use Rattle.rv_agreement.specs.{Agreement.State, Agreement.HasKind as HasKindIn, Evaluation.IsInstant as IsSystemInstant, Evaluation.integers}
 use Rattle.rv_agreement.specs.{FlatRuns.IsFlatRun, Trees.System, Trees.kind_at}
@@ -19,8 +19,8 @@ use Rattle.rv_agreement.specs.Trees as trees
 use Rattle.rv_flat.specs.FlatInstants.{Row, places, memory_places, system_of, found_at, IsFlatInstant, IsFlatNext}
 use Rattle.rv_flat.specs.{declared.flat.Flat.Flat, FlatOf.IsFlatOf, FlatOf.flat_state, FlatOf.flat_inputs, FlatOf.row_of, FlatOf.instant_of, Lists.tick_places}
 use Rattle.rv_flat.specs.{Steps.label_counts, Steps.memory_kinds, Steps.input_kinds, SystemRuns.HasRun, Systems.flow_item, Systems.kept_of}
-use Rattle.rv_flat.proofs.Typing.{SomeNext, counts_same, length-values, value_kth, memory_found, memories_rising}
-use Rattle.rv_flat.proofs.{Running.all_false, SystemRuns.kept_kinds, SystemRuns.kept_items, TickList.number_at}
+use Rattle.rv_flat.proofs.Typing.{SomeNext, counts_same, kept_again, number_of, values_again}
+use Rattle.rv_flat.proofs.{Running.all_false, SystemRuns.kept_kinds, SystemRuns.kept_items, SystemRuns.kind_there}
 
 -- What is taken from the meaning: steps from the start are the run.
 abbrev pub StepsAreRun : Type 0
@@ -28,46 +28,13 @@ StepsAreRun = (program : ProgramTree) (main : Identifier) (starts : Sites → Va
     → AreStarts program main starts → AreInputs program main n inputs → AreSteps program main starts inputs n states rows
     → IsRun program main starts inputs n rows × ((t : ℕ) → t < n → IsStateAt program main starts (cells rows) t (states t))
 
--- a value of a type in the system is one of the program
-kind_back : (p : ProgramTree) (counts : List ℕ) → ((i : ℕ) → get_or counts i 0 ≡ labels_at p.types i) → (k : Kind) (v : Value) → HasKindIn counts k v
-    → HasKind p k v
-kind_back p counts same kind.Bool (Flag b) h = tt
-kind_back p counts same kind.Bool (Label l) h = absurd h
-kind_back p counts same kind.Bool (Whole z) h = absurd h
-kind_back p counts same kind.Int (Flag b) h = absurd h
-kind_back p counts same kind.Int (Label l) h = absurd h
-kind_back p counts same kind.Int (Whole z) h = tt
-kind_back p counts same (kind.Labels i) (Flag b) h = absurd h
-kind_back p counts same (kind.Labels i) (Label l) h = omega (arith, same i, h)
-kind_back p counts same (kind.Labels i) (Whole z) h = absurd h
-
 -- the type with a number, where there is one
 kind_found : (ks : List Kind) (m : ℕ) (k : Kind) → slice_get ks m ≡ Some k → (m < length ks) × (kind_at ks m ≡ k)
-kind_found [] m k e = absurd (grind arith)
-kind_found (j ∷ ks) zero k e = (omega arith, let same : j ≡ k = grind arith in same)
-kind_found (j ∷ ks) (suc m) k e = let r = kind_found ks m k e in (omega (arith, r.0), r.1)
-
--- the first rows, as many as are said
-first_rows : (ℕ → Instant) → ℕ → List Instant
-first_rows g zero = []
-first_rows g (suc n) = first_rows g n ++ g n ∷ []
-
-length-rows : (g : ℕ → Instant) (n : ℕ) → length (first_rows g n) ≡ n
-unfolding first_rows
-length-rows g zero = refl
-length-rows g (suc n) = omega (arith, length-append (first_rows g n) (g n ∷ []), length-rows g n)
-
-row_kth : (g : ℕ → Instant) (n k : ℕ) → k < n → get_or (first_rows g n) k empty ≡ g k
-unfolding first_rows
-row_kth g zero k lt = absurd (omega arith)
-row_kth g (suc n) k lt = elim (eq-or-lt_of_le {n = k} {m = n} (omega arith)) [
-  | inl same ↦ subst (λ j. get_or (first_rows g (suc n)) j empty ≡ g j) (sym same) (get_or_push (first_rows g n) (g n) empty n (length-rows g n))
-  | inr below ↦ get_or_append_left (first_rows g n) (g n ∷ []) empty k (omega (arith, length-rows g n)) ∙ row_kth g n k below
-]
+kind_found ks m k e = (slice_get_within ks m k e, get_or_from_slice_get ks m k kind.Bool e)
 
 module _ (steps_are_run : StepsAreRun) (some_next : SomeNext) (program : ProgramTree) (main : Identifier) (f : Flat) (well : AreWell program)
-    (named : IsNode program main) (flat : IsFlatOf program main f)
-    (n : ℕ) (states : ℕ → State) (inputs : ℕ → List Value) (rows : ℕ → Row) (run : IsFlatRun (system_of f) n states inputs rows) (some : 0 < n) where
+    (named : IsNode program main) (flat : IsFlatOf program main f) (n : ℕ) (states : ℕ → State) (inputs : ℕ → List Value) (rows : ℕ → Row)
+    (run : IsFlatRun (system_of f) n states inputs rows) (some : 0 < n) where
   abbrev system : System
   system = system_of f
 
@@ -77,41 +44,27 @@ module _ (steps_are_run : StepsAreRun) (some_next : SomeNext) (program : Program
   abbrev given : ℕ → ℕ → Value
   given t j = get_or (inputs t) j (Flag false)
 
-  same_counts : (i : ℕ) → get_or (label_counts f) i 0 ≡ labels_at program.types i
-  same_counts = counts_same program main f well named flat
-
-  rising : AreRising (memory_places f)
-  rising = memories_rising program main f well named flat
-
-  count : length (memory_places f) ≡ length f.memories
-  count = length-map f.memories (λ m. m.place.sites)
+  kind_back : (k : Kind) (v : Value) → HasKindIn (label_counts f) k v → HasKind program k v
+  kind_back k v h = (kind_there program (label_counts f) (counts_same program main f flat) k v).1 h
 
   kinds_count : length (trees.memory_kinds system) ≡ length f.memories
   kinds_count = ap length (kept_kinds f.memories f.memories) ∙ length-map f.memories (λ m. m.kind)
 
   starts_typed : AreStarts program main starts
   starts_typed i d inst w =
-      let at = memory_at program i d in
-      let found = memory_found f.memories at (flat.memories.all i d inst tt w) in
-      let number : index_of (memory_places f) at.place ≡ found.0 = ap (index_of (memory_places f)) (sym found.3)
-      ∙ number_at (memory_places f) rising found.0 (omega (arith, count, found.1)) in
-      let is = kind_found (trees.memory_kinds system) found.0 at.kind (ap (λ ks. slice_get ks found.0) (kept_kinds f.memories f.memories) ∙ found.2) in
-      subst (HasKind program at.kind) (ap (λ j. get_or (states 0).kept j (Flag false)) (sym number))
-      (kind_back program (label_counts f) same_counts at.kind (get_or (states 0).kept found.0 (Flag false))
-      (subst (λ k. HasKindIn system.labels k (get_or (states 0).kept found.0 (Flag false))) is.1 ((run.typed 0 some).memories.each found.0 is.0)))
+      let k = (memory_at program i d).kind in
+      let at = number_of program main f well named flat i d inst w in
+      let is = kind_found (trees.memory_kinds system) at.0 k (ap (λ ks. slice_get ks at.0) (kept_kinds f.memories f.memories) ∙ at.2) in
+      subst (λ m. HasKind program k (get_or (states 0).kept m (Flag false))) (sym at.3) (kind_back k (get_or (states 0).kept at.0 (Flag false))
+      (subst (λ k. HasKindIn system.labels k (get_or (states 0).kept at.0 (Flag false))) is.1 ((run.typed 0 some).memories.each at.0 is.0)))
 
   inputs_typed : AreInputs program main n given
   inputs_typed t j k lt e =
       let is = kind_found system.inputs j k (ap (λ ks. slice_get ks j) flat.input_kinds ∙ e) in
-      kind_back program (label_counts f) same_counts k (given t j)
-      (subst (λ i. HasKindIn system.labels i (given t j)) is.1 ((run.typed t lt).given.each j is.0))
+      kind_back k (given t j) (subst (λ i. HasKindIn system.labels i (given t j)) is.1 ((run.typed t lt).given.each j is.0))
 
   inputs_same : (t : ℕ) → t < n → inputs t ≡ flat_inputs f (given t)
-  inputs_same t lt =
-      let long = length-values (given t) (length f.inputs) in
-      let many = (run.typed t lt).given.many ∙ length-map f.inputs (λ i. i.kind) in
-      sym (ext_get_or (Flag false) (flat_inputs f (given t)) (inputs t) (omega (arith, long, many))
-      (λ k less. value_kth (given t) (length f.inputs) k (omega (arith, long, less))))
+  inputs_same t lt = sym (values_again (inputs t) (length f.inputs) ((run.typed t lt).given.many ∙ length-map f.inputs (λ i. i.kind)))
 
   -- the states of the program
   brought : ℕ → Brought
@@ -150,13 +103,7 @@ module _ (steps_are_run : StepsAreRun) (some_next : SomeNext) (program : Program
   unfolding brought
   same_at zero le = record {
     ticked = λ k. run.start k ∙ sym (all_false (λ o. false) (Nothing ∷ map (λ p. Some p) (tick_places f.variables)) (λ o. refl) k);
-    kept =
-        let long : length (flat_state f (brought 0)).kept ≡ length (memory_places f) = length-map (memory_places f) starts in
-        let many = (run.typed 0 some).memories.many in
-        sym (ext_get_or (Flag false) (flat_state f (brought 0)).kept (states 0).kept (omega (arith, long, count, many, kinds_count))
-        (λ m lt. let less : m < length (memory_places f) = omega (arith, long, lt) in
-        get_or-map starts (memory_places f) m [] (Flag false) less ∙ ap (λ j. get_or (states 0).kept j (Flag false))
-        (number_at (memory_places f) rising m less)));
+    kept = sym (kept_again program main f well named flat (states 0).kept ((run.typed 0 some).memories.many ∙ kinds_count));
   }
   same_at (suc t) le =
       let lt : t < n = omega arith in
@@ -181,15 +128,15 @@ module _ (steps_are_run : StepsAreRun) (some_next : SomeNext) (program : Program
       }
 
   abbrev history : History
-  history = first_rows (λ t. instant_of (places f) (rows t)) n
+  history = map (λ t. instant_of (places f) (rows t)) (range_with_len 0 n)
 
   row_at : (t : ℕ) → t < n → get_or history t empty ≡ instant_of (places f) (rows t)
-  row_at t lt = row_kth (λ u. instant_of (places f) (rows u)) n t lt
+  row_at t lt = get_or-map-range_with_len (λ u. instant_of (places f) (rows u)) 0 n t t empty lt (omega arith)
 
   are_steps : AreSteps program main starts given n brought history
   unfolding brought
   are_steps = record {
-    instants = length-rows (λ t. instant_of (places f) (rows t)) n;
+    instants = length-map-range_with_len (λ t. instant_of (places f) (rows t)) 0 n;
     start = record { ticks = λ k. refl; memories = λ i d inst w. refl };
     instant = λ t lt. subst (IsInstant program main (brought t) (given t)) (sym (row_at t lt)) (instant_at t lt (same_at t (omega arith)));
     next = λ t lt.

@@ -8,20 +8,20 @@ use Rattle.rv_base.specs.declared.value.Place.{Place}
 use Rattle.rv_tree.specs.Places.{Sites}
 use Rattle.rv_types.specs.Needs.{IsBefore}
 use Rattle.rv_flat.specs.{Earliest.is_before, Earliest.sooner, Earliest.IsPicked, Steps.IsLeast, Steps.IsLeastOf}
-use Rattle.rv_types.proofs.PlaceOrders.{not_itself}
+use Rattle.rv_types.proofs.{ChainLaws.no_flag, PlaceOrders.not_itself}
 
 -- the test says what the order does
 pub before_tested : (p q : Sites) → is_before p q ≡ true → IsBefore p q
-before_tested [] [] e = let bad : false ≡ true = e in absurd (grind arith)
 before_tested [] (y ∷ ys) e = tt
-before_tested (x ∷ xs) [] e = let bad : false ≡ true = e in absurd (grind arith)
+before_tested [] [] e = no_flag e
+before_tested (x ∷ xs) [] e = no_flag e
 before_tested (x ∷ xs) (y ∷ ys) e = tested (nat_cmp x y) refl e (before_tested xs ys)
   where
     tested : (o : Ordering) → nat_cmp x y ≡ o → is_lt (ordering_then o (slice_cmp nat_cmp xs ys)) ≡ true → (is_before xs ys ≡ true → IsBefore xs ys)
         → (x < y) ⊎ ((x ≡ y) × IsBefore xs ys)
     tested Less is e later = inl (grind (arith, nat_tests))
     tested Equal is e later = inr (grind (arith, nat_tests), later e)
-    tested Greater is e later = let bad : false ≡ true = e in absurd (grind arith)
+    tested Greater is e later = no_flag e
 
 chain : (p q r : Sites) → IsBefore p q → IsBefore q r → IsBefore p r
 chain p q [] b c = c
@@ -36,13 +36,13 @@ chain (x ∷ xs) (y ∷ ys) (z ∷ zs) (inr (e, b)) (inr (same, c)) = inr (e ∙
 as_early : (p q : Sites) → is_before q p ≡ false → (p ≡ q) ⊎ IsBefore p q
 as_early [] [] e = inl refl
 as_early [] (y ∷ ys) e = inr tt
-as_early (x ∷ xs) [] e = let bad : true ≡ false = e in absurd (grind arith)
+as_early (x ∷ xs) [] e = no_flag (sym e)
 as_early (x ∷ xs) (y ∷ ys) e = tested (nat_cmp y x) refl e (as_early xs ys)
   where
     tested : (o : Ordering) → nat_cmp y x ≡ o → is_lt (ordering_then o (slice_cmp nat_cmp ys xs)) ≡ false
         → (is_before ys xs ≡ false → (xs ≡ ys) ⊎ IsBefore xs ys)
         → (x ∷ xs ≡ y ∷ ys) ⊎ ((x < y) ⊎ ((x ≡ y) × IsBefore xs ys))
-    tested Less is e later = let bad : true ≡ false = e in absurd (grind arith)
+    tested Less is e later = no_flag (sym e)
     tested Greater is e later = inr (inl (grind (arith, nat_tests)))
     tested Equal is e later =
         let same : x ≡ y = grind (arith, nat_tests) in
@@ -52,22 +52,13 @@ as_early (x ∷ xs) (y ∷ ys) e = tested (nat_cmp y x) refl e (as_early xs ys)
 -- not among those.
 least_with : (Is And : Sites → Type 0) (p : Option Place) (q : Place) → IsLeastOf Is p → And q.sites → ((r : Sites) → And r → (IsBefore r q.sites → ⊥) ⊎ Is r)
     → ((r : Sites) → Is r → And r) → IsLeast And (sooner p q).sites
-least_with Is And Nothing q least here one all = (
-  here,
-  λ r is b. elim (one r is) [
-    | inl later ↦ later b
-    | inr other ↦ least r other
-  ],
-)
+least_with Is And Nothing q least here one all = (here, λ r is b. elim (one r is) [ inl later ↦ later b | inr other ↦ least r other ])
 least_with Is And (Some p) q least here one all = tested (is_before q.sites p.sites) refl
   where
     tested : (b : Bool) → is_before q.sites p.sites ≡ b → IsLeast And (cond b q p).sites
     tested true e = (
       here,
-      λ r is b. elim (one r is) [
-        | inl later ↦ later b
-        | inr other ↦ least.1 r other (chain r q.sites p.sites b (before_tested q.sites p.sites e))
-      ],
+      λ r is b. elim (one r is) [ inl later ↦ later b | inr other ↦ least.1 r other (chain r q.sites p.sites b (before_tested q.sites p.sites e)) ],
     )
     tested false e = (
       all p.sites least.0,
@@ -79,8 +70,8 @@ least_with Is And (Some p) q least here one all = tested (is_before q.sites p.si
 
 -- the least of two kinds of places
 pub least_joined : (A B : Sites → Type 0) (p : Option Place) (q : Place) → IsLeastOf A p → IsLeast B q.sites → IsLeast (λ r. A r ⊎ B r) (sooner p q).sites
-least_joined A B p q a b = least_with A (λ r. A r ⊎ B r) p q a (inr b.0) (λ r is. elim is [ inl of_a ↦ inr of_a | inr of_b ↦ inl (b.1 r of_b) ])
-    (λ r is. inl is)
+least_joined A B p q a b =
+    least_with A (λ r. A r ⊎ B r) p q a (inr b.0) (λ r is. elim is [ inl of_a ↦ inr of_a | inr of_b ↦ inl (b.1 r of_b) ]) (λ r is. inl is)
 
 pub least_alone : (A B : Sites → Type 0) (p : Option Place) → IsLeastOf A p → ((q : Sites) → B q → ⊥) → IsLeastOf (λ r. A r ⊎ B r) p
 least_alone A B Nothing a none = λ q is. elim is [ inl of_a ↦ a q of_a | inr of_b ↦ none q of_b ]
@@ -108,7 +99,7 @@ module _ (test : ℕ → Bool) (places : List Sites) (n : ℕ) where
 
   picked_no_more : test n ≡ false → (q : Sites) → IsPicked test places (n + 1) q → IsPicked test places n q
   picked_no_more fails q w = elim (eq-or-lt_of_le {n = w.0} {m = n} (omega (arith, w.1))) [
-    | inl same ↦ let bad : false ≡ true = sym fails ∙ ap test (sym same) ∙ w.2 in absurd (grind arith)
+    | inl same ↦ no_flag (sym fails ∙ ap test (sym same) ∙ w.2)
     | inr below ↦ (w.0, below, w.2, w.3)
   ]
 

@@ -3,8 +3,7 @@ use Rattle.std.proofs.Common.{◌≡◌, ℕ, zero, suc, ◌+◌, ◌*◌, ◌<�
 use Rattle.std.proofs.Common.{length-append}
 use Rattle.std.proofs.lemmas.List.{get_or_append_left, get_or_push}
 use Rattle.rv_agreement.specs.Checks.{clock_fits, fits, item_fits, flows_fit}
-use Rattle.rv_agreement.specs.Trees.{FlatTree, Node, TreeForm, Constant, Flow, Memory, Ticked, Input, Not, Binary, Scale, If, AtMostOne, When, Current, Item}
-use Rattle.rv_agreement.specs.Trees.{System, kind_at, nth_item}
+use Rattle.rv_agreement.specs.Trees.{FlatTree, Node, TreeForm, Flow, Binary, Scale, If, When, Current, Item, System, kind_at, nth_item}
 use Rattle.rv_flat.specs.Facts.{weight_under, flat_weight, form_flat_weight, is_light, weights_after, items_light}
 use Rattle.rv_flat.specs.Tame.{IsOver, FormIsOver}
 use Rattle.rv_flat.proofs.NamedTicks.{over}
@@ -17,18 +16,13 @@ module _ (ws vs : List ℕ) (n : ℕ) (agree : (k : ℕ) → k < n → get_or ws
     same_weight (Node at form) is = same_form form is
 
     same_form : (form : TreeForm) → FormIsOver n form → form_flat_weight ws form ≡ form_flat_weight vs form
-    same_form (Constant c) is = refl
     same_form (Flow k) is = agree k is
-    same_form (Memory m) is = refl
-    same_form (Ticked t) is = refl
-    same_form (Input j) is = refl
-    same_form (Not e) is = refl
     same_form (Binary o a b) is = λ i. weight_under o (same_weight a is.0 i) (same_weight b is.1 i)
     same_form (Scale z e) is = ap (λ w. nat_abs z * w) (same_weight e is)
     same_form (If c a b) is = λ i. max (same_weight a is.1.0 i) (same_weight b is.1.1 i)
-    same_form (AtMostOne es) is = refl
     same_form (When c e) is = same_weight e is
     same_form (Current m k e) is = ap (λ w. max w 1) (same_weight e is.1)
+    same_form _ is = refl
 
 -- the weights of earlier flows stay
 weights_kept : (ws : List ℕ) (xs : List Item) (i : ℕ) → i < length ws → get_or (weights_after ws xs) i 0 ≡ get_or ws i 0

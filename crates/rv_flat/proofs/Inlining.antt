@@ -2,13 +2,14 @@
 use Rattle.std.proofs.Common.{◌≡◌, ℕ, zero, suc, ◌<◌, Bool, true, ◌&&◌, List, [], ◌∷◌, length, map, refl, sym, ◌∙◌, ap, subst, arith, inl, inr, Option}
 use Rattle.std.proofs.Common.{None as Nothing, Some}
 use Rattle.std.proofs.{lemmas.Bool.and_parts, lemmas.Bool.cases_lt, lemmas.Option.slice_get_past, lemmas.Option.slice_get_within, Math.Nat.eq-or-lt_of_le}
+use Rattle.std.proofs.{lemmas.Simd.map-map}
 use Rattle.std.specs.Prelude.{slice_get}
 use Rattle.rv_agreement.specs.Checks.{IsShared, FormIsShared, AreShared, IsInlined}
 use Rattle.rv_agreement.specs.Trees.{Item, Kept, System, no_item, nth_item, memory_items}
 use Rattle.rv_agreement.specs.Trees as tree
 use Rattle.rv_flat.specs.Inlined.{inlined, form_inlined, all_inlined, item_by, table_to, table_of, shown_ends, ends_within, all_end, IsTable}
-use Rattle.rv_flat.specs.RawTree.{RawTree, Node, RawForm, RawTrees, Constant, Flow, Memory, Ticked, Input, Not, Binary, Scale, If, AtMostOne, When, Current}
-use Rattle.rv_flat.specs.RawTree.{None, More, raw_tree, all_shown, form_all_shown, each_all_shown}
+use Rattle.rv_flat.specs.RawTree.{RawTree, Node, RawForm, RawTrees, Not, Binary, Scale, If, AtMostOne, When, Current, None, More, raw_tree, all_shown}
+use Rattle.rv_flat.specs.RawTree.{form_all_shown, each_all_shown}
 use Rattle.rv_flat.specs.Systems.{asserted, assertion_item, flow_item, kept_of, memory_item, system_from}
 use Rattle.rv_flat.specs.{declared.parts.Bit.Bit, declared.parts.FlatExpr.FlatExpr, declared.parts.FlatFlow.FlatFlow, declared.parts.FlatInput.FlatInput}
 use Rattle.rv_flat.specs.{declared.parts.FlatMemory.FlatMemory}
@@ -21,11 +22,6 @@ module _ (has : ℕ → Bool) (a b : ℕ → Item) (agree : (m : ℕ) → has m 
     same_inlined (Node at form) e = ap (tree.Node at) (same_form form e)
 
     same_form : (form : RawForm) → form_all_shown has form ≡ true → form_inlined a form ≡ form_inlined b form
-    same_form (Constant v) e = refl
-    same_form (Flow k) e = refl
-    same_form (Memory m) e = refl
-    same_form (Ticked k) e = refl
-    same_form (Input j) e = refl
     same_form (Not x) e = ap tree.Not (same_inlined x e)
     same_form (Binary o x y) e =
         let parts = and_parts (all_shown has x) (all_shown has y) e in
@@ -38,6 +34,7 @@ module _ (has : ℕ → Bool) (a b : ℕ → Item) (agree : (m : ℕ) → has m 
     same_form (AtMostOne es) e = ap tree.AtMostOne (same_each es e)
     same_form (When c x) e = ap (tree.When c) (same_inlined x e)
     same_form (Current m) e = let s = agree m e in λ i. tree.Current m (s i).clock (s i).body
+    same_form _ e = refl
 
     same_each : (es : RawTrees) → each_all_shown has es ≡ true → all_inlined a es ≡ all_inlined b es
     same_each None e = refl
@@ -54,11 +51,8 @@ module _ (ms : List FlatMemory) where
       by : (o : Option FlatMemory) → shown_ends (ends_within ms n) o ≡ true → ((j : ℕ) → ends_within ms n j ≡ true → table_to ms (suc n) j ≡ table_to ms n j)
           → item_by (table_to ms (suc n)) o ≡ item_by (table_to ms n) o
       by Nothing e inner = refl
-      by (Some m) e inner = λ i. record {
-        clock = m.clock;
-        body = same_inlined (ends_within ms n) (table_to ms (suc n)) (table_to ms n) inner
-            (raw_tree m.body) e i;
-      }
+      by (Some m) e inner =
+          λ i. record { clock = m.clock; body = same_inlined (ends_within ms n) (table_to ms (suc n)) (table_to ms n) inner (raw_tree m.body) e i }
 
   ends_kth : (n k : ℕ) → all_end ms n ≡ true → k < n → ends_within ms (length ms) k ≡ true
   ends_kth zero k e lt = absurd (omega arith)
@@ -86,18 +80,13 @@ mutual
   all_any (Node at form) = form_any form
 
   form_any : (form : RawForm) → form_all_shown (λ m. true) form ≡ true
-  form_any (Constant v) = refl
-  form_any (Flow k) = refl
-  form_any (Memory m) = refl
-  form_any (Ticked k) = refl
-  form_any (Input j) = refl
   form_any (Not e) = all_any e
   form_any (Binary o a b) = λ i. all_any a i && all_any b i
   form_any (Scale z e) = all_any e
   form_any (If c a b) = λ i. all_any c i && (all_any a i && all_any b i)
   form_any (AtMostOne es) = each_any es
   form_any (When c e) = all_any e
-  form_any (Current m) = refl
+  form_any _ = refl
 
   each_any : (es : RawTrees) → each_all_shown (λ m. true) es ≡ true
   each_any None = refl
@@ -111,15 +100,8 @@ module _ (s : System) (table : ℕ → Item) (has : ℕ → Bool) (at : (m : ℕ
     tree_shared (Node place form) e = form_shared form e
 
     form_shared : (form : RawForm) → form_all_shown has form ≡ true → FormIsShared s (form_inlined table form)
-    form_shared (Constant v) e = tt
-    form_shared (Flow k) e = tt
-    form_shared (Memory m) e = tt
-    form_shared (Ticked k) e = tt
-    form_shared (Input j) e = tt
     form_shared (Not x) e = tree_shared x e
-    form_shared (Binary o x y) e =
-        let parts = and_parts (all_shown has x) (all_shown has y) e in
-        (tree_shared x parts.0, tree_shared y parts.1)
+    form_shared (Binary o x y) e = let parts = and_parts (all_shown has x) (all_shown has y) e in (tree_shared x parts.0, tree_shared y parts.1)
     form_shared (Scale z x) e = tree_shared x e
     form_shared (If c x y) e =
         let outer = and_parts (all_shown has c) (all_shown has x && all_shown has y) e in
@@ -128,12 +110,11 @@ module _ (s : System) (table : ℕ → Item) (has : ℕ → Bool) (at : (m : ℕ
     form_shared (AtMostOne es) e = each_shared es e
     form_shared (When c x) e = tree_shared x e
     form_shared (Current m) e = (at m, inner m e)
+    form_shared _ e = tt
 
     each_shared : (es : RawTrees) → each_all_shown has es ≡ true → AreShared s (all_inlined table es)
     each_shared None e = tt
-    each_shared (More x es) e =
-        let parts = and_parts (all_shown has x) (each_all_shown has es) e in
-        (tree_shared x parts.0, each_shared es parts.1)
+    each_shared (More x es) e = let parts = and_parts (all_shown has x) (each_all_shown has es) e in (tree_shared x parts.0, each_shared es parts.1)
 
 -- the items of the memories, where a table has them, and as a system has them
 items_are : (all ms : List FlatMemory) (table : ℕ → Item) → ((k : ℕ) (m : FlatMemory) → slice_get ms k ≡ Some m → table k ≡ memory_item all m)
@@ -143,8 +124,7 @@ items_are all (x ∷ ms) table at past zero = sym (at 0 x refl)
 items_are all (x ∷ ms) table at past (suc k) = items_are all ms (λ j. table (suc j)) (λ j. at (suc j)) (λ j. past (suc j)) k
 
 pub items_kept : (all ms : List FlatMemory) → map (λ (x : Kept). x.item) (map (kept_of all) ms) ≡ map (memory_item all) ms
-items_kept all [] = refl
-items_kept all (x ∷ ms) = ap (λ xs. memory_item all x ∷ xs) (items_kept all ms)
+items_kept all ms = map-map (λ (x : Kept). x.item) (kept_of all) ms
 
 pub item_at : (ms : List FlatMemory) → all_end ms (length ms) ≡ true → (m : ℕ) → nth_item (map (memory_item ms) ms) m ≡ table_of ms m
 item_at ms ends m = items_are ms ms (table_of ms) (is_table ms ends) (table_past ms) m
@@ -158,8 +138,7 @@ all_shared s item (x ∷ xs) each (suc k) = all_shared s item xs each k
 
 -- In the system of some parts, where following what the memories show ends.
 module _ (flows : List FlatFlow) (ms : List FlatMemory) (inputs : List FlatInput) (assertions : List FlatExpr) (variables : List Bit)
-    (labels : List (List (List ℕ))) (observer : ℕ)
-    (ends : all_end ms (length ms) ≡ true) where
+    (labels : List (List (List ℕ))) (observer : ℕ) (ends : all_end ms (length ms) ≡ true) where
   abbrev system : System
   system = system_from flows ms inputs assertions variables labels observer
 

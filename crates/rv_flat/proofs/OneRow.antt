@@ -23,8 +23,8 @@ item_over s n x fit = (clock_named s n x.clock fit.clock, over s n x.clock fit.k
 pub same_item : (now : State) (inputs : List Value) (row other : Row) (n : ℕ) (x : Item) → IsItemOver n x → ((k : ℕ) → k < n → nth row k ≡ nth other k)
     → item_value now inputs row x ≡ item_value now inputs other x
 same_item now inputs row other n x is agree =
-    λ i. cond (same_there (found_at now inputs) row other n agree x.clock is.0 i) (Some (same_value (found_at now inputs) row other n agree x.body is.1 i))
-    Nothing
+    let found = found_at now inputs in
+    λ i. cond (same_there found row other n agree x.clock is.0 i) (Some (same_value found row other n agree x.body is.1 i)) Nothing
 
 module _ (f : Flat) (now : State) (inputs : List Value) where
   pub fits_kth : (k : ℕ) → k < length f.flows → ItemFits (system_of f) k (nth_item (flow_items f) k)
@@ -60,11 +60,10 @@ module _ (f : Flat) (now : State) (inputs : List Value) where
   filled_row zero le = ([], none_filled)
   filled_row (suc n) le =
       let before = filled_row n (omega arith) in
-      let more = before.0 ++ item_value now inputs before.0 (nth_item (flow_items f) n) ∷ [] in (
-        more,
-        subst (λ k. IsFilled f now inputs k more) (let e : n + 1 ≡ suc n = omega arith in e)
-            (one_filled n before.0 (item_value now inputs before.0 (nth_item (flow_items f) n)) (omega arith) refl before.1),
-      )
+      let value = item_value now inputs before.0 (nth_item (flow_items f) n) in
+      let one : n + 1 ≡ suc n = omega arith in
+      let more = subst (λ k. IsFilled f now inputs k (before.0 ++ value ∷ [])) one (one_filled n before.0 value (omega arith) refl before.1) in
+      (before.0 ++ value ∷ [], more)
 
   -- all flows filled are an instant
   pub instant_filled : (row : Row) → IsFilled f now inputs (length f.flows) row → IsFlatInstant f now inputs row
@@ -90,5 +89,4 @@ module _ (f : Flat) (now : State) (inputs : List Value) where
   pub one_row : (row : Row) × IsFlatInstant f now inputs row × ((other : Row) → IsFlatInstant f now inputs other → other ≡ row)
   one_row =
       let filled = filled_row (length f.flows) (omega arith) in
-      let instant = instant_filled filled.0 filled.1 in
-      (filled.0, instant, λ other is. only_row filled.0 other instant is)
+      (filled.0, instant_filled filled.0 filled.1, λ other is. only_row filled.0 other (instant_filled filled.0 filled.1) is)

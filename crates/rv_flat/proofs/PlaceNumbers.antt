@@ -38,12 +38,12 @@ read_written m p q v = get-insert nat_list_cmp_total m p v q ∙ ap (λ b. cond 
     one_way false true f g = g refl
     one_way false false f g = refl
 
+    tie : (p q : Sites) → eq_by_cmp (slice_cmp nat_cmp) q p ≡ true → eq_by_cmp (slice_cmp nat_cmp) p q ≡ true
+    tie p q e = ap (λ z. eq_by_cmp (slice_cmp nat_cmp) p z) (slice_cmp-IsAntisymmetric nat_cmp-IsAntisymmetric q p (only_equal (slice_cmp nat_cmp q p) e))
+        ∙ ap is_eq (tied_itself nat_list_cmp_total p)
+
     ties : eq_by_cmp (slice_cmp nat_cmp) q p ≡ eq_by_cmp (slice_cmp nat_cmp) p q
-    ties = one_way _ _
-        (λ e. ap (λ z. eq_by_cmp (slice_cmp nat_cmp) p z) (slice_cmp-IsAntisymmetric nat_cmp-IsAntisymmetric q p (only_equal (slice_cmp nat_cmp q p) e))
-        ∙ ap is_eq (tied_itself nat_list_cmp_total p))
-        (λ e. ap (λ z. eq_by_cmp (slice_cmp nat_cmp) q z) (slice_cmp-IsAntisymmetric nat_cmp-IsAntisymmetric p q (only_equal (slice_cmp nat_cmp p q) e))
-        ∙ ap is_eq (tied_itself nat_list_cmp_total q))
+    ties = one_way _ _ (tie p q) (tie q p)
 
 -- The instant of a row has by places what the row has by numbers, and nothing else.
 pub instant_agrees : (ps : List Sites) (row : Row) → length row ≡ length ps → (p : Sites) → nth row (index_of ps p) ≡ cell (instant_of ps row) p
@@ -78,10 +78,7 @@ its_number ps once k lt =
     let r = index_there ps p (among_from ps p (k, lt, get_or_default ps k p [] lt)) in
     elim (cases_order (index_of ps p) k) [
       | inl same ↦ same
-      | inr other ↦ elim other [
-        | inl less ↦ absurd (once (index_of ps p) k less lt r.1)
-        | inr more ↦ absurd (once k (index_of ps p) more r.0 (sym r.1))
-      ]
+      | inr other ↦ absurd (elim other [ inl less ↦ once (index_of ps p) k less lt r.1 | inr more ↦ once k (index_of ps p) more r.0 (sym r.1) ])
     ]
 
 -- Where each place stands once, the row of that instant is the row again.

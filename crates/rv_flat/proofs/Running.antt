@@ -3,7 +3,7 @@ use Rattle.std.proofs.Common.{◌≡◌, ◌⊎◌, inl, inr, ℕ, zero, suc, �
 use Rattle.std.proofs.Common.{ap, subst, arith, Option, None as Nothing, Some}
 use Rattle.std.proofs.{lemmas.List.ext_get_or, lemmas.List.get_or-map, Math.ListN.length-map}
 use Rattle.std.specs.{FinMap.empty, List.Contains}
-use Rattle.rv_base.specs.declared.value.Value.TheVariants.{Flag, Label, Whole}
+use Rattle.rv_base.specs.declared.value.Value.TheVariants.{Flag}
 use Rattle.rv_base.specs.{declared.value.Value.Value, declared.value.Place.Place}
 use Rattle.rv_tree.specs.{Tree.AssertionTree, Tree.ProgramTree, Places.Identifier, Places.Sites, Places.index_of}
 use Rattle.rv_types.specs.Instances.{Instance, node_of, IsInstance, IsNode}
@@ -12,9 +12,9 @@ use Rattle.rv_meaning.specs.Runs.{History, cell, cells, observed, AssertionsHold
 use Rattle.rv_meaning.specs.Instants.{State as Brought, IsInstant, IsNext, IsStart, AllowsAt, value_now}
 use Rattle.rv_meaning.specs.{Meaning.is_true, Meaning.kept_place, Meaning.value, Following.IsStateAt}
 use Rattle.rv_flat.specs.FlatInstants.{Row, nth, places, memory_places, tick_clocks, IsFlatInstant, IsFlatNext}
-use Rattle.rv_flat.specs.FlatOf.{IsBroken, IsFlatBroken, flat_state, flat_inputs, row_of}
+use Rattle.rv_flat.specs.FlatOf.{IsBroken, IsFlatBroken, IsFlatOf, flat_state, flat_inputs, row_of}
 use Rattle.rv_flat.specs.{declared.flat.Flat.Flat, declared.parts.FlatMemory.FlatMemory, declared.state.State.State, FlatRuns.AreStepsOf, FlatRuns.IsBrokenAt}
-use Rattle.rv_flat.specs.{Lists.tick_places, Steps.IsLeastOf, Systems.memory_of}
+use Rattle.rv_flat.specs.{Lists.tick_places, Steps.IsFlatStart, Steps.IsLeastOf, Systems.memory_of}
 use Rattle.rv_flat.proofs.{Earliest.least_same, OneRow.only_row}
 
 -- What is taken from the meaning: the states and the instants of a run.
@@ -37,6 +37,13 @@ pub record StatesOfRun : Type 0 where
   pub next : (program : ProgramTree) (main : Identifier) (starts : Sites → Value) (h : History) (t : ℕ) (state next : Brought)
       → IsStateAt program main starts (cells h) t state → IsStateAt program main starts (cells h) (t + 1) next
       → IsNext program main state (get_or h t empty) next
+
+-- how many ticks the flat form of a state has
+pub ticks_long : (f : Flat) (state : Brought) → length (flat_state f state).ticked ≡ length (tick_clocks f)
+ticks_long f state =
+    let ticks = tick_places f.variables in
+    length-map (Nothing ∷ map (λ p. Some p) ticks) state.ticked
+    ∙ omega (arith, length-map ticks (λ (p : Sites). Some p), length-map ticks (λ (p : Sites). Some (index_of (places f) p)))
 
 -- Two states with the same ticks and memories, one by one, are the same.
 same_state : (a b : State) → length a.ticked ≡ length b.ticked → ((k : ℕ) → k < length a.ticked → get_or a.ticked k false ≡ get_or b.ticked k false)
@@ -68,20 +75,28 @@ all_false g [] none k = refl
 all_false g (x ∷ ks) none zero = none x
 all_false g (x ∷ ks) none (suc k) = all_false g ks none k
 
+-- the flat form of a state at the start is one at the start
+pub first_flat : (program : ProgramTree) (main : Identifier) (f : Flat) (starts : Sites → Value) (state : Brought) → IsFlatOf program main f
+    → IsStart program main starts state → IsFlatStart f (map starts (memory_places f)) (flat_state f state)
+first_flat program main f starts state flat first = record {
+  ticks = ticks_long f state;
+  none = all_false state.ticked (Nothing ∷ map (λ p. Some p) (tick_places f.variables)) first.ticks;
+  kept = same_kept state.kept starts f.memories (λ m w.
+      let found = flat.memories.only m w in
+      let at : m.place ≡ kept_place found.0 found.1.site found.1.operand = ap (λ x. x.place) found.5 in
+      ap state.kept at ∙ first.memories found.0 found.1 found.2 found.4 ∙ ap starts (sym at));
+}
+
 -- an assertion that is not false holds
 not_false : (o : Option Value) → ((v : Value) → o ≡ Some v → is_true v ≡ false → ⊥) → (o ≡ Nothing) ⊎ (o ≡ Some (Flag true))
 not_false Nothing h = inl refl
 not_false (Some (Flag true)) h = inr refl
-not_false (Some (Flag false)) h = absurd (h (Flag false) refl refl)
-not_false (Some (Label l)) h = absurd (h (Label l) refl refl)
-not_false (Some (Whole z)) h = absurd (h (Whole z) refl refl)
+not_false (Some v) h = absurd (h v refl refl)
 
 not_both : (o : Option Value) (v : Value) → (o ≡ Nothing) ⊎ (o ≡ Some (Flag true)) → o ≡ Some v → is_true v ≡ false → ⊥
 not_both o v (inl none) is h = cc
 not_both o (Flag true) (inr holds) is h = cc
-not_both o (Flag false) (inr holds) is h = cc
-not_both o (Label l) (inr holds) is h = cc
-not_both o (Whole z) (inr holds) is h = cc
+not_both o v (inr holds) is h = cc
 
 -- what stands at a number is something only below the end
 pub within_places : (ps : List Sites) (k s : ℕ) → get_or ps k [] ≡ s ∷ [] → k < length ps
@@ -91,8 +106,7 @@ within_places (p ∷ ps) (suc k) s e = let h = within_places ps k s e in omega (
 
 module _ (run_is_instants : RunIsInstants) (states_of_run : StatesOfRun)
     (program : ProgramTree) (main : Identifier) (f : Flat) (starts : Sites → Value) (inputs : ℕ → ℕ → Value) (n : ℕ) (h : History) (states : ℕ → State)
-    (rows : ℕ → Row)
-    (are : AreStepsOf program main f starts inputs n h states rows) where
+    (rows : ℕ → Row) (are : AreStepsOf program main f starts inputs n h states rows) where
   -- the state that the run brings to an instant
   abbrev brought : ℕ → Brought
   brought t = (states_of_run.some program main starts h t are.well are.named).0
@@ -105,24 +119,10 @@ module _ (run_is_instants : RunIsInstants) (states_of_run : StatesOfRun)
 
   start_same : states 0 ≡ flat_state f (brought 0)
   start_same =
-      let first = (states_of_run.start program main starts h (brought 0)).0 (brought_at 0) in
-      let ks = Nothing ∷ map (λ p. Some p) (tick_places f.variables) in
-      let long : length (map (brought 0).ticked ks) ≡ length (tick_clocks f) =
-      length-map ks (brought 0).ticked ∙ omega (
-        arith,
-        length-map (tick_places f.variables) (λ (p : Sites). Some p),
-        length-map (tick_places f.variables)
-            (λ (p : Sites). Some (index_of (places f) p)),
-      ) in
-      let kept : map starts (memory_places f) ≡ map (brought 0).kept (memory_places f) =
-      sym (same_kept (brought 0).kept starts f.memories (λ m w.
-      let found = are.flat.memories.only m w in
-      let at : m.place ≡ kept_place found.0 found.1.site found.1.operand = ap (λ x. x.place) found.5 in
-      ap (brought 0).kept at ∙ first.memories found.0 found.1 found.2 found.4 ∙ ap starts (sym at))) in
-      let ticked = ext_get_or false (states 0).ticked (flat_state f (brought 0)).ticked (are.start.ticks ∙ sym long)
-      (λ k lt. are.start.none k ∙ sym (all_false (brought 0).ticked ks first.ticks k)) in
-      let held = are.start.kept ∙ kept in
-      λ i. record { ticked = ticked i; kept = held i }
+      let first = first_flat program main f starts (brought 0) are.flat ((states_of_run.start program main starts h (brought 0)).0 (brought_at 0)) in
+      let ticked = ext_get_or false (states 0).ticked (flat_state f (brought 0)).ticked (are.start.ticks ∙ sym first.ticks)
+      (λ k lt. are.start.none k ∙ sym (first.none k)) in
+      λ i. record { ticked = ticked i; kept = (are.start.kept ∙ sym first.kept) i }
 
   row_same : (t : ℕ) → t < n → states t ≡ flat_state f (brought t) → rows t ≡ row_of (places f) (get_or h t empty)
   row_same t lt same =
@@ -140,8 +140,7 @@ module _ (run_is_instants : RunIsInstants) (states_of_run : StatesOfRun)
       let one : t + 1 ≡ suc t = omega arith in
       let after = are.flat.next (brought t) (brought (t + 1)) (inputs t) (get_or h t empty) (instant_at t before)
       (states_of_run.next program main starts h t (brought t) (brought (t + 1)) (brought_at t) (brought_at (t + 1))) in
-      let mine : IsFlatNext f (flat_state f (brought t)) (flat_inputs f (inputs t)) (row_of (places f) (get_or h t empty)) (states (t + 1)) =
-      subst (λ s. IsFlatNext f s (flat_inputs f (inputs t)) (row_of (places f) (get_or h t empty)) (states (t + 1))) same
+      let mine = subst (λ s. IsFlatNext f s (flat_inputs f (inputs t)) (row_of (places f) (get_or h t empty)) (states (t + 1))) same
       (subst (λ r. IsFlatNext f (states t) (flat_inputs f (inputs t)) r (states (t + 1))) row (are.nexts t before)) in
       subst (λ j. states j ≡ flat_state f (brought j)) one
       (one_next f (flat_state f (brought t)) (flat_inputs f (inputs t)) (row_of (places f) (get_or h t empty)) (states (t + 1)) (flat_state f (brought (t + 1)))

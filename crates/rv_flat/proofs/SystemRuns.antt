@@ -1,60 +1,48 @@
 -- A run of a program is one of its flat system, in whole numbers of any size.
-use Rattle.std.proofs.Common.{◌≡◌, ℤ, ℕ, zero, suc, ◌+◌, ◌<◌, ◌≤◌, ◌↔◌, Bool, true, false, cond, List, [], ◌∷◌, length, map, get_or, refl, sym, ◌∙◌, ap, subst}
+use Rattle.std.proofs.Common.{◌≡◌, ℤ, ℕ, zero, suc, ◌+◌, ◌<◌, ◌≤◌, ◌↔◌, Bool, true, false, cond, List, [], length, map, get_or, refl, sym, ◌∙◌, ap, subst}
 use Rattle.std.proofs.Common.{arith, slice_get, Option, None as Nothing, Some}
-use Rattle.std.proofs.lemmas.Option.{slice_get-map, get_or_from_slice_get}
-use Rattle.std.proofs.{lemmas.List.get_or-map, Math.ListN.length-map, lemmas.Bool.true_from_ne_false}
+use Rattle.std.proofs.lemmas.Option.{slice_get-get_or, slice_get-map, get_or_from_slice_get}
+use Rattle.std.proofs.{lemmas.List.get_or-map, Math.ListN.length-map, lemmas.Bool.true_from_ne_false, lemmas.Simd.map-map}
 use Rattle.std.specs.{FinMap.empty, Option.option_map}
 use Rattle.rv_base.specs.declared.value.Value.{Value}
 use Rattle.rv_base.specs.declared.value.Value.TheVariants.{Flag, Label, Whole}
-use Rattle.rv_tree.specs.{Tree.ProgramTree, Places.Identifier, Places.Sites, Places.index_of}
+use Rattle.rv_tree.specs.{Tree.ProgramTree, Places.Identifier, Places.Sites}
 use Rattle.rv_types.specs.Values.{HasKind, labels_at, operand_kind}
-use Rattle.rv_types.specs.{declared.typed.Kind.Kind, Instances.IsNode, Lists.MemoryAt, Lists.memory_at, WellFormed.AreWell}
+use Rattle.rv_types.specs.{declared.typed.Kind.Kind, Instances.IsNode, WellFormed.AreWell}
 use Rattle.rv_types.specs.declared.typed.Kind.TheVariants as kind
-use Rattle.rv_meaning.specs.{Meaning.is_true, Meaning.kept_place, Runs.History, Runs.cells, Runs.AreStarts, Runs.IsRun, Runs.IsSafe, Instants.State as Brought}
-use Rattle.rv_meaning.specs.{Instants.IsInstant, Instants.IsNext, Instants.IsStart, Instants.AreGiven, Following.IsStateAt}
+use Rattle.rv_meaning.specs.{Meaning.is_true, Runs.History, Runs.cells, Runs.AreStarts, Runs.IsRun, Runs.IsSafe, Instants.State as Brought, Instants.IsInstant}
+use Rattle.rv_meaning.specs.{Instants.IsNext, Instants.IsStart, Instants.AreGiven, Following.IsStateAt}
 use Rattle.rv_agreement.specs.Agreement.{State, HasKind as HasKindIn, AreTyped, IsWell, IsWholeInstant}
 use Rattle.rv_agreement.specs.Evaluation.{Found, value, is_met, after, integers}
-use Rattle.rv_agreement.specs.{Valuations.Valuation, FlatRuns.IsFlatRun, FlatRuns.AreMetIn, FlatRuns.IsInductive, Trees.System, Trees.kind_at}
+use Rattle.rv_agreement.specs.{Valuations.Valuation, FlatRuns.IsFlatRun, FlatRuns.AreMetIn, FlatRuns.IsInductive, Trees.Kept, Trees.System, Trees.kind_at}
 use Rattle.rv_agreement.specs.Agreement as agreement
 use Rattle.rv_agreement.specs.Evaluation as evaluation
 use Rattle.rv_agreement.specs.Trees as trees
 use Rattle.rv_flat.specs.FlatInstants.{Row, nth, places, memory_places, system_of, found_at, value_at, assertion_trees, IsFlatInstant, IsFlatNext}
 use Rattle.rv_flat.specs.FlatOf.{IsFlatOf, IsFlatBroken, flat_state, flat_inputs, no_assertion, row_of}
 use Rattle.rv_flat.specs.{declared.flat.Flat.Flat, declared.parts.FlatMemory.FlatMemory, FlatRuns.AreStepsOf, Inlined.tree_among, Inlined.inlined}
-use Rattle.rv_flat.specs.{Inlined.table_of, RawTree.RawTree, RawTree.raw_tree, Lists.tick_places, Steps.label_counts, SystemRuns.system_state}
-use Rattle.rv_flat.specs.{SystemRuns.IsRunOf, Systems.flow_item, Systems.memory_item, Systems.kept_of, Systems.assertion_item}
+use Rattle.rv_flat.specs.{Inlined.table_of, RawTree.RawTree, RawTree.raw_tree, Steps.label_counts, SystemRuns.system_state, SystemRuns.IsRunOf}
+use Rattle.rv_flat.specs.{Systems.flow_item, Systems.memory_item, Systems.kept_of, Systems.assertion_item}
 use Rattle.rv_flat.specs.declared.state.State as declared
-use Rattle.rv_flat.proofs.Running.{RunIsInstants, StatesOfRun, all_false, same_kept, allowed_of_run, observer_of_run}
+use Rattle.rv_flat.proofs.Running.{RunIsInstants, StatesOfRun, first_flat, allowed_of_run, observer_of_run}
 use Rattle.rv_flat.proofs.Taming.{IsAsserted, whole, always, on_flow, asserted_is}
-use Rattle.rv_flat.proofs.Typing.{TypedMemories, counted, length-values, value_kth, memory_kth}
+use Rattle.rv_flat.proofs.{Inlining.items_kept, Typing.TypedMemories, Typing.counts_same, Typing.kept_typed, Typing.length-values, Typing.value_kth}
 use Rattle.rv_base.proofs.Lists.{item_at}
 
 -- the memories of the system are those of the flat system, one by one
 pub kept_kinds : (all ms : List FlatMemory) → map (λ x. x.kind) (map (kept_of all) ms) ≡ map (λ m. m.kind) ms
-kept_kinds all [] = refl
-kept_kinds all (m ∷ ms) = ap (λ l. m.kind ∷ l) (kept_kinds all ms)
+kept_kinds all ms = map-map (λ (x : Kept). x.kind) (kept_of all) ms
 
 pub kept_items : (all ms : List FlatMemory) → map (λ x. x.item) (map (kept_of all) ms) ≡ map (memory_item all) ms
-kept_items all [] = refl
-kept_items all (m ∷ ms) = ap (λ l. memory_item all m ∷ l) (kept_items all ms)
+kept_items = items_kept
 
 -- a value of a type is one in the system
-kind_there : (p : ProgramTree) (counts : List ℕ) → ((i : ℕ) → get_or counts i 0 ≡ labels_at p.types i) → (k : Kind) (v : Value) → HasKind p k v
-    → HasKindIn counts k v
-kind_there p counts same kind.Bool (Flag b) h = tt
-kind_there p counts same kind.Bool (Label l) h = absurd h
-kind_there p counts same kind.Bool (Whole z) h = absurd h
-kind_there p counts same kind.Int (Flag b) h = absurd h
-kind_there p counts same kind.Int (Label l) h = absurd h
-kind_there p counts same kind.Int (Whole z) h = tt
-kind_there p counts same (kind.Labels i) (Flag b) h = absurd h
-kind_there p counts same (kind.Labels i) (Label l) h = omega (arith, same i, h)
-kind_there p counts same (kind.Labels i) (Whole z) h = absurd h
-
-found_kind : (ks : List Kind) (m : ℕ) → m < length ks → slice_get ks m ≡ Some (kind_at ks m)
-found_kind [] m lt = absurd (omega arith)
-found_kind (k ∷ ks) zero lt = refl
-found_kind (k ∷ ks) (suc m) lt = found_kind ks m (omega arith)
+pub kind_there : (p : ProgramTree) (counts : List ℕ) → ((i : ℕ) → get_or counts i 0 ≡ labels_at p.types i) → (k : Kind) (v : Value)
+    → HasKind p k v ↔ HasKindIn counts k v
+kind_there p counts same kind.Bool (Flag b) = (λ h. h, λ h. h)
+kind_there p counts same kind.Int (Whole z) = (λ h. h, λ h. h)
+kind_there p counts same (kind.Labels i) (Label l) = (λ h. omega (arith, same i, h), λ h. omega (arith, same i, h))
+kind_there p counts same _ _ = (λ h. h, λ h. h)
 
 got : {X Y : Type 0} (xs : List X) (g : X → Y) (k : ℕ) (x : X) (d : Y) → slice_get xs k ≡ Some x → get_or (map g xs) k d ≡ g x
 got xs g k x d e = get_or_from_slice_get (map g xs) k (g x) d (slice_get-map g xs k ∙ ap (option_map g) e)
@@ -66,29 +54,27 @@ met_by table found row e k body (whole x) = refl
 met_by table found row e k body (always at there absent x) = refl
 met_by table found row e k body (on_flow at there absent c x) = by (nth row c)
   where
-    chosen : (b : Bool) → cond b (is_true (value Value integers found row (inlined table x))) true ≡ is_true
-        (cond b (value Value integers found row (inlined table x)) (Flag true))
-    chosen true = refl
-    chosen false = refl
+    chosen : (b : Bool) (v : Value) → cond b (is_true v) true ≡ is_true (cond b v (Flag true))
+    chosen true v = refl
+    chosen false v = refl
 
     by : (o : Option Value) → cond (evaluation.is_on Value integers o) (is_true (value Value integers found row (inlined table x))) true
         ≡ is_true (cond (is_true (evaluation.held Value integers o)) (value Value integers found row (inlined table x)) (Flag true))
     by Nothing = refl
-    by (Some v) = chosen (is_true v)
+    by (Some v) = chosen (is_true v) (value Value integers found row (inlined table x))
 
 -- What is taken from agreement: what is inductive makes each flat run safe.
 abbrev pub InductiveIsSafe : Type 0
 InductiveIsSafe = (s : System) (holds : Valuation → List ℤ → Bool) (n : ℕ) (states : ℕ → State) (inputs : ℕ → List Value) (rows : ℕ → List (Option Value))
-    (t : ℕ)
-    → IsWell s → IsInductive s holds → IsFlatRun s n states inputs rows → t < n → ((u : ℕ) → u ≤ t → AreMetIn s (states u) (inputs u) (rows u))
+    (t : ℕ) → IsWell s → IsInductive s holds → IsFlatRun s n states inputs rows → t < n → ((u : ℕ) → u ≤ t → AreMetIn s (states u) (inputs u) (rows u))
     → evaluation.nth Value integers (rows t) s.observer ≡ Some (Flag true)
 
-module _ (program : ProgramTree) (main : Identifier) (f : Flat) (flat : IsFlatOf program main f) where
+module _ (program : ProgramTree) (main : Identifier) (f : Flat) (well : AreWell program) (named : IsNode program main) (flat : IsFlatOf program main f) where
   abbrev system : System
   system = system_of f
 
-  counts_same : (i : ℕ) → get_or (label_counts f) i 0 ≡ labels_at program.types i
-  counts_same i = ap (λ ls. get_or (map (λ l. length l) ls) i 0) flat.labels ∙ counted program.types i
+  kind_is : (k : Kind) (v : Value) → HasKind program k v → HasKindIn (label_counts f) k v
+  kind_is k v h = (kind_there program (label_counts f) (counts_same program main f flat) k v).0 h
 
   memories_typed : (kept : Sites → Value) → AreStarts program main kept → AreTyped system.labels (trees.memory_kinds system) (map kept (memory_places f))
   memories_typed kept starts =
@@ -100,16 +86,9 @@ module _ (program : ProgramTree) (main : Identifier) (f : Flat) (flat : IsFlatOf
         each = λ m lt.
             let j = kind_at (trees.memory_kinds system) m in
             let less : m < length (memory_places f) = omega (arith, lt, long, length-map (memory_places f) kept) in
-            let is : slice_get (map (λ x. x.kind) f.memories) m ≡ Some j = ap (λ ks. slice_get ks m) (sym kinds)
-            ∙ found_kind (trees.memory_kinds system) m lt in
-            let found = flat.memories.only (record { place = get_or (memory_places f) m []; kind = j }) (memory_kth f.memories m j is) in
-            let at : MemoryAt = memory_at program found.0 found.1 in
-            let place : get_or (memory_places f) m [] ≡ at.place = ap (λ (a : MemoryAt). a.place) found.5 in
-            let kind_is : j ≡ at.kind = ap (λ (a : MemoryAt). a.kind) found.5 in
+            let is = ap (λ ks. slice_get ks m) (sym kinds) ∙ slice_get-get_or (trees.memory_kinds system) m kind.Bool lt in
             subst (HasKindIn system.labels j) (sym (get_or-map kept (memory_places f) m [] (Flag false) less))
-            (kind_there program (label_counts f) counts_same j (kept (get_or (memory_places f) m []))
-            (subst (λ q. HasKind program j (kept q)) (sym place) (subst (λ k. HasKind program k (kept at.place)) (sym kind_is)
-            (starts found.0 found.1 found.2 found.4))));
+            (kind_is j (kept (get_or (memory_places f) m [])) (kept_typed program main f well named flat kept starts m j is));
       }
 
   inputs_typed : (given : ℕ → Value) → AreGiven program main given → AreTyped system.labels system.inputs (flat_inputs f given)
@@ -121,8 +100,7 @@ module _ (program : ProgramTree) (main : Identifier) (f : Flat) (flat : IsFlatOf
             let k = kind_at system.inputs j in
             let less : j < length f.inputs = omega (arith, lt, length-map f.inputs (λ i. i.kind)) in
             subst (HasKindIn system.labels k) (sym (value_kth given (length f.inputs) j less))
-            (kind_there program (label_counts f) counts_same k (given j)
-            (are j k (ap (λ ks. slice_get ks j) (sym flat.input_kinds) ∙ found_kind system.inputs j lt)));
+            (kind_is k (given j) (are j k (ap (λ ks. slice_get ks j) (sym flat.input_kinds) ∙ slice_get-get_or system.inputs j kind.Bool lt)));
       }
 
   whole_instant : (state : Brought) (given : ℕ → Value) (row : Row) → IsFlatInstant f (flat_state f state) (flat_inputs f given) row
@@ -209,46 +187,30 @@ module _ (run_is_instants : RunIsInstants) (states_of_run : StatesOfRun) (typed_
 
   -- the same as steps
   are_steps : AreStepsOf program main f starts inputs n h (λ t. flat_state f (brought t)) (λ t. row_of (places f) (get_or h t empty))
-  are_steps =
-      let ks = Nothing ∷ map (λ p. Some p) (tick_places f.variables) in
-      record {
-        well = well;
-        named = named;
-        flat = flat;
-        run = run;
-        start = record {
-          ticks = length-map ks (brought 0).ticked ∙ omega (
-            arith,
-            length-map (tick_places f.variables) (λ (p : Sites). Some p),
-            length-map (tick_places f.variables) (λ (p : Sites). Some (index_of (places f) p)),
-          );
-          none = all_false (brought 0).ticked ks first.ticks;
-          kept = kept_first;
-        };
-        instants = flat_instant;
-        nexts = flat_next;
-      }
-    where
-      kept_first : map (brought 0).kept (memory_places f) ≡ map starts (memory_places f)
-      kept_first = same_kept (brought 0).kept starts f.memories (λ m w.
-          let found = flat.memories.only m w in
-          let at : m.place ≡ kept_place found.0 found.1.site found.1.operand = ap (λ x. x.place) found.5 in
-          ap (brought 0).kept at ∙ first.memories found.0 found.1 found.2 found.4 ∙ ap starts (sym at))
+  are_steps = record {
+    well = well;
+    named = named;
+    flat = flat;
+    run = run;
+    start = first_flat program main f starts (brought 0) flat first;
+    instants = flat_instant;
+    nexts = flat_next;
+  }
 
   pub run_of : IsRunOf program main f starts inputs n h (λ t. system_state f (brought t)) (λ t. row_of (places f) (get_or h t empty))
   run_of = record {
     run = record {
       start = are_steps.start.none;
       typed = λ t lt. record {
-        memories = memories_typed program main f flat (brought t).kept (typed_at t (omega arith));
-        given = inputs_typed program main f flat (inputs t) (given_at t lt);
+        memories = memories_typed program main f well named flat (brought t).kept (typed_at t (omega arith));
+        given = inputs_typed program main f well named flat (inputs t) (given_at t lt);
       };
-      instant = λ t lt. whole_instant program main f flat (brought t) (inputs t) (row_of (places f) (get_or h t empty)) (flat_instant t lt);
+      instant = λ t lt. whole_instant program main f well named flat (brought t) (inputs t) (row_of (places f) (get_or h t empty)) (flat_instant t lt);
       next = λ t lt.
           let one : t + 1 ≡ suc t = omega arith in
           subst (λ u. agreement.IsNext (system_of f) (system_state f (brought t)) (flat_inputs f (inputs t)) (row_of (places f) (get_or h t empty))
           (system_state f (brought u))) one
-          (whole_next program main f flat (brought t) (brought (t + 1)) (inputs t) (row_of (places f) (get_or h t empty)) (flat_next t lt));
+          (whole_next program main f well named flat (brought t) (brought (t + 1)) (inputs t) (row_of (places f) (get_or h t empty)) (flat_next t lt));
     };
     kept_at_first = are_steps.start.kept;
     brought = λ t le. (brought t, brought_at t, refl);
@@ -256,7 +218,7 @@ module _ (run_is_instants : RunIsInstants) (states_of_run : StatesOfRun) (typed_
     assertions = λ t lt.
         let allowed = allowed_of_run run_is_instants states_of_run program main f starts inputs n h (λ u. flat_state f (brought u))
         (λ u. row_of (places f) (get_or h u empty)) are_steps t lt in
-        let met = all_met program main f flat (flat_state f (brought t)) (flat_inputs f (inputs t)) (row_of (places f) (get_or h t empty)) in
+        let met = all_met program main f well named flat (flat_state f (brought t)) (flat_inputs f (inputs t)) (row_of (places f) (get_or h t empty)) in
         (λ holds. met.0 (allowed.0 holds), λ are. allowed.1 (met.1 are));
     observer = observer_of_run run_is_instants states_of_run program main f starts inputs n h (λ u. flat_state f (brought u))
         (λ u. row_of (places f) (get_or h u empty)) are_steps;

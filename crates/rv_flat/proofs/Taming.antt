@@ -4,8 +4,7 @@ use Rattle.std.proofs.Common.{arith, inl, inr, Option, None as Nothing, Some}
 use Rattle.std.proofs.lemmas.Bool.{cases_lt, cond_both, ltb-true}
 use Rattle.std.proofs.{lemmas.List.get_or_past, lemmas.Int.ints, Math.ListN.length-map, Math.Nat.eq-or-lt_of_le}
 use Rattle.std.specs.Prelude.{nat_le, nat_lt, slice_get}
-use Rattle.rv_base.specs.declared.value.Value.TheVariants.{Flag, Label, Whole}
-use Rattle.rv_base.specs.{declared.value.Value.Value, Limits.heaviest}
+use Rattle.rv_base.specs.{declared.value.Value.TheVariants.Flag, declared.value.Value.TheVariants.Whole, declared.value.Value.Value, Limits.heaviest}
 use Rattle.rv_tree.specs.Places.{Sites}
 use Rattle.rv_types.specs.declared.typed.Kind.TheVariants as kind
 use Rattle.rv_meaning.specs.Meaning.{is_true}
@@ -20,14 +19,13 @@ use Rattle.rv_flat.specs.{FlatOf.no_assertion, Filling.IsFilled, Inlined.inlined
 use Rattle.rv_flat.specs.{Steps.IsInRange, Steps.AreValues, Steps.IsState, Steps.input_kinds, Tame.IsHeld, Tame.IsOver, Tame.IsTame}
 use Rattle.rv_flat.specs.RawTree as raw
 use Rattle.rv_flat.proofs.OneRow.{IsItemOver, fits_kth, item_over, over_kth}
-use Rattle.rv_flat.proofs.Weighing.{size, held_small, tame, tame_held, value_small}
+use Rattle.rv_flat.proofs.Weighing.{size, held_small, tame_held, weighed}
 use Rattle.rv_flat.proofs.{Inlining.items_kept, Tested.ItemFits, Tested.assertion_fits, Tested.memory_fits, FlowWeights.item_light, FlowWeights.weight_kth}
 use Rattle.rv_base.proofs.Truths.{both_of}
 
 range_small : (v : Value) → IsInRange v → size v ≤ 2 ^ 63
-range_small (Flag b) r = omega arith
-range_small (Label l) r = omega arith
 range_small (Whole z) r = omega (arith, ints, r.0, r.1)
+range_small _ r = omega arith
 
 -- values within the range, and what stands past their end
 values_small : (values : List Value) → ((k : ℕ) → k < length values → IsInRange (get_or values k (Flag false))) → (k : ℕ)
@@ -130,12 +128,11 @@ module _ (f : Flat) (now : State) (inputs : List Value) (state : IsState f now) 
         here m lt before =
             let item = nth_item (flow_items f) m in
             let fit = fits_kth f now inputs m (omega arith) in
-            let small = value_small (system_of f) ws found row m kept_small inputs_small before item.clock fit.kind item.body fit.body
-            (flow_light m (omega arith)) in
+            let light = flow_light m (omega arith) in
+            let small = (weighed (system_of f) ws found row m kept_small inputs_small before item.clock fit.kind item.body fit.body light).0 in
             subst (λ o. size (held o) ≤ get_or ws m 0 * 2 ^ 63) (sym (filled.holds m lt))
             (subst (λ w. size (held (cond (is_on_at row item.clock) (Some (value_at now inputs row item.body)) Nothing)) ≤ w * 2 ^ 63)
-            (sym (weight_at m (omega arith)))
-            (chosen (is_on_at row item.clock) (value_at now inputs row item.body) (flat_weight ws item.body) small))
+            (sym (weight_at m (omega arith))) (chosen (is_on_at row item.clock) (value_at now inputs row item.body) (flat_weight ws item.body) small))
           where
             chosen : (b : Bool) (v : Value) (w : ℕ) → size v ≤ w * 2 ^ 63 → size (held (cond b (Some v) Nothing)) ≤ w * 2 ^ 63
             chosen true v w small = small
@@ -145,7 +142,7 @@ module _ (f : Flat) (now : State) (inputs : List Value) (state : IsState f now) 
     flow_tame lt =
         let item = nth_item (flow_items f) n in
         let fit = fits_kth f now inputs n lt in
-        tame (system_of f) ws found row n kept_small inputs_small (row_small n (omega arith)) item.clock fit.kind item.body fit.body (flow_light n lt)
+        (weighed (system_of f) ws found row n kept_small inputs_small (row_small n (omega arith)) item.clock fit.kind item.body fit.body (flow_light n lt)).1
 
     pub flow_over : n < length f.flows → IsOver (length row) (nth_item (flow_items f) n).body
     flow_over lt = subst (λ m. IsOver m (nth_item (flow_items f) n).body) (sym filled.flows) (over_kth f now inputs n lt).1
@@ -164,11 +161,13 @@ module _ (f : Flat) (now : State) (inputs : List Value) (state : IsState f now) 
         subst (λ xs. ItemFits (system_of f) (length (flow_items f)) (nth_item xs m)) (items_kept f.memories f.memories)
         (memory_fits (system_of f) (map (kept_of f.memories) f.memories) m f.memories_fit (omega (arith, length-map f.memories (kept_of f.memories))))
 
+    -- an item that fits and is light is tame
+    fit_tame : (x : Item) → ItemFits (system_of f) (length (flow_items f)) x → is_light ws x.body ≡ true → IsTame (found_at now inputs) row x.body
+    fit_tame x fit light =
+        (weighed (system_of f) ws found row (length (flow_items f)) kept_small inputs_small instant_small x.clock fit.kind x.body fit.body light).1
+
     pub memory_tame : (m : ℕ) → m < length f.memories → IsTame (found_at now inputs) row (nth_item (memory_items f) m).body
-    memory_tame m lt =
-        let item = nth_item (memory_items f) m in
-        let fit = memory_fit m lt in
-        tame (system_of f) ws found row (length (flow_items f)) kept_small inputs_small instant_small item.clock fit.kind item.body fit.body
+    memory_tame m lt = fit_tame (nth_item (memory_items f) m) (memory_fit m lt)
         (item_light ws (memory_items f) m f.memories_light (omega (arith, length-map f.memories (memory_item f.memories))))
 
     pub memory_over : (m : ℕ) → m < length f.memories → IsOver (length row) (nth_item (memory_items f) m).body
@@ -187,10 +186,7 @@ module _ (f : Flat) (now : State) (inputs : List Value) (state : IsState f now) 
         (omega (arith, length-map f.assertions (assertion_item f.memories)))
 
     item_tame : (k : ℕ) → k < length f.assertions → IsTame (found_at now inputs) row (nth_item (map (assertion_item f.memories) f.assertions) k).body
-    item_tame k lt =
-        let item = nth_item (map (assertion_item f.memories) f.assertions) k in
-        let fit = item_fits k lt in
-        tame (system_of f) ws found row (length (flow_items f)) kept_small inputs_small instant_small item.clock fit.kind item.body fit.body
+    item_tame k lt = fit_tame (nth_item (map (assertion_item f.memories) f.assertions) k) (item_fits k lt)
         (item_light ws (map (assertion_item f.memories) f.assertions) k f.assertions_light (omega (arith, length-map f.assertions (assertion_item f.memories))))
 
     pub assertion_tame : (k : ℕ) → k < length f.assertions → IsTame (found_at now inputs) row (get_or (assertion_trees f) k no_assertion)

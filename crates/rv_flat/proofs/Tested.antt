@@ -1,15 +1,18 @@
 -- What tests of a flat system say.
 use Rattle.std.proofs.Common.{◌≡◌, ℕ, zero, suc, ◌+◌, ◌<◌, Bool, true, false, ◌&&◌, ◌||◌, List, [], ◌∷◌, length, map, refl, subst, arith, Option}
+use Rattle.std.proofs.Common.{Some, slice_get}
 use Rattle.rv_tree.specs.{declared.tree.Op.Op, Places.Sites}
 use Rattle.rv_types.specs.declared.typed.Kind.{Kind}
 use Rattle.rv_types.specs.declared.typed.Kind.TheVariants as kind
-use Rattle.rv_agreement.specs.Checks.{any_of, gives, operands, is_placed_for, clock_fits, fits, form_fits, item_fits, flows_fit, memories_fit, assertions_fit}
-use Rattle.rv_agreement.specs.Trees.{FlatTree, Binary, Item, Kept, System, kind_at, nth_item}
-use Rattle.rv_base.proofs.Truths.{both_of}
+use Rattle.rv_agreement.specs.Checks.{any_of, gives, operands, is_placed_for, is_of, same_clock, clock_fits, fits, form_fits, item_fits, flows_fit}
+use Rattle.rv_agreement.specs.Checks.{assertions_fit, memories_fit}
+use Rattle.rv_agreement.specs.Trees.{FlatTree, Binary, If, When, Current, Item, Kept, System, kind_at, memory_kinds, nth_item}
+use Rattle.rv_base.proofs.Truths.{and_first, and_second, both_of}
+use Rattle.rv_types.proofs.ChainLaws.{no_flag}
 
 -- one of the types passes
 pub some_kind : (test : Kind → Bool) (ks : List Kind) → any_of test ks ≡ true → (k : Kind) × (test k ≡ true)
-some_kind test [] e = let bad : false ≡ true = e in absurd (grind arith)
+some_kind test [] e = no_flag e
 some_kind test (k ∷ ks) e = tested (test k) refl e (some_kind test ks)
   where
     tested : (b : Bool) → test k ≡ b → (b || any_of test ks) ≡ true → (any_of test ks ≡ true → (j : Kind) × (test j ≡ true)) → (j : Kind) × (test j ≡ true)
@@ -27,6 +30,24 @@ operator_fits s n k j at o a b e =
     let parts = both_of (fits s n k found.0 a) (fits s n k found.0 b) inner.1 in
     (outer.0, (found.0, parts.0, parts.1))
 
+-- the parts of a choice, of a `when` and of a `current` fit
+pub if_fits : (s : System) (n : ℕ) (k : Option ℕ) (j : Kind) (at : Sites) (c a b : FlatTree) → form_fits s n k j at (If c a b) ≡ true
+    → (fits s n k kind.Bool c ≡ true) × (fits s n k j a ≡ true) × (fits s n k j b ≡ true)
+if_fits s n k j at c a b fit =
+    let outer = both_of (fits s n k kind.Bool c) (fits s n k j a && fits s n k j b) fit in
+    let parts = both_of (fits s n k j a) (fits s n k j b) outer.1 in (outer.0, parts.0, parts.1)
+
+pub when_fits : (s : System) (n : ℕ) (k : Option ℕ) (j : Kind) (at : Sites) (c : ℕ) (e : FlatTree) → form_fits s n k j at (When c e) ≡ true
+    → fits s n (nth_item s.flows c).clock j e ≡ true
+when_fits s n k j at c e fit =
+    and_second (clock_fits s n (Some c)) (fits s n (nth_item s.flows c).clock j e)
+    (and_second (same_clock k (Some c)) (clock_fits s n (Some c) && fits s n (nth_item s.flows c).clock j e) fit)
+
+pub current_fits : (s : System) (n : ℕ) (k : Option ℕ) (j : Kind) (at : Sites) (m : ℕ) (i : Option ℕ) (e : FlatTree)
+    → form_fits s n k j at (Current m i e) ≡ true → (clock_fits s n i ≡ true) × (fits s n i j e ≡ true)
+current_fits s n k j at m i e fit =
+    both_of (clock_fits s n i) (fits s n i j e) (and_second (is_of j (slice_get (memory_kinds s) m)) (clock_fits s n i && fits s n i j e) fit)
+
 -- an item is over the first flows, as many as are said
 pub record ItemFits (s : System) (n : ℕ) (x : Item) : Type 0 where
   pub clock : clock_fits s n x.clock ≡ true
@@ -40,12 +61,11 @@ of_test s n j x e = let parts = both_of (clock_fits s n x.clock) (fits s n x.clo
 pub flow_fits : (s : System) (before : ℕ) (xs : List Item) (k : ℕ) → flows_fit s before xs ≡ true → k < length xs → ItemFits s (before + k) (nth_item xs k)
 flow_fits s before [] k e lt = absurd (omega arith)
 flow_fits s before (x ∷ xs) zero e lt =
-    let here = both_of (item_fits s before (kind_at s.kinds before) x) (flows_fit s (before + 1) xs) e in
-    subst (λ n. ItemFits s n x) (let e : before ≡ before + 0 = omega arith in e) (of_test s before (kind_at s.kinds before) x here.0)
+    subst (λ n. ItemFits s n x) (let e : before ≡ before + 0 = omega arith in e)
+    (of_test s before (kind_at s.kinds before) x (and_first (item_fits s before (kind_at s.kinds before) x) (flows_fit s (before + 1) xs) e))
 flow_fits s before (x ∷ xs) (suc k) e lt =
-    let here = both_of (item_fits s before (kind_at s.kinds before) x) (flows_fit s (before + 1) xs) e in
     subst (λ n. ItemFits s n (nth_item xs k)) (let e : (before + 1) + k ≡ before + suc k = omega arith in e)
-    (flow_fits s (before + 1) xs k here.1 (omega arith))
+    (flow_fits s (before + 1) xs k (and_second (item_fits s before (kind_at s.kinds before) x) (flows_fit s (before + 1) xs) e) (omega arith))
 
 -- a memory is over all flows, and so is an assertion
 pub memory_fits : (s : System) (ms : List Kept) (m : ℕ) → memories_fit s ms ≡ true → m < length ms

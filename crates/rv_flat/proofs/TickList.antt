@@ -2,7 +2,7 @@
 use Rattle.std.proofs.Common.{◌≡◌, ℕ, zero, suc, ◌+◌, ◌<◌, List, [], ◌∷◌, ◌++◌, length, map, get_or, refl, sym, ◌∙◌, ap, subst}
 use Rattle.std.proofs.lemmas.List.{append-nil}
 use Rattle.rv_tree.specs.{Tree.ProgramTree, Places.Identifier, Places.Sites, Places.index_of}
-use Rattle.rv_types.specs.Lists.{Side, Variable, MainTick, Tick, Kept, Next, Input, Test, AreRising, MemoryAt, ComparisonAt, sides_of, bits, with_copies}
+use Rattle.rv_types.specs.Lists.{Side, Variable, MainTick, Tick, Kept, Input, Test, AreRising, MemoryAt, ComparisonAt, sides_of, bits, with_copies}
 use Rattle.rv_types.specs.Lists.{memory_variables, input_variables, test_variables, AreVariables}
 use Rattle.rv_types.specs.{declared.typed.Kind.Kind, Variables.kind_bits, Needs.IsBefore, Kinds.decl_kinds, Instances.node_of}
 use Rattle.rv_flat.specs.{declared.parts.Bit.Bit, Lists.tick_places, Lists.variable_of}
@@ -11,49 +11,29 @@ use Rattle.rv_flat.proofs.PlaceNumbers.{its_number}
 use Rattle.rv_types.proofs.PlaceOrders.{not_itself}
 
 -- the first number of a place in a list that rises
-module _ (ps : List Sites) where
-  apart : AreRising ps → (j k : ℕ) → j < k → k < length ps → get_or ps j [] ≡ get_or ps k [] → ⊥
-  apart rising j k lt less e = not_itself (get_or ps k []) (subst (λ p. IsBefore p (get_or ps k [])) e (rising j k lt less))
-
 pub number_at : (ps : List Sites) → AreRising ps → (k : ℕ) → k < length ps → index_of ps (get_or ps k []) ≡ k
-number_at ps rising k lt = its_number ps (apart ps rising) k lt
+number_at ps rising = its_number ps (λ j k lt less e. not_itself (get_or ps k []) (subst (λ p. IsBefore p (get_or ps k [])) e (rising j k lt less)))
 
 -- the flows of the ticks among some variables
 abbrev ticks_in : List Variable → List Sites
 ticks_in [] = []
 ticks_in (Tick p ∷ vs) = p ∷ ticks_in vs
-ticks_in (MainTick ∷ vs) = ticks_in vs
-ticks_in (Kept p b ∷ vs) = ticks_in vs
-ticks_in (Next ∷ vs) = ticks_in vs
-ticks_in (Input j b ∷ vs) = ticks_in vs
-ticks_in (Test p s ∷ vs) = ticks_in vs
+ticks_in (_ ∷ vs) = ticks_in vs
 
 ticks_same : (bs : List Bit) → tick_places bs ≡ ticks_in (map variable_of bs)
 ticks_same [] = refl
 ticks_same (bit.Tick p ∷ bs) = ap (λ ps. p.sites ∷ ps) (ticks_same bs)
-ticks_same (bit.MainTick ∷ bs) = ticks_same bs
-ticks_same (bit.Kept p b ∷ bs) = ticks_same bs
-ticks_same (bit.Next ∷ bs) = ticks_same bs
-ticks_same (bit.Input j b ∷ bs) = ticks_same bs
-ticks_same (bit.Test p s ∷ bs) = ticks_same bs
+ticks_same (_ ∷ bs) = ticks_same bs
 
 ticks-append : (vs ws : List Variable) → ticks_in (vs ++ ws) ≡ ticks_in vs ++ ticks_in ws
 ticks-append [] ws = refl
 ticks-append (Tick p ∷ vs) ws = ap (λ ps. p ∷ ps) (ticks-append vs ws)
-ticks-append (MainTick ∷ vs) ws = ticks-append vs ws
-ticks-append (Kept p b ∷ vs) ws = ticks-append vs ws
-ticks-append (Next ∷ vs) ws = ticks-append vs ws
-ticks-append (Input j b ∷ vs) ws = ticks-append vs ws
-ticks-append (Test p s ∷ vs) ws = ticks-append vs ws
+ticks-append (_ ∷ vs) ws = ticks-append vs ws
 
 ticks-copies : (vs : List Variable) → ticks_in (with_copies vs) ≡ ticks_in vs
 ticks-copies [] = refl
 ticks-copies (Tick p ∷ vs) = ap (λ ps. p ∷ ps) (ticks-copies vs)
-ticks-copies (MainTick ∷ vs) = ticks-copies vs
-ticks-copies (Kept p b ∷ vs) = ticks-copies vs
-ticks-copies (Next ∷ vs) = ticks-copies vs
-ticks-copies (Input j b ∷ vs) = ticks-copies vs
-ticks-copies (Test p s ∷ vs) = ticks-copies vs
+ticks-copies (_ ∷ vs) = ticks-copies vs
 
 ticks-map : (ps : List Sites) → ticks_in (map Tick ps) ≡ ps
 ticks-map [] = refl
@@ -63,21 +43,19 @@ ticks-map (p ∷ ps) = ap (λ qs. p ∷ qs) (ticks-map ps)
 no_more : (vs ws : List Variable) → ticks_in vs ≡ [] → ticks_in ws ≡ [] → ticks_in (vs ++ ws) ≡ []
 no_more vs ws v w = ticks-append vs ws ∙ (λ i. v i ++ w i)
 
-kept_bits : (p : Sites) (n : ℕ) → ticks_in (bits (Kept p) n) ≡ []
-kept_bits p zero = refl
-kept_bits p (suc n) = no_more (bits (Kept p) n) (Kept p n ∷ []) (kept_bits p n) refl
-
-input_bits : (j n : ℕ) → ticks_in (bits (Input j) n) ≡ []
-input_bits j zero = refl
-input_bits j (suc n) = no_more (bits (Input j) n) (Input j n ∷ []) (input_bits j n) refl
+no_bit : (bit : ℕ → Variable) → ((j : ℕ) → ticks_in (bit j ∷ []) ≡ []) → (n : ℕ) → ticks_in (bits bit n) ≡ []
+no_bit bit none zero = refl
+no_bit bit none (suc n) = no_more (bits bit n) (bit n ∷ []) (no_bit bit none n) (none n)
 
 no_memory : (p : ProgramTree) (ms : List MemoryAt) → ticks_in (memory_variables p ms) ≡ []
 no_memory p [] = refl
-no_memory p (m ∷ ms) = no_more (bits (Kept m.place) (kind_bits p m.kind)) (memory_variables p ms) (kept_bits m.place (kind_bits p m.kind)) (no_memory p ms)
+no_memory p (m ∷ ms) = no_more (bits (Kept m.place) (kind_bits p m.kind)) (memory_variables p ms)
+    (no_bit (Kept m.place) (λ j. refl) (kind_bits p m.kind)) (no_memory p ms)
 
 no_input : (p : ProgramTree) (j : ℕ) (ks : List Kind) → ticks_in (input_variables p j ks) ≡ []
 no_input p j [] = refl
-no_input p j (k ∷ ks) = no_more (bits (Input j) (kind_bits p k)) (input_variables p (j + 1) ks) (input_bits j (kind_bits p k)) (no_input p (j + 1) ks)
+no_input p j (k ∷ ks) = no_more (bits (Input j) (kind_bits p k)) (input_variables p (j + 1) ks)
+    (no_bit (Input j) (λ i. refl) (kind_bits p k)) (no_input p (j + 1) ks)
 
 no_side : (p : Sites) (ss : List Side) → ticks_in (map (Test p) ss) ≡ []
 no_side p [] = refl

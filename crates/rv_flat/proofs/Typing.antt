@@ -1,15 +1,15 @@
 -- In the flat system of a well formed program each memory takes values of its type.
-use Rattle.std.proofs.Common.{◌≡◌, ℕ, zero, suc, ◌<◌, Bool, true, false, cond, List, [], ◌∷◌, length, map, get_or, refl, sym, ◌∙◌, ap, subst, arith}
+use Rattle.std.proofs.Common.{◌≡◌, ℕ, zero, suc, ◌<◌, ◌↔◌, Bool, true, false, cond, List, [], ◌∷◌, length, map, get_or, refl, sym, ◌∙◌, ap, subst, arith}
 use Rattle.std.proofs.Common.{length-append, inl, inr, Option, None as Nothing, Some}
 use Rattle.std.proofs.lemmas.List.{ext_get_or, get_or-map, get_or_append_left, get_or_push}
 use Rattle.std.proofs.{lemmas.Bool.ltb-true, lemmas.Bool.Decides.nat_tests, lemmas.List.Elements.Contains-get_or, lemmas.Option.slice_get_within}
-use Rattle.std.proofs.{Math.ListN.length-map, Math.Nat.eq-or-lt_of_le}
+use Rattle.std.proofs.{lemmas.Simd.map-map, Math.ListN.length-map, Math.Nat.eq-or-lt_of_le}
 use Rattle.std.specs.{Prelude.slice_get, List.Contains}
 use Rattle.rv_base.specs.declared.value.Value.{Value}
 use Rattle.rv_base.specs.declared.value.Value.TheVariants.{Flag, Label, Whole}
-use Rattle.rv_tree.specs.{declared.tree.TypeDecl.TypeDecl, Tree.ProgramTree, Places.Identifier, Places.Sites, Places.index_of}
-use Rattle.rv_types.specs.{declared.typed.Kind.Kind, Instances.IsNode, Lists.MemoryAt, Lists.AreRising, Lists.memory_at, Names.labels_of, Names.texts}
-use Rattle.rv_types.specs.{Needs.IsSequence, Values.HasKind, Values.labels_at, WellFormed.AreWell}
+use Rattle.rv_tree.specs.{declared.tree.TypeDecl.TypeDecl, Delays.Delay, Delays.node_delays, Tree.ProgramTree, Places.Identifier, Places.Sites, Places.index_of}
+use Rattle.rv_types.specs.{declared.typed.Kind.Kind, Instances.Instance, Instances.IsInstance, Instances.IsNode, Lists.MemoryAt, Lists.AreRising}
+use Rattle.rv_types.specs.{Lists.memory_at, Names.labels_of, Names.texts, Needs.IsSequence, Values.HasKind, Values.labels_at, WellFormed.AreWell}
 use Rattle.rv_types.specs.declared.typed.Kind.TheVariants as kind
 use Rattle.rv_meaning.specs.{Runs.Instant, Runs.AreStarts, Instants.State as Brought, Instants.IsInstant, Instants.IsNext, Instants.AreGiven}
 use Rattle.rv_flat.specs.FlatInstants.{Row, places, memory_places, nth_item, memory_items, value_at, IsFlatInstant, IsFlatNext}
@@ -17,7 +17,8 @@ use Rattle.rv_flat.specs.FlatOf.{IsFlatOf, flat_state, flat_inputs, first_values
 use Rattle.rv_flat.specs.Steps.{IsInRange, IsState, AreValues, AreTaken, label_counts, memory_kinds, input_kinds}
 use Rattle.rv_flat.specs.{declared.flat.Flat.Flat, declared.parts.FlatMemory.FlatMemory, declared.state.State.State, Lists.tick_places, Systems.memory_of}
 use Rattle.rv_agreement.specs.Checks.{constant_fits}
-use Rattle.rv_flat.proofs.TickList.{number_at, ticks_rising}
+use Rattle.rv_flat.proofs.{Running.ticks_long, TickList.number_at, TickList.ticks_rising}
+use Rattle.rv_types.proofs.ChainLaws.{no_flag}
 
 -- What is taken from the meaning: memories of their types stay so, and there is a state after each row.
 
@@ -38,27 +39,16 @@ counted (d ∷ ds) (suc i) = counted ds i
 
 -- both say which values a type has
 module _ (program : ProgramTree) (counts : List ℕ) (same : (i : ℕ) → get_or counts i 0 ≡ labels_at program.types i) where
-  has_kind : (k : Kind) (v : Value) → constant_fits counts k v ≡ true → HasKind program k v
-  has_kind kind.Bool (Flag b) e = tt
-  has_kind kind.Int (Whole z) e = tt
-  has_kind (kind.Labels i) (Label l) e = let lt : l < get_or counts i 0 = ltb-true l (get_or counts i 0) e in omega (arith, same i, lt)
-  has_kind kind.Bool (Label l) e = let bad : false ≡ true = e in absurd (grind arith)
-  has_kind kind.Bool (Whole z) e = let bad : false ≡ true = e in absurd (grind arith)
-  has_kind kind.Int (Flag b) e = let bad : false ≡ true = e in absurd (grind arith)
-  has_kind kind.Int (Label l) e = let bad : false ≡ true = e in absurd (grind arith)
-  has_kind (kind.Labels i) (Flag b) e = let bad : false ≡ true = e in absurd (grind arith)
-  has_kind (kind.Labels i) (Whole z) e = let bad : false ≡ true = e in absurd (grind arith)
+  fits_is : (k : Kind) (v : Value) → (constant_fits counts k v ≡ true) ↔ HasKind program k v
+  fits_is kind.Bool (Flag b) = (λ e. tt, λ h. refl)
+  fits_is kind.Int (Whole z) = (λ e. tt, λ h. refl)
+  fits_is (kind.Labels i) (Label l) = (λ e. omega (arith, same i, ltb-true l (get_or counts i 0) e), λ h. let s = same i in grind (arith, nat_tests))
+  fits_is _ _ = (λ e. no_flag e, λ h. absurd h)
 
-  fits_kind : (k : Kind) (v : Value) → HasKind program k v → constant_fits counts k v ≡ true
-  fits_kind kind.Bool (Flag b) h = refl
-  fits_kind kind.Int (Whole z) h = refl
-  fits_kind (kind.Labels i) (Label l) h = let s = same i in grind (arith, nat_tests)
-  fits_kind kind.Bool (Label l) h = absurd h
-  fits_kind kind.Bool (Whole z) h = absurd h
-  fits_kind kind.Int (Flag b) h = absurd h
-  fits_kind kind.Int (Label l) h = absurd h
-  fits_kind (kind.Labels i) (Flag b) h = absurd h
-  fits_kind (kind.Labels i) (Whole z) h = absurd h
+-- how many labels each enumeration has
+pub counts_same : (program : ProgramTree) (main : Identifier) (f : Flat) → IsFlatOf program main f → (i : ℕ)
+    → get_or (label_counts f) i 0 ≡ labels_at program.types i
+counts_same program main f flat i = ap (λ ls. get_or (map (λ l. length l) ls) i 0) flat.labels ∙ counted program.types i
 
 -- the inputs as a function and back
 pub length-values : (g : ℕ → Value) (n : ℕ) → length (first_values g n) ≡ n
@@ -73,6 +63,12 @@ value_kth g (suc n) k lt = elim (eq-or-lt_of_le {n = k} {m = n} (omega arith)) [
   | inr below ↦ get_or_append_left (first_values g n) (g n ∷ []) (Flag false) k (omega (arith, length-values g n)) ∙ value_kth g n k below
 ]
 
+pub values_again : (values : List Value) (n : ℕ) → length values ≡ n → first_values (λ j. get_or values j (Flag false)) n ≡ values
+values_again values n size =
+    let read : ℕ → Value = λ j. get_or values j (Flag false) in
+    ext_get_or (Flag false) (first_values read n) values (omega (arith, length-values read n, size))
+    (λ k lt. value_kth read n k (omega (arith, length-values read n, lt)))
+
 -- a memory by its place and type, at a number
 pub memory_kth : (ms : List FlatMemory) (m : ℕ) (j : Kind) → slice_get (map (λ x. x.kind) ms) m ≡ Some j
     → Contains (map memory_of ms) (record { place = get_or (map (λ x. x.place.sites) ms) m []; kind = j })
@@ -86,10 +82,6 @@ pub memory_found : (ms : List FlatMemory) (a : MemoryAt) → Contains (map memor
 memory_found [] a w = absurd (let lt = w.1 in omega (arith, lt))
 memory_found (x ∷ ms) a (zero, lt, is) = (0, omega arith, ap (λ (b : MemoryAt). Some b.kind) is, ap (λ (b : MemoryAt). b.place) is)
 memory_found (x ∷ ms) a (suc k, lt, is) = let r = memory_found ms a (k, omega arith, is) in (suc r.0, omega (arith, r.1), r.2, r.3)
-
-places_same : (ms : List FlatMemory) → map (λ (a : MemoryAt). a.place) (map memory_of ms) ≡ map (λ m. m.place.sites) ms
-places_same [] = refl
-places_same (x ∷ ms) = ap (λ ps. x.place.sites ∷ ps) (places_same ms)
 
 -- the number of a tick, by the flow of its clock
 abbrev tick_number : List Sites → Option Sites → ℕ
@@ -116,19 +108,37 @@ module _ (program : ProgramTree) (main : Identifier) (f : Flat) (well : AreWell 
   kept_places = memory_places f
 
   pub memories_rising : AreRising kept_places
-  memories_rising = subst AreRising (places_same f.memories) flat.memories.rising
+  memories_rising = subst AreRising (map-map (λ (a : MemoryAt). a.place) memory_of f.memories) flat.memories.rising
 
-  pub counts_same : (i : ℕ) → get_or (label_counts f) i 0 ≡ labels_at program.types i
-  counts_same i = ap (λ ls. get_or (map (λ l. length l) ls) i 0) flat.labels ∙ counted program.types i
+  kind_is : (k : Kind) (v : Value) → (constant_fits (label_counts f) k v ≡ true) ↔ HasKind program k v
+  kind_is = fits_is program (label_counts f) (counts_same program main f flat)
 
-  count : length kept_places ≡ length f.memories
+  pub count : length kept_places ≡ length f.memories
   count = length-map f.memories (λ m. m.place.sites)
 
-  -- how many ticks the flat form of a state has
-  ticks_long : (state : Brought) → length (flat_state f state).ticked ≡ suc (length ticks)
-  ticks_long state =
-      let firsts = length-map ticks (λ (p : Sites). Some p) in
-      length-map (Nothing ∷ map (λ p. Some p) ticks) state.ticked ∙ omega (arith, firsts)
+  -- the number of a memory of the program, and its type there
+  pub number_of : (i : Instance) (d : Delay) → IsInstance program main i → Contains (node_delays i.node) d → (m : ℕ) × (m < length f.memories)
+      × (slice_get (memory_kinds f) m ≡ Some (memory_at program i d).kind) × (index_of kept_places (memory_at program i d).place ≡ m)
+  number_of i d inst w =
+      let found = memory_found f.memories (memory_at program i d) (flat.memories.all i d inst tt w) in
+      (found.0, found.1, found.2, ap (index_of kept_places) (sym found.3) ∙ number_at kept_places memories_rising found.0 (omega (arith, count, found.1)))
+
+  -- and back: what memories of a program have by places has the types of the system by numbers
+  pub kept_typed : (kept : Sites → Value) → AreStarts program main kept → (m : ℕ) (j : Kind) → slice_get (memory_kinds f) m ≡ Some j
+      → HasKind program j (kept (get_or kept_places m []))
+  kept_typed kept starts m j e =
+      let found = flat.memories.only (record { place = get_or kept_places m []; kind = j }) (memory_kth f.memories m j e) in
+      subst (λ (a : MemoryAt). HasKind program a.kind (kept a.place)) (sym found.5) (starts found.0 found.1 found.2 found.4)
+
+  -- values by the numbers of memories, read by places
+  pub kept_again : (values : List Value) → length values ≡ length f.memories
+      → map (λ p. get_or values (index_of kept_places p) (Flag false)) kept_places ≡ values
+  kept_again values size =
+      let read : Sites → Value = λ p. get_or values (index_of kept_places p) (Flag false) in
+      let long : length (map read kept_places) ≡ length kept_places = length-map kept_places read in
+      ext_get_or (Flag false) (map read kept_places) values (omega (arith, long, count, size)) (λ m lt.
+      let less : m < length kept_places = omega (arith, long) in
+      get_or-map read kept_places m [] (Flag false) less ∙ ap (λ j. get_or values j (Flag false)) (number_at kept_places memories_rising m less))
 
   module _ (now : State) (state : IsState f now) where
     abbrev brought : Brought
@@ -136,27 +146,19 @@ module _ (program : ProgramTree) (main : Identifier) (f : Flat) (well : AreWell 
 
     pub state_same : flat_state f brought ≡ now
     state_same =
+        let long = ticks_long f brought in
         let clocks = length-map ticks (λ (p : Sites). Some (index_of (places f) p)) in
-        let long_ticks = ticks_long brought in
-        let ticked = ext_get_or false (flat_state f brought).ticked now.ticked (omega (arith, long_ticks, clocks, state.ticks))
-        (λ k lt. tick_value now.ticked ticks (ticks_rising program main f.variables flat.variables) k (omega (arith, long_ticks))) in
-        let long : length (flat_state f brought).kept ≡ length kept_places = length-map kept_places brought.kept in
-        let kept = ext_get_or (Flag false) (flat_state f brought).kept now.kept
-        (omega (arith, long, count, state.kept.size, length-map f.memories (λ m. m.kind)))
-        (λ m lt. let less : m < length kept_places = omega (arith, long) in
-        get_or-map brought.kept kept_places m [] (Flag false) less ∙ ap (λ j. get_or now.kept j (Flag false)) (number_at kept_places memories_rising m less)) in
+        let ticked = ext_get_or false (flat_state f brought).ticked now.ticked (long ∙ sym state.ticks)
+        (λ k lt. tick_value now.ticked ticks (ticks_rising program main f.variables flat.variables) k (omega (arith, long, clocks))) in
+        let kept = kept_again now.kept (state.kept.size ∙ length-map f.memories (λ m. m.kind)) in
         λ i. record { ticked = ticked i; kept = kept i }
 
     pub starts_typed : AreStarts program main brought.kept
     starts_typed i d inst w =
-        let at = memory_at program i d in
-        let found = memory_found f.memories at (flat.memories.all i d inst tt w) in
-        let number : index_of kept_places at.place ≡ found.0 = ap (index_of kept_places) (sym found.3)
-        ∙ number_at kept_places memories_rising found.0 (omega (arith, count, found.1)) in
-        let value : get_or now.kept found.0 (Flag false) ≡ brought.kept at.place = ap (λ j. get_or now.kept j (Flag false)) (sym number) in
-        subst (HasKind program at.kind) value
-        (has_kind program (label_counts f) counts_same at.kind (get_or now.kept found.0 (Flag false))
-        (state.kept.typed found.0 at.kind (slice_get_within (memory_kinds f) found.0 at.kind found.2) found.2))
+        let at = number_of i d inst w in
+        subst (λ m. HasKind program (memory_at program i d).kind (get_or now.kept m (Flag false))) (sym at.3)
+        ((kind_is (memory_at program i d).kind (get_or now.kept at.0 (Flag false))).0
+        (state.kept.typed at.0 (memory_at program i d).kind (slice_get_within (memory_kinds f) at.0 (memory_at program i d).kind at.2) at.2))
 
     pub state_of_program : (state : Brought) × (flat_state f state ≡ now) × AreStarts program main state.kept
     state_of_program = (brought, state_same, starts_typed)
@@ -166,15 +168,12 @@ module _ (program : ProgramTree) (main : Identifier) (f : Flat) (well : AreWell 
     given_at j = get_or given_values j (Flag false)
 
     pub inputs_same : flat_inputs f given_at ≡ given_values
-    inputs_same =
-        let long = length-values given_at (length f.inputs) in
-        ext_get_or (Flag false) (flat_inputs f given_at) given_values (omega (arith, long, given.size, length-map f.inputs (λ j. j.kind)))
-        (λ k lt. value_kth given_at (length f.inputs) k (omega (arith, long)))
+    inputs_same = values_again given_values (length f.inputs) (given.size ∙ length-map f.inputs (λ j. j.kind))
 
     pub given_typed : AreGiven program main given_at
     given_typed j k e =
         let is : slice_get (input_kinds f) j ≡ Some k = ap (λ ks. slice_get ks j) flat.input_kinds ∙ e in
-        has_kind program (label_counts f) counts_same k (given_at j) (given.typed j k (slice_get_within (input_kinds f) j k is) is)
+        (kind_is k (given_at j)).0 (given.typed j k (slice_get_within (input_kinds f) j k is) is)
 
     pub inputs_of_program : (inputs : ℕ → Value) × (flat_inputs f inputs ≡ given_values) × AreGiven program main inputs
     inputs_of_program = (given_at, inputs_same, given_typed)
@@ -183,23 +182,13 @@ module _ (program : ProgramTree) (main : Identifier) (f : Flat) (well : AreWell 
   pub state_of_flat : (state : Brought) → AreStarts program main state.kept → ((q : Sites) → Contains kept_places q → IsInRange (state.kept q))
       → IsState f (flat_state f state)
   state_of_flat state starts small = record {
-    ticks =
-        let clocks = length-map ticks (λ (p : Sites). Some (index_of (places f) p)) in
-        let long = ticks_long state in
-        omega (arith, clocks, long);
+    ticks = ticks_long f state;
     kept = record {
       size = length-map kept_places state.kept ∙ count ∙ sym (length-map f.memories (λ m. m.kind));
       typed = λ m j lt e.
           let less : m < length kept_places = omega (arith, lt, count, length-map f.memories (λ m. m.kind)) in
-          let found = flat.memories.only (record { place = get_or kept_places m []; kind = j }) (memory_kth f.memories m j e) in
-          let at : MemoryAt = memory_at program found.0 found.1 in
-          let place : get_or kept_places m [] ≡ at.place = ap (λ (a : MemoryAt). a.place) found.5 in
-          let kind : j ≡ at.kind = ap (λ (a : MemoryAt). a.kind) found.5 in
-          let typed : HasKind program j (state.kept (get_or kept_places m [])) =
-          subst (λ q. HasKind program j (state.kept q)) (sym place) (subst (λ k. HasKind program k (state.kept at.place)) (sym kind)
-          (starts found.0 found.1 found.2 found.4)) in
           subst (λ v. constant_fits (label_counts f) j v ≡ true) (sym (get_or-map state.kept kept_places m [] (Flag false) less))
-          (fits_kind program (label_counts f) counts_same j (state.kept (get_or kept_places m [])) typed);
+          ((kind_is j (state.kept (get_or kept_places m []))).1 (kept_typed state.kept starts m j e));
       within = λ m lt.
           let less : m < length kept_places = omega (arith, lt, length-map kept_places state.kept) in
           subst IsInRange (sym (get_or-map state.kept kept_places m [] (Flag false) less))
@@ -215,16 +204,15 @@ module _ (program : ProgramTree) (main : Identifier) (f : Flat) (well : AreWell 
     typed = λ k j lt e.
         let less : k < length f.inputs = omega (arith, lt, length-map f.inputs (λ j. j.kind)) in
         subst (λ v. constant_fits (label_counts f) j v ≡ true) (sym (value_kth inputs (length f.inputs) k less))
-        (fits_kind program (label_counts f) counts_same j (inputs k) (given k j (ap (λ ks. slice_get ks k) (sym flat.input_kinds) ∙ e)));
+        ((kind_is j (inputs k)).1 (given k j (ap (λ ks. slice_get ks k) (sym flat.input_kinds) ∙ e)));
     within = λ k lt.
         let less : k < length f.inputs = omega (arith, lt, length-values inputs (length f.inputs)) in
         subst IsInRange (sym (value_kth inputs (length f.inputs) k less)) (small k less);
   }
 
 module _ (typed_memories : TypedMemories) (some_next : SomeNext) (program : ProgramTree) (main : Identifier) (f : Flat) (now : State) (inputs : List Value)
-    (row : Row)
-    (well : AreWell program) (named : IsNode program main) (flat : IsFlatOf program main f) (state : IsState f now) (given : AreValues f (input_kinds f) inputs)
-    (instant : IsFlatInstant f now inputs row) where
+    (row : Row) (well : AreWell program) (named : IsNode program main) (flat : IsFlatOf program main f) (state : IsState f now)
+    (given : AreValues f (input_kinds f) inputs) (instant : IsFlatInstant f now inputs row) where
   abbrev memory_spots : List Sites
   memory_spots = memory_places f
 
@@ -260,16 +248,9 @@ module _ (typed_memories : TypedMemories) (some_next : SomeNext) (program : Prog
 
   pub memories_taken : AreTaken f now inputs row
   memories_taken m j lt e on =
-      let found = flat.memories.only (record { place = get_or memory_spots m []; kind = j }) (memory_kth f.memories m j e) in
       let item = nth_item (memory_items f) m in
       let value : next.kept (get_or memory_spots m []) ≡ value_at now inputs row item.body =
       sym (get_or-map next.kept memory_spots m [] (Flag false) (omega (arith, length-map f.memories (λ m. m.place.sites))))
-      ∙ flat_next.kept m lt
-      ∙ ap (λ b. cond b (value_at now inputs row item.body) (get_or now.kept m (Flag false))) on in
-      let place : get_or memory_spots m [] ≡ (memory_at program found.0 found.1).place = ap (λ (a : MemoryAt). a.place) found.5 in
-      let kind : j ≡ (memory_at program found.0 found.1).kind = ap (λ (a : MemoryAt). a.kind) found.5 in
-      let typed : HasKind program j (next.kept (get_or memory_spots m [])) =
-      subst (λ q. HasKind program j (next.kept q)) (sym place) (subst (λ k. HasKind program k (next.kept (memory_at program found.0 found.1).place)) (sym kind)
-      (next_typed found.0 found.1 found.2 found.4)) in
-      fits_kind program (label_counts f) (counts_same program main f well named flat) j (value_at now inputs row item.body)
-      (subst (HasKind program j) value typed)
+      ∙ flat_next.kept m lt ∙ ap (λ b. cond b (value_at now inputs row item.body) (get_or now.kept m (Flag false))) on in
+      (kind_is program main f well named flat j (value_at now inputs row item.body)).1
+      (subst (HasKind program j) value (kept_typed program main f well named flat next.kept next_typed m j e))

@@ -3,14 +3,14 @@ use Rattle.std.proofs.Common.{◌≡◌, ◌⊎◌, inl, inr, ℕ, suc, ◌<◌,
 use Rattle.std.proofs.Common.{Option, Some, None as Nothing}
 use Rattle.std.proofs.{lemmas.List.length-map, lemmas.List.get_or_default, lemmas.List.Elements.Contains-append_cases}
 use Rattle.std.specs.List.{Contains}
-use Rattle.rv_tree.specs.{declared.tree.Op.Op, Sites.is_comparison, Tree.Tree, Tree.Form, Tree.Trees, Tree.ProgramTree, Places.Identifier, Places.Sites}
+use Rattle.rv_tree.specs.{declared.tree.Op.Op, Sites.is_comparison, Tree.Tree, Tree.Trees, Tree.ProgramTree, Places.Identifier, Places.Sites}
 use Rattle.rv_tree.specs.{Places.is_flow, Places.index_of}
 use Rattle.rv_tree.specs.declared.tree.Op.TheVariants as op
 use Rattle.rv_tree.specs.Tree as tree
-use Rattle.rv_types.specs.Instances.{Body, Output, Instance, place, clock_in, IsInstance, IsNode, IsArgument, head, tail}
-use Rattle.rv_types.specs.{declared.typed.Clock.TheVariants.Base, Lists.sides_of, Needs.Giver, Needs.Gives, Needs.given, Needs.by_equation, Needs.by_call}
-use Rattle.rv_types.specs.{Scopes.node_scope, Scopes.constant_value, Types.is_constant, Variables.node_parts, WellFormed.AreWell}
-use Rattle.rv_agreement.specs.Translation.{Numbers, tick_number, unplaced, flat_of, flat_form, flats_of, giver_item, IsTranslated}
+use Rattle.rv_types.specs.Instances.{Body, Instance, place, clock_in, IsInstance, IsNode, IsArgument, head, tail}
+use Rattle.rv_types.specs.{declared.typed.Clock.TheVariants.Base, Lists.sides_of, Needs.Giver, Needs.Gives, Needs.by_equation, Needs.by_call, Scopes.node_scope}
+use Rattle.rv_types.specs.{Scopes.constant_value, Types.is_constant, Variables.node_parts, WellFormed.AreWell}
+use Rattle.rv_agreement.specs.Translation.{Numbers, tick_number, unplaced, flat_of, flats_of, giver_item, IsTranslated}
 use Rattle.rv_agreement.specs.Trees.{FlatTree, Constant, Flow, Ticked, Scale, If, Binary, Item, Kept, System, no_item, nth_item, memory_items}
 use Rattle.rv_agreement.specs.Valuations.{Comparison, is_placed, own, comparisons, form_comparisons, comparisons_of, item_comparisons, all_items}
 use Rattle.rv_agreement.specs.Valuations.{all_comparisons}
@@ -61,21 +61,11 @@ module _ (flows : List Item) (k : Option ℕ) (at : Sites) (t : ℕ) (f g : Flat
       (Binary o f g))) c → OneOf o
   of_operator op.Arrow w = elim (Contains-append_cases (comparisons flows k g) (comparisons flows k f) c w) [ inl v ↦ inr (inr v) | inr v ↦ inr (inl v) ]
   of_operator op.Times w = of_product left w
-  of_operator op.Implies w = of_plain op.Implies w
-  of_operator op.Or w = of_plain op.Or w
-  of_operator op.Xor w = of_plain op.Xor w
-  of_operator op.And w = of_plain op.And w
-  of_operator op.Equal w = of_plain op.Equal w
-  of_operator op.Differs w = of_plain op.Differs w
-  of_operator op.Less w = of_plain op.Less w
-  of_operator op.AtMost w = of_plain op.AtMost w
-  of_operator op.Greater w = of_plain op.Greater w
-  of_operator op.AtLeast w = of_plain op.AtLeast w
-  of_operator op.Plus w = of_plain op.Plus w
-  of_operator op.Minus w = of_plain op.Minus w
-  of_operator op.Slash w = of_plain op.Slash w
-  of_operator op.Div w = of_plain op.Div w
-  of_operator op.Mod w = of_plain op.Mod w
+  of_operator o w = of_plain o w
+
+-- what is in a list stands at a number
+pub at_number : (xs : List Item) (x : Item) → Contains xs x → (k : ℕ) × (k < length xs) × (nth_item xs k ≡ x)
+at_number xs x w = (w.0, w.1, get_or_default xs w.0 no_item x w.1 ∙ w.2)
 
 module _ (program : ProgramTree) (main : Identifier) (numbers : Numbers) where
   -- A comparison that is read from one of an instance.
@@ -137,43 +127,32 @@ module _ (program : ProgramTree) (main : Identifier) (numbers : Numbers) where
       -- each comparison of what is read of an expression
       comparison_read : (k : Option ℕ) (e : Tree) (c : Comparison) → Stands i.node e → Contains (comparisons flows k (flat_of program numbers i e)) c
           → IsReadFrom c
-      comparison_read k (tree.Node at site form) c t w = form_read k at site form c t w
-
-      form_read : (k : Option ℕ) (at : ℕ) (site : Option ℕ) (form : Form) (c : Comparison) → Stands i.node (tree.Node at site form)
-          → Contains (comparisons flows k (flat_form program numbers i site form)) c → IsReadFrom c
-      form_read k at site tree.True c t w = nothing_in c w
-      form_read k at site tree.False c t w = nothing_in c w
-      form_read k at site (tree.Number n) c t w = nothing_in c w
-      form_read k at site (tree.Named x) c t w = named_none k x (is_flow i.node x) c w
-      form_read k at site (tree.Not e) c t w = comparison_read k e c (as_child at site (tree.Not e) e t of_not) w
-      form_read k at site (tree.Minus e) c t w = comparison_read k e c (as_child at site (tree.Minus e) e t of_minus) w
-      form_read k at site (tree.Pre e) c t w = nothing_in c w
-      form_read k at site (tree.Current e) c t w = nothing_in c w
-      form_read k at site (tree.When e x) c t w =
-          comparison_read (nth_item flows (index_of numbers.flows (place i x.text))).clock e c (as_child at site (tree.When e x) e t (of_when x)) w
-      form_read k at site (tree.Binary o a b) c t w =
+      comparison_read k (tree.Node at site (tree.Named x)) c t w = named_none k x (is_flow i.node x) c w
+      comparison_read k (tree.Node at site (tree.Not e)) c t w = comparison_read k e c (as_child t of_not) w
+      comparison_read k (tree.Node at site (tree.Minus e)) c t w = comparison_read k e c (as_child t of_minus) w
+      comparison_read k (tree.Node at site (tree.When e x)) c t w =
+          comparison_read (nth_item flows (index_of numbers.flows (place i x.text))).clock e c (as_child t (of_when x)) w
+      comparison_read k (tree.Node at site (tree.Binary o a b)) c t w =
           elim (of_operator flows k (operator_place program i site o a) (tick_number numbers (clock_in i Base (tree.Node 0 site (tree.Binary o a b))))
           (flat_of program numbers i a) (flat_of program numbers i b)
           (is_constant (node_scope program i.node) a) (coefficient program a) (coefficient program b) c o w) [
             | inl own ↦ own_read at site o a b k c t own
             | inr parts ↦ elim parts [
-              | inl v ↦ comparison_read k a c (as_child at site (tree.Binary o a b) a t of_left) v
-              | inr v ↦ comparison_read k b c (as_child at site (tree.Binary o a b) b t of_right) v
+              | inl v ↦ comparison_read k a c (as_child t of_left) v
+              | inr v ↦ comparison_read k b c (as_child t of_right) v
             ]
           ]
-      form_read k at site (tree.If a b d) c t w =
-          let f = flat_of program numbers i a in
-          let g = flat_of program numbers i b in
-          let h = flat_of program numbers i d in
+      comparison_read k (tree.Node at site (tree.If a b d)) c t w =
+          let f = flat_of program numbers i a in let g = flat_of program numbers i b in let h = flat_of program numbers i d in
           elim (Contains-append_cases (comparisons flows k f) (comparisons flows k g ++ comparisons flows k h) c w) [
-            | inl v ↦ comparison_read k a c (as_child at site (tree.If a b d) a t of_condition) v
+            | inl v ↦ comparison_read k a c (as_child t of_condition) v
             | inr rest ↦ elim (Contains-append_cases (comparisons flows k g) (comparisons flows k h) c rest) [
-              | inl v ↦ comparison_read k b c (as_child at site (tree.If a b d) b t of_first) v
-              | inr v ↦ comparison_read k d c (as_child at site (tree.If a b d) d t of_second) v
+              | inl v ↦ comparison_read k b c (as_child t of_first) v
+              | inr v ↦ comparison_read k d c (as_child t of_second) v
             ]
           ]
-      form_read k at site (tree.AtMostOne es) c t w = all_read k es c (λ j e arg. as_child at site (tree.AtMostOne es) e t (of_operand j arg)) w
-      form_read k at site (tree.Call f args) c t w = nothing_in c w
+      comparison_read k (tree.Node at site (tree.AtMostOne es)) c t w = all_read k es c (λ j e arg. as_child t (of_operand j arg)) w
+      comparison_read k (tree.Node at site _) c t w = nothing_in c w
 
       all_read : (k : Option ℕ) (es : Trees) (c : Comparison) → ((j : ℕ) (e : Tree) → IsArgument es j e → Stands i.node e)
           → Contains (comparisons_of flows k (flats_of program numbers i es)) c → IsReadFrom c
@@ -187,32 +166,25 @@ module _ (program : ProgramTree) (main : Identifier) (numbers : Numbers) where
   -- each comparison of what gives a flow
   giver_read : (flows : List Item) (q : Sites) (g : Giver) (c : Comparison) → Gives program main q g
       → Contains (item_comparisons flows (giver_item program numbers g)) c → IsReadFrom c
-  giver_read flows q _ c (given j lt at) w = nothing_in c w
   giver_read flows q _ c (by_equation i x (Body e) of right at) w = comparison_read flows i of _ e c (body_stands i.node x e right) w
-  giver_read flows q _ c (by_equation i x (Output d j) of right at) w = nothing_in c w
   giver_read flows q _ c (by_call i d j e of called arg at) w = comparison_read flows i of _ e c (argument_stands i.node d j e called arg) w
-
-  -- what is in a list stands at a number
-  at_number : (xs : List Item) (x : Item) → Contains xs x → (k : ℕ) × (k < length xs) × (nth_item xs k ≡ x)
-  at_number xs x w = (w.0, w.1, get_or_default xs w.0 no_item x w.1 ∙ w.2)
+  giver_read flows q _ c _ w = nothing_in c w
 
   module _ (s : System) (read : IsTranslated program main numbers s) where
     item_read : (x : Item) (c : Comparison) → Contains (all_items s) x → Contains (item_comparisons s.flows x) c → IsReadFrom c
     item_read x c w v = elim (Contains-append_cases s.flows (memory_items s ++ s.assertions) x w) [
       | inl flow ↦
-          let a = at_number s.flows x flow in
-          let r = read.flow a.0 a.1 in
+          let a = at_number s.flows x flow in let r = read.flow a.0 a.1 in
           giver_read s.flows _ r.0 c r.1 (subst (λ (y : Item). Contains (item_comparisons s.flows y) c) (sym a.2 ∙ r.2) v)
       | inr rest ↦ elim (Contains-append_cases (memory_items s) s.assertions x rest) [
         | inl memory ↦
             let a = at_number (memory_items s) x memory in
             let many = length-map s.memories (λ (m : Kept). m.item) in
-            let r = read.memory_only a.0 (let lt = a.1 in omega (arith, lt, many)) in
+            let r = read.memory_only a.0 (omega (arith, a.1, many)) in
             comparison_read s.flows r.0 r.2 _ r.1.operand c (operand_stands r.0.node r.1 r.3)
             (subst (λ (y : Item). Contains (item_comparisons s.flows y) c) (sym a.2 ∙ r.4) v)
         | inr assertion ↦
-            let a = at_number s.assertions x assertion in
-            let r = read.asserted a.0 a.1 in
+            let a = at_number s.assertions x assertion in let r = read.asserted a.0 a.1 in
             comparison_read s.flows r.0 r.2 _ r.1.body c (as_assertion r.1 r.3)
             (subst (λ (y : Item). Contains (item_comparisons s.flows y) c) (sym a.2 ∙ r.4) v)
       ]
@@ -226,8 +198,7 @@ module _ (program : ProgramTree) (main : Identifier) (numbers : Numbers) where
       -- Comparisons at one place have the same operands.
       pub comparisons_apart : AreApart s
       comparisons_apart c d w v e =
-          let x = every_read c w in
-          let y = every_read d v in
+          let x = every_read c w in let y = every_read d v in
           let r = snoc_parts x.i.path y.i.path x.site y.site (sym x.place ∙ e ∙ y.place) in
           let one = same_instance program main well named x.i y.i x.of y.of r.0 in
           let there : Contains (node_parts y.i.node) (tree.Node x.at (Some y.site) (tree.Binary x.operator x.left x.right)) =

@@ -16,7 +16,8 @@ use Rattle.rv_types.proofs.{TypedParts.IsTyped, TypedParts.parts_typed, TypedPar
 use Rattle.rv_instances.specs.{Flowing.IsKnownClock, Timed.ToldOperator, Timed.own_operator}
 use Rattle.rv_instances.proofs.TimedParts.{node_operators}
 use Rattle.rv_flatten.specs.Arrows.{arrow_of, node_arrows}
-use Rattle.rv_flatten.proofs.{ClockKinds.IsTrueClock, ClockKinds.clock_taken, ClockKinds.pace_is_true, FlowKinds.kinds_many}
+use Rattle.rv_meaning.proofs.FlowSites.{kinds_many}
+use Rattle.rv_flatten.proofs.{ClockKinds.IsTrueClock, ClockKinds.clock_taken, ClockKinds.pace_is_true}
 
 -- the only one of no more than one
 only_one : (b : Bool) (c k : Clock) → Contains (cond b (c ∷ []) []) k → (b ≡ true) × (c ≡ k)
@@ -66,21 +67,19 @@ module _ (program : ProgramTree) (n : NodeTree) (well : IsWellTyped program n) (
         several more =
             let s = formed.sides q w more in
             let c : CallTree = record { at = s.0; site = unwrap_or s.1 0; name = s.2; args = s.3 } in
-            let there : Contains (calls n) c =
-            Contains-append_left (calls_in_equations n.equations) (calls_in_assertions n.assertions) c
+            let there : Contains (calls n) c = Contains-append_left (calls_in_equations n.equations) (calls_in_assertions n.assertions) c
             (right_calls n.equations q c w (subst (λ t. Contains (calls_in t) c) (sym s.4) (at_head c (calls_in_all s.3)))) in
             elim (cons_cases (Node s.0 s.1 (Call s.2 s.3)) (parts_of_all s.3) e (subst (λ t. Contains (parts t) e) s.4 v)) [
               | inl same ↦ no_flag (ap is_arrow same ∙ is)
               | inr rest ↦
-                  let a = argument_part s.3 e rest in
-                  let t = well.argument c a.0 a.1 there a.2 in
+                  let a = argument_part s.3 e rest in let t = well.argument c a.0 a.1 there a.2 in
                   parts_typed (node_scope program n) a.1 (t.0, t.1) e a.3
             ]
 
         by : (lefts : List Name) → q.lefts ≡ lefts → IsTyped (node_scope program n) e
-        by [] empty = several (λ one. let none = ap length empty in omega (arith, none, one))
+        by [] empty = several (λ one. omega (arith, ap length empty, one))
         by (x ∷ []) one = let t = well.body x.text q.right (alone q w (ap texts one)) in parts_typed (node_scope program n) q.right (t.0, t.1) e v
-        by (x ∷ y ∷ ys) more = several (λ one. let many = ap length more in omega (arith, many, one))
+        by (x ∷ y ∷ ys) more = several (λ one. omega (arith, ap length more, one))
 
     arrow_typed : Contains (node_parts n) e → IsTyped (node_scope program n) e
     arrow_typed w = elim (Contains-append_cases (flat_map (λ (q : EquationTree). parts q.right) n.equations)
@@ -101,4 +100,4 @@ module _ (program : ProgramTree) (n : NodeTree) (well : IsWellTyped program n) (
     where
       by : (k : Clock) → IsTrueClock program n k → IsKnownClock n k
       by Base h = tt
-      by (On s) h = let lt = slice_get_within _ s kind.Bool h in let many = kinds_many program n in omega (arith, lt, many)
+      by (On s) h = omega (arith, slice_get_within _ s kind.Bool h, kinds_many program n)

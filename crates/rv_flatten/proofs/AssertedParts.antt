@@ -1,6 +1,6 @@
 -- The assertions of a flat system, made one instance after the other.
 use Rattle.std.proofs.Common.{◌≡◌, inl, inr, ℕ, ◌+◌, ◌<◌, List, [], ◌∷◌, ◌++◌, map, length, refl, sym, ◌∙◌, ap, subst, arith}
-use Rattle.std.proofs.lemmas.Bool.{cases_order}
+use Rattle.std.proofs.lemmas.Bool.{cases_eq}
 use Rattle.std.proofs.lemmas.List.Elements.{Contains-append_left, Contains-append_right, Contains-append_cases}
 use Rattle.std.specs.List.{Contains}
 use Rattle.rv_tree.specs.{declared.tree.Assertion.Assertion, Tree.AssertionTree, Tree.NodeTree, Tree.assertion_tree, Tree.node_tree}
@@ -50,22 +50,17 @@ module _ (x : Expanded) (known : IsKnown x) where
       from_here = grown here.0 here.1 here.2
 
       every : (k : ℕ) (i : Instance) (a : AssertionTree) → k < m + 1 → IsInstance (program_of x) (main_of x) i → IsNumberOf (program_of x) x.instances.now k i
-          → Contains i.node.assertions a
-          → Contains (map raw_tree new) (assertion_of (program_of x) numbers i a)
-      every k i a less is at w = elim (cases_order k m) [
+          → Contains i.node.assertions a → Contains (map raw_tree new) (assertion_of (program_of x) numbers i a)
+      every k i a less is at w = elim (cases_eq k m) [
         | inl same ↦
             subst (λ l. Contains l (assertion_of (program_of x) numbers i a))
             (sym (grown i is (subst (λ n. IsNumberOf (program_of x) x.instances.now n i) same at)))
             (Contains-append_right (map raw_tree had) (map (assertion_of (program_of x) numbers i) i.node.assertions) (assertion_of (program_of x) numbers i a)
             (in_map (assertion_of (program_of x) numbers i) i.node.assertions a w))
-        | inr other ↦ elim other [
-          | inl earlier ↦
-              subst (λ l. Contains l (assertion_of (program_of x) numbers i a)) (sym from_here)
-              (Contains-append_left (map raw_tree had) (map (assertion_of (program_of x) numbers here.0) here.0.node.assertions)
-              (assertion_of (program_of x) numbers i a)
-              (before.all k i a earlier is at w))
-          | inr later ↦ absurd (omega (arith, less, later))
-        ]
+        | inr other ↦
+            subst (λ l. Contains l (assertion_of (program_of x) numbers i a)) (sym from_here)
+            (Contains-append_left (map raw_tree had) (map (assertion_of (program_of x) numbers here.0) here.0.node.assertions)
+            (assertion_of (program_of x) numbers i a) (before.all k i a (omega (arith, less, other)) is at w))
       ]
 
       alone : (e : RawTree) → Contains (map raw_tree new) e → (i : Instance) × (a : AssertionTree) × IsInstance (program_of x) (main_of x) i

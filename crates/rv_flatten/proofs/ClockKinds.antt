@@ -1,14 +1,13 @@
 -- The clocks of flows and of expressions that have types are Boolean flows.
 use Rattle.std.proofs.Common.{◌≡◌, inl, inr, ℕ, suc, Bool, true, false, cond, List, [], ◌∷◌, ◌++◌, map, length, get_or, slice_get, refl, sym, subst, arith}
 use Rattle.std.proofs.Common.{Option, Some, None as Nothing}
-use Rattle.std.proofs.{lemmas.Bool.cases_order, lemmas.List.get_or_past, lemmas.List.Elements.Contains-get_or, lemmas.List.Elements.Contains-append_cases}
+use Rattle.std.proofs.{lemmas.Bool.cases_lt, lemmas.List.get_or_past, lemmas.List.Elements.Contains-get_or, lemmas.List.Elements.Contains-append_cases}
 use Rattle.std.specs.List.{Contains}
-use Rattle.rv_tree.specs.Tree.{Tree, Node, Form, True, False, Number, Named, Not, Minus, Pre, Current, When, Binary, If, AtMostOne, Call, Trees, None, More}
-use Rattle.rv_tree.specs.Tree.{NodeTree, ProgramTree}
+use Rattle.rv_tree.specs.Tree.{Tree, Node, Named, Not, Minus, Pre, Current, When, Binary, If, AtMostOne, Call, Trees, None, More, NodeTree, ProgramTree}
 use Rattle.rv_tree.specs.{declared.tree.Name.Name, declared.tree.Decl.Decl, declared.tree.Op.Op, Places.is_flow, Places.site_of}
 use Rattle.rv_tree.specs.declared.tree.Op.TheVariants as op
 use Rattle.rv_types.specs.Clocks.{base_clock, declared_clock, flow_clocks, clock_at, same_clock, seen, meet, grounded, binary_pace, when_pace, current_pace}
-use Rattle.rv_types.specs.Clocks.{pace, form_pace, pace_of_all}
+use Rattle.rv_types.specs.Clocks.{pace, pace_of_all}
 use Rattle.rv_types.specs.{declared.typed.Kind.Kind, declared.typed.Clock.Clock, declared.typed.Clock.TheVariants.Base, declared.typed.Clock.TheVariants.On}
 use Rattle.rv_types.specs.{declared.fault.Pace.Pace, declared.fault.Pace.TheVariants.Free, declared.fault.Pace.TheVariants.At}
 use Rattle.rv_types.specs.{declared.fault.Pace.TheVariants.Mute, declared.fault.Pace.TheVariants.Differ, Kinds.flow_kinds, Types.all_typed, Types.kind_of}
@@ -24,22 +23,16 @@ module _ (program : ProgramTree) (n : NodeTree) where
   IsTrueClock (On s) = slice_get (flow_kinds program n) s ≡ Some kind.Bool
 
   abbrev pub HasTrueClock : Pace → Type 0
-  HasTrueClock Free = Unit {0}
   HasTrueClock (At c) = IsTrueClock c
-  HasTrueClock Mute = Unit {0}
-  HasTrueClock Differ = Unit {0}
+  HasTrueClock _ = Unit {0}
 
   of_seen : (p : Pace) → HasTrueClock p → HasTrueClock (seen p)
-  of_seen Free h = tt
   of_seen (At c) h = h
-  of_seen Mute h = tt
-  of_seen Differ h = tt
+  of_seen _ h = tt
 
   of_ground : (p : Pace) → HasTrueClock p → HasTrueClock (grounded p)
-  of_ground Free h = tt
   of_ground (At c) h = h
-  of_ground Mute h = tt
-  of_ground Differ h = tt
+  of_ground _ h = tt
 
   of_choice : (b : Bool) (p : Pace) → HasTrueClock p → HasTrueClock (cond b p Differ)
   of_choice true p h = h
@@ -74,24 +67,17 @@ module _ (program : ProgramTree) (n : NodeTree) where
       at Differ = tt
 
   of_current : ((i : ℕ) → IsTrueClock (clock_at n i)) → (p : Pace) → HasTrueClock (current_pace n p)
-  of_current declared Free = tt
-  of_current declared (At Base) = tt
   of_current declared (At (On i)) = declared i
-  of_current declared Mute = tt
-  of_current declared Differ = tt
+  of_current declared _ = tt
 
   -- what is on no clock takes the base clock
   pub clock_taken : (p : Pace) → HasTrueClock p → IsTrueClock (taken Base p)
-  clock_taken Free h = tt
   clock_taken (At c) h = h
-  clock_taken Mute h = tt
-  clock_taken Differ h = tt
+  clock_taken _ h = tt
 
   pub clock_taken_on : (k : Clock) (p : Pace) → IsTrueClock k → HasTrueClock p → IsTrueClock (taken k p)
-  clock_taken_on k Free is h = is
   clock_taken_on k (At c) is h = h
-  clock_taken_on k Mute is h = is
-  clock_taken_on k Differ is h = is
+  clock_taken_on k _ is h = is
 
   -- each of the arguments of a call has a type
   pub arguments_typed : (es : Trees) → all_typed (kinds_of_all (node_scope program n) es) ≡ true → (j : ℕ) (e : Tree) → IsArgument es j e
@@ -109,12 +95,9 @@ module _ (program : ProgramTree) (n : NodeTree) where
 
   module _ (well : IsWellTyped program n) where
     each_clock : (cs : List Clock) → ((c : Clock) → Contains cs c → IsTrueClock c) → (i : ℕ) → IsTrueClock (get_or cs i Base)
-    each_clock cs each i = elim (cases_order i (length cs)) [
-      | inl same ↦ subst IsTrueClock (sym (get_or_past cs i Base (omega (arith, same)))) tt
-      | inr other ↦ elim other [
-        | inl lt ↦ each (get_or cs i Base) (Contains-get_or cs i Base lt)
-        | inr gt ↦ subst IsTrueClock (sym (get_or_past cs i Base (omega (arith, gt)))) tt
-      ]
+    each_clock cs each i = elim (cases_lt i (length cs)) [
+      | inl lt ↦ each (get_or cs i Base) (Contains-get_or cs i Base lt)
+      | inr past ↦ subst IsTrueClock (sym (get_or_past cs i Base (omega (arith, past)))) tt
     ]
 
     all_base : (ds : List Decl) (c : Clock) → Contains (map base_clock ds) c → IsTrueClock c
@@ -154,29 +137,24 @@ module _ (program : ProgramTree) (n : NodeTree) where
     mutual
       -- and that of each expression that has a type
       pub pace_is_true : (e : Tree) (k : Kind) → IsTyped program n e k → HasTrueClock (pace n e)
-      pace_is_true (Node at site form) k t = form_pace_is_true at site form k t
-
-      form_pace_is_true : (at : ℕ) (site : Option ℕ) (form : Form) (k : Kind) → IsTyped program n (Node at site form) k → HasTrueClock (form_pace n form)
-      form_pace_is_true at site True k t = tt
-      form_pace_is_true at site False k t = tt
-      form_pace_is_true at site (Number v) k t = tt
-      form_pace_is_true at site (Named x) k t = named_pace (is_flow n x) (site_of n x)
-      form_pace_is_true at site (Not e) k t = of_seen (pace n e) (pace_is_true e kind.Bool (not_typed program n at site e k t).0)
-      form_pace_is_true at site (Minus e) k t = of_seen (pace n e) (pace_is_true e kind.Int (minus_typed program n at site e k t).0)
-      form_pace_is_true at site (Pre e) k t = of_ground (seen (pace n e)) (of_seen (pace n e) (pace_is_true e k (pre_typed program n at site e k t)))
-      form_pace_is_true at site (Current e) k t = of_current clock_is_true (seen (pace n e))
-      form_pace_is_true at site (When e c) k t = of_when (seen (pace n e)) (site_of n c.text) (when_typed program n at site e c k t).1
-      form_pace_is_true at site (Binary o a b) k t =
+      pace_is_true (Node at site (Named x)) k t = named_pace (is_flow n x) (site_of n x)
+      pace_is_true (Node at site (Not e)) k t = of_seen (pace n e) (pace_is_true e kind.Bool (not_typed program n at site e k t).0)
+      pace_is_true (Node at site (Minus e)) k t = of_seen (pace n e) (pace_is_true e kind.Int (minus_typed program n at site e k t).0)
+      pace_is_true (Node at site (Pre e)) k t = of_ground (seen (pace n e)) (of_seen (pace n e) (pace_is_true e k (pre_typed program n at site e k t)))
+      pace_is_true (Node at site (Current e)) k t = of_current clock_is_true (seen (pace n e))
+      pace_is_true (Node at site (When e c)) k t = of_when (seen (pace n e)) (site_of n c.text) (when_typed program n at site e c k t).1
+      pace_is_true (Node at site (Binary o a b)) k t =
           let r = binary_typed program n at site o a b k t in
           of_operator o (seen (pace n a)) (seen (pace n b)) (of_seen (pace n a) (pace_is_true a r.left r.left_is))
           (of_seen (pace n b) (pace_is_true b r.right r.right_is))
-      form_pace_is_true at site (If a b c) k t =
+      pace_is_true (Node at site (If a b c)) k t =
           let r = if_typed program n at site a b c k t in
           of_meet (seen (pace n a)) (meet (seen (pace n b)) (seen (pace n c))) (of_seen (pace n a) (pace_is_true a kind.Bool r.0))
           (of_meet (seen (pace n b)) (seen (pace n c)) (of_seen (pace n b) (pace_is_true b k r.1)) (of_seen (pace n c) (pace_is_true c k r.2)))
-      form_pace_is_true at site (AtMostOne es) k t = let r = (most_typed program n at site es k t).0 in paces_are_true es (λ j e arg. (kind.Bool, r j e arg))
-      form_pace_is_true at site (Call f es) k t = of_ground (pace_of_all n es)
+      pace_is_true (Node at site (AtMostOne es)) k t = let r = (most_typed program n at site es k t).0 in paces_are_true es (λ j e arg. (kind.Bool, r j e arg))
+      pace_is_true (Node at site (Call f es)) k t = of_ground (pace_of_all n es)
           (paces_are_true es (arguments_typed es (call_typed program n at site f es k t).typed))
+      pace_is_true (Node at site _) k t = tt
 
       pub paces_are_true : (es : Trees) → ((j : ℕ) (e : Tree) → IsArgument es j e → (k : Kind) × IsTyped program n e k) → HasTrueClock (pace_of_all n es)
       paces_are_true None t = tt

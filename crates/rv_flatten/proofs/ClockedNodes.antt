@@ -6,7 +6,7 @@ use Rattle.rv_tree.specs.declared.tree.Node as declared
 use Rattle.rv_tree.specs.Tree.{NodeTree, node_tree}
 use Rattle.rv_types.specs.{declared.reading_clocks.NodeClocks.NodeClocks, Names.repeated, Known.flow_names}
 use Rattle.rv_instances.specs.{declared.expanded.Expanded.Expanded, Expanded.IsKnown, Expanded.program_of}
-use Rattle.rv_flatten.proofs.InstanceNumbers.{flows_once}
+use Rattle.rv_instances.proofs.Known.{flows_once}
 use Rattle.rv_types.proofs.Members.{in_map}
 
 module _ (x : Expanded) (known : IsKnown x) where
@@ -30,8 +30,5 @@ module _ (x : Expanded) (known : IsKnown x) where
 pub one_more : {X Y : Type 0} (f : X → Y) (xs : List X) (k : ℕ) (x : X) (ys new : List Y) (y : Y) → k < length xs → get_or xs k x ≡ x → new ≡ ys ++ y ∷ []
     → ys ≡ map f (take k xs) → y ≡ f x → new ≡ map f (take (k + 1) xs)
 one_more f xs k x ys new y lt is grown so_far found =
-    grown
-    ∙ (λ i. so_far i ++ found i ∷ [])
-    ∙ sym (map-append f (take k xs) (x ∷ []))
-    ∙ ap (λ z. map f (take k xs ++ z ∷ [])) (sym is)
+    grown ∙ (λ i. so_far i ++ found i ∷ []) ∙ sym (map-append f (take k xs) (x ∷ [])) ∙ ap (λ z. map f (take k xs ++ z ∷ [])) (sym is)
     ∙ ap (map f) (sym (take_more xs k x lt))

@@ -1,15 +1,16 @@
 -- The comparisons of integers of a node are those that its parts are, and of one site there is one.
-use Rattle.std.proofs.Common.{◌≡◌, inl, inr, ℕ, ◌+◌, ◌≤◌, Bool, true, false, ◌&&◌, cond, nat_eq, List, [], ◌∷◌, ◌++◌, flat_map, refl, sym, ◌∙◌, ap, subst}
-use Rattle.std.proofs.Common.{arith, unwrap_or, Option, Some, None as Nothing}
+use Rattle.std.proofs.Common.{◌≡◌, inl, inr, ℕ, ◌+◌, ◌≤◌, Bool, true, false, not, ◌&&◌, cond, nat_eq, List, [], ◌∷◌, ◌++◌, length, flat_map, refl, sym, ◌∙◌, ap}
+use Rattle.std.proofs.Common.{subst, arith, unwrap_or, Option, Some, None as Nothing}
 use Rattle.std.proofs.{lemmas.Bool.Decides.nat_tests, lemmas.Grind.flat_map-append}
 use Rattle.std.specs.List.{Contains}
-use Rattle.rv_tree.specs.Tree.{Tree, Node, True, False, Number, Named, Not, Minus, Pre, Current, When, Binary, If, AtMostOne, Call, Trees, None, More}
-use Rattle.rv_tree.specs.Tree.{EquationTree, AssertionTree, NodeTree, ProgramTree}
+use Rattle.rv_tree.specs.Tree.{Tree, Node, Not, Minus, Pre, Current, When, Binary, If, AtMostOne, Call, Trees, None, More, EquationTree, AssertionTree}
+use Rattle.rv_tree.specs.Tree.{NodeTree, ProgramTree}
 use Rattle.rv_tree.specs.{declared.tree.Op.Op, Delays.IsNumbered, Sites.is_comparison, SitedParts.SitedPart, SitedParts.part}
+use Rattle.rv_tree.specs.declared.tree.Op.TheVariants as op
 use Rattle.rv_tree.specs.SitedParts as sited
 use Rattle.rv_types.specs.declared.typed.Kind.TheVariants as kind
 use Rattle.rv_types.specs.Variables.{total, is_integer, parts, parts_of_all, node_parts}
-use Rattle.rv_types.specs.{Scopes.node_scope, Types.Scope, Types.kind_of}
+use Rattle.rv_types.specs.{Scopes.node_scope, Types.Scope, Types.kind_of, Lists.sides_of}
 use Rattle.rv_agreement.specs.Programs.{is_test}
 use Rattle.rv_instances.specs.Timed.{own_operator, operators_told}
 use Rattle.rv_flatten.specs.{declared.comparisons.Tested.Tested, Compared.own_test, Compared.tests_in}
@@ -18,6 +19,11 @@ use Rattle.rv_instances.proofs.TimedParts.{node_operators}
 use Rattle.rv_types.proofs.Members.{at_head, cons_cases, in_flat_map, in_tail, nothing_in, of_flat_map}
 use Rattle.rv_types.proofs.{ChainLaws.no_flag, DifferentPlaces.total_append}
 use Rattle.rv_base.proofs.Truths.{both_of}
+
+-- an operator compares where it has order tests
+pub sides_told : (o : Op) → is_comparison o ≡ not (nat_eq (length (sides_of o)) 0)
+sides_told op.Equal = refl
+sides_told _ = refl
 
 -- What is found.
 
@@ -59,8 +65,7 @@ module _ (p : ProgramTree) (n : NodeTree) where
   own_is (Node at site _) t w = nothing_in t w
 
   pub test_found : (at k : ℕ) (o : Op) (a b : Tree) → Contains (node_parts n) (Node at (Some k) (Binary o a b)) → is_comparison o ≡ true
-      → is_integer (unwrap_or (kind_of (node_scope p n) a) kind.Bool) ≡ true
-      → Contains {X = Tested} (tests_in p n) (record { site = k; operator = o })
+      → is_integer (unwrap_or (kind_of (node_scope p n) a) kind.Bool) ≡ true → Contains {X = Tested} (tests_in p n) (record { site = k; operator = o })
   test_found at k o a b w c i =
       let t : Tested = record { site = k; operator = o } in
       let own = subst (λ (x : Bool). Contains (cond x (t ∷ []) [] ++ []) t) (λ j. sym c j && sym i j) (at_head t []) in
@@ -84,36 +89,26 @@ module _ (marked : Option ℕ → Bool) where
 
   both_counted : (xs ys : List Tree) (ps qs : List SitedPart) → total own_count xs ≤ total sited_count ps → total own_count ys ≤ total sited_count qs
       → total own_count (xs ++ ys) ≤ total sited_count (ps ++ qs)
-  both_counted xs ys ps qs h k =
-      let a = total_append own_count xs ys in
-      let b = total_append sited_count ps qs in
-      omega (arith, h, k, a, b)
+  both_counted xs ys ps qs h k = omega (arith, h, k, total_append own_count xs ys, total_append sited_count ps qs)
 
   mutual
     counted : (e : Tree) → total own_count (parts e) ≤ total sited_count (sited.parts e)
-    counted (Node at site True) = omega arith
-    counted (Node at site False) = omega arith
-    counted (Node at site (Number v)) = omega arith
-    counted (Node at site (Named x)) = omega arith
-    counted (Node at site (Not e)) = let h = counted e in omega (arith, h)
-    counted (Node at site (Minus e)) = let h = counted e in omega (arith, h)
-    counted (Node at site (Pre e)) = let h = counted e in omega (arith, h)
-    counted (Node at site (Current e)) = let h = counted e in omega (arith, h)
-    counted (Node at site (When e c)) = let h = counted e in omega (arith, h)
+    counted (Node at site (Not e)) = omega (arith, counted e)
+    counted (Node at site (Minus e)) = omega (arith, counted e)
+    counted (Node at site (Pre e)) = omega (arith, counted e)
+    counted (Node at site (Current e)) = omega (arith, counted e)
+    counted (Node at site (When e c)) = omega (arith, counted e)
     counted (Node at site (Binary o a b)) =
         let own = sited.comparison o at site in
-        let x = counted a in
-        let y = counted b in
-        let i = total_append own_count (parts a) (parts b) in
-        let j = total_append sited_count (sited.parts a) (own ++ sited.parts b) in
-        let k = total_append sited_count own (sited.parts b) in
-        omega (arith, x, y, i, j, k)
+        let sites = total_append sited_count (sited.parts a) (own ++ sited.parts b) in
+        omega (arith, counted a, counted b, total_append own_count (parts a) (parts b), sites, total_append sited_count own (sited.parts b))
     counted (Node at site (If a b c)) =
         let h = both_counted (parts a) (parts b ++ parts c) (sited.parts a) (sited.parts b ++ sited.parts c) (counted a)
         (both_counted (parts b) (parts c) (sited.parts b) (sited.parts c) (counted b) (counted c)) in
         omega (arith, h)
-    counted (Node at site (AtMostOne es)) = let h = all_counted es in omega (arith, h)
-    counted (Node at site (Call f es)) = let h = all_counted es in omega (arith, h)
+    counted (Node at site (AtMostOne es)) = omega (arith, all_counted es)
+    counted (Node at site (Call f es)) = omega (arith, all_counted es)
+    counted _ = omega arith
 
     all_counted : (es : Trees) → total own_count (parts_of_all es) ≤ total sited_count (sited.trees_parts es)
     all_counted None = omega arith
@@ -154,19 +149,18 @@ module _ (marked : Option ℕ → Bool) where
   few_marked alike (q ∷ qs) apart = by (marked q.site) refl (few_marked alike qs apart.1)
     where
       by : (b : Bool) → marked q.site ≡ b → total sited_count qs ≤ 1 → cond b 1 0 + total sited_count qs ≤ 1
-      by true e h = let none = none_marked qs (λ r w f. apart.0 r w (alike q.site r.site e f)) in omega (arith, none)
+      by true e h = omega (arith, none_marked qs (λ r w f. apart.0 r w (alike q.site r.site e f)))
       by false e h = omega (arith, h)
 
   counts : (at : ℕ) (site : Option ℕ) (o : Op) (a b : Tree) → is_comparison o ≡ true → marked site ≡ true → own_count (Node at site (Binary o a b)) ≡ 1
-  counts at site o a b compares is =
-      ap (λ (c : Bool). total sited_count (cond c (part at site ∷ []) [])) compares ∙ ap (λ (c : Bool). cond c 1 0 + 0) is
+  counts at site o a b compares is = ap (λ (c : Bool). total sited_count (cond c (part at site ∷ []) [])) compares ∙ ap (λ (c : Bool). cond c 1 0 + 0) is
 
 -- what is counted is no more than all
 pub counted_among : {X : Type 0} (f : X → ℕ) (xs : List X) (x : X) → Contains xs x → f x ≤ total f xs
 counted_among f [] x w = nothing_in x w
 counted_among f (y ∷ ys) x w = elim (cons_cases y ys x w) [
-  | inl is ↦ let e = ap f is in omega (arith, e)
-  | inr later ↦ let h = counted_among f ys x later in omega (arith, h)
+  | inl is ↦ omega (arith, ap f is)
+  | inr later ↦ omega (arith, counted_among f ys x later)
 ]
 
 -- where one is counted, those that are counted are one
@@ -199,10 +193,9 @@ no_site (Some m) = false
 module _ (n : NodeTree) (numbered : IsNumbered n) where
   pub one_at : (k : ℕ) → total (own_count (is_site k)) (node_parts n) ≤ 1
   one_at k =
-      let few = node_counted (is_site k) n in
       let one = few_marked (is_site k) (one_site k) (sited.node_parts n)
       (apart_told (λ (q : SitedPart). q.site) (sited.node_parts n) (λ i j d lt less same. numbered.apart i j d lt less same)) in
-      omega (arith, few, one)
+      omega (arith, node_counted (is_site k) n, one)
 
   -- comparisons with one site are one
   pub one_tree : (j k : ℕ) (s : ℕ) (o q : Op) (a b c d : Tree) → Contains (node_parts n) (Node j (Some s) (Binary o a b))
@@ -215,8 +208,7 @@ module _ (n : NodeTree) (numbered : IsNumbered n) where
 
   -- so they have one operator
   pub one_operator : (j k : ℕ) (s : ℕ) (o q : Op) (a b c d : Tree) → Contains (node_parts n) (Node j (Some s) (Binary o a b))
-      → Contains (node_parts n) (Node k (Some s) (Binary q c d))
-      → is_comparison o ≡ true → is_comparison q ≡ true → o ≡ q
+      → Contains (node_parts n) (Node k (Some s) (Binary q c d)) → is_comparison o ≡ true → is_comparison q ≡ true → o ≡ q
   one_operator j k s o q a b c d w v is are = let e = one_tree j k s o q a b c d w v is are in cc
 
   -- a comparison has a site

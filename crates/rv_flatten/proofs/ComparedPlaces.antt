@@ -1,38 +1,32 @@
 -- The comparisons of all instances, sorted by places, are those of the program.
-use Rattle.std.proofs.Common.{◌≡◌, ℕ, ◌<◌, true, List, [], ◌∷◌, ◌++◌, map, length, get_or, refl, sym, ◌∙◌, ap, subst, arith, Some}
+use Rattle.std.proofs.Common.{◌≡◌, ℕ, ◌<◌, true, false, not, nat_eq, List, [], ◌∷◌, ◌++◌, map, length, get_or, refl, sym, ◌∙◌, ap, subst, arith, Some}
+use Rattle.std.proofs.lemmas.Bool.Decides.{nat_tests}
 use Rattle.std.specs.List.{Contains}
 use Rattle.rv_tree.specs.{declared.tree.Op.Op, Sites.is_comparison, Tree.Tree, Tree.Node, Tree.Binary, Tree.ProgramTree, Places.Identifier}
-use Rattle.rv_tree.specs.declared.tree.Op.TheVariants as op
 use Rattle.rv_types.specs.Lists.{AreRising, ComparisonAt, Compares, AreComparisons, sides_of}
 use Rattle.rv_types.specs.{Instances.Instance, Instances.no_node, Instances.IsInstance, Variables.node_parts}
 use Rattle.rv_instances.specs.{declared.answer.Instance.Instance as Numbered, AllInstances.numbered, Expanded.IsExpanded, Expanded.no_instance}
 use Rattle.rv_flatten.specs.{declared.comparisons.Tested.Tested, declared.kept.Comparison.Comparison, Kept.found_comparison, NodeReaders.lists_to}
 use Rattle.rv_flatten.specs.{NodeReaders.AreSortedBy, Compared.tests_in, Compared.compared_at, Compared.compared_in}
 use Rattle.rv_flatten.proofs.InstanceNumbers.{in_lists, from_lists, made_of}
-use Rattle.rv_flatten.proofs.ComparedParts.{test_found, found_test, one_operator}
+use Rattle.rv_flatten.proofs.ComparedParts.{test_found, found_test, one_operator, sides_told}
 use Rattle.rv_instances.proofs.FlowPlaces.{snoc_parts}
 use Rattle.rv_instances.proofs.ExpandedLaws.{node_in, instance_at, number_at, path_is, node_is, same as same_instance}
-use Rattle.rv_types.proofs.{Members.in_map, ChainLaws.no_flag}
-use Rattle.rv_base.proofs.Lists.{from_map}
+use Rattle.rv_types.proofs.Members.{in_map}
+use Rattle.rv_base.proofs.{Lists.from_map, Truths.of_not_true}
 
 -- the comparisons are the operators with order tests
 pub has_sides : (o : Op) → is_comparison o ≡ true → 0 < length (sides_of o)
-has_sides op.Equal e = omega arith
-has_sides op.Differs e = omega arith
-has_sides op.Less e = omega arith
-has_sides op.AtMost e = omega arith
-has_sides op.Greater e = omega arith
-has_sides op.AtLeast e = omega arith
-has_sides _ e = no_flag e
+has_sides o e = some (length (sides_of o)) (of_not_true (nat_eq (length (sides_of o)) 0) (sym (sides_told o) ∙ e))
+  where
+    some : (n : ℕ) → nat_eq n 0 ≡ false → 0 < n
+    some n e = grind (arith, nat_tests, e)
 
 of_sides : (o : Op) → 0 < length (sides_of o) → is_comparison o ≡ true
-of_sides op.Equal lt = refl
-of_sides op.Differs lt = refl
-of_sides op.Less lt = refl
-of_sides op.AtMost lt = refl
-of_sides op.Greater lt = refl
-of_sides op.AtLeast lt = refl
-of_sides _ lt = absurd (omega (arith, lt))
+of_sides o lt = sides_told o ∙ ap not (some (length (sides_of o)) lt)
+  where
+    some : (n : ℕ) → 0 < n → nat_eq n 0 ≡ false
+    some n lt = grind (arith, nat_tests, lt)
 
 -- the places of comparisons, as they are found
 found_places : (cs : List Comparison) → map (λ (c : ComparisonAt). c.place) (map found_comparison cs) ≡ map (λ (c : Comparison). c.place.sites) cs
@@ -51,9 +45,7 @@ module _ (p : ProgramTree) (main : Identifier) (instances : List Numbered) (know
   -- comparisons with one place are one
   one_comparison : (c d : ComparisonAt) → IsCompared p main c → IsCompared p main d → c.place ≡ d.place → c ≡ d
   one_comparison c d x y same =
-      let v = x.compares in
-      let w = y.compares in
-      let s = v.1 in
+      let v = x.compares in let w = y.compares in let s = v.1 in
       let r = snoc_parts x.i.path y.i.path s w.1 (sym v.7 ∙ same ∙ w.7) in
       let one = same_instance p main instances known x.i y.i x.is y.is r.0 in
       let there : Contains (node_parts y.i.node) (Node v.0 (Some w.1) (Binary c.operator v.2 v.3)) =
@@ -77,8 +69,7 @@ module _ (p : ProgramTree) (main : Identifier) (instances : List Numbered) (know
   -- what is found of an instance
   test_there : (i : Instance) → IsInstance p main i → (t : Tested) → Contains (tests_in p i.node) t → IsCompared p main (compared_at i.path t)
   test_there i inst t w =
-      let r = found_test p i.node t w in
-      let v = r.2 in
+      let r = found_test p i.node t w in let v = r.2 in
       record {
         i = i;
         e = r.0;
@@ -119,9 +110,7 @@ module _ (p : ProgramTree) (main : Identifier) (instances : List Numbered) (know
       are_comparisons = record {
         rising = subst AreRising (sym (found_places cs)) up.rising;
         all = λ i e c inst w v.
-            let a = all_compared i e c inst w v in
-            let y = up.all a.0 a.1 in
-            let own = only_compared y.0 (up.only y.0 y.1) in
+            let a = all_compared i e c inst w v in let y = up.all a.0 a.1 in let own = only_compared y.0 (up.only y.0 y.1) in
             let other = only_compared a.0 a.1 in
             let one = one_comparison (found_comparison y.0) (found_comparison a.0) own other y.2 in
             subst (λ (c : ComparisonAt). Contains (map found_comparison cs) c) (one ∙ a.2) (in_map found_comparison cs y.0 y.1);

@@ -5,7 +5,7 @@ use Rattle.std.proofs.{lemmas.Int.ints, lemmas.Option.none-some, lemmas.Bool.Dec
 use Rattle.std.specs.Ordering.{int_eq}
 use Rattle.rv_base.specs.declared.value.Value.TheVariants.{Flag, Label, Whole}
 use Rattle.rv_base.specs.{declared.value.Value.Value, Limits.heaviest, Limits.too_heavy}
-use Rattle.rv_tree.specs.Tree.{Tree, Node, Form, True, False, Number, Named, Not, Minus, Pre, Current, When, Binary, If, AtMostOne, Call, Trees, None, More}
+use Rattle.rv_tree.specs.Tree.{Tree, Node, True, False, Number, Named, Not, Minus, Pre, Current, When, Binary, If, AtMostOne, Call, Trees, None, More}
 use Rattle.rv_tree.specs.Tree.{NodeTree, ProgramTree}
 use Rattle.rv_tree.specs.{declared.tree.Op.Op, Places.Identifier, Places.Sites, Places.is_flow}
 use Rattle.rv_tree.specs.declared.tree.Op.TheVariants as op
@@ -17,7 +17,7 @@ use Rattle.rv_types.specs.{declared.typed.Kind.Kind, Scopes.node_scope, Scopes.c
 use Rattle.rv_types.specs.declared.typed.Kind.TheVariants as kind
 use Rattle.rv_types.specs.Constants as constants
 use Rattle.rv_meaning.specs.Meaning.{is_true, number, is_equal, held, operate}
-use Rattle.rv_meaning.specs.{Runs.Instant, Runs.cell, Instants.State, Instants.now, Instants.form_now, Instants.trues_now}
+use Rattle.rv_meaning.specs.{Runs.Instant, Runs.cell, Instants.State, Instants.now, Instants.trues_now}
 use Rattle.rv_instances.specs.Weights.{constant_size, weight, form_weight}
 use Rattle.rv_flatten.proofs.Standing.{Stands, as_child, of_not, of_minus, of_left, of_right, of_condition, of_first, of_second, of_operand}
 use Rattle.rv_flat.proofs.TypedParts.{IsTyped, not_typed, minus_typed, binary_typed, if_typed, most_typed}
@@ -44,9 +44,8 @@ counts_as_itself w z le = by (nat_le w heaviest) refl
     by false e = no_flag (sym e ∙ (let h : nat_le w heaviest ≡ true = grind (arith, nat_tests) in h))
 
 part_itself : (w : ℕ) (v : Value) → w ≤ heaviest → v ≡ counted_part w v
-part_itself w (Flag b) le = refl
-part_itself w (Label l) le = refl
 part_itself w (Whole z) le = counts_as_itself w z le
+part_itself w _ le = refl
 
 same_alike : (a b : Bool) → cond a b (not b) ≡ same_bool a b
 same_alike true b = refl
@@ -89,9 +88,7 @@ operates first scaled op.AtLeast i j k w u v le n t = λ e. Flag (int_le (same_n
 operates first scaled op.Plus i j k w u v le n t = (λ e. Whole (same_number u e +ℤ same_number v e)) ∙ counts_as_itself w (whole_in u +ℤ whole_in v) le
 operates first scaled op.Minus i j k w u v le n t = (λ e. Whole (same_number u e -ℤ same_number v e)) ∙ counts_as_itself w (whole_in u -ℤ whole_in v) le
 operates first scaled op.Times i j k w u v le n t = (λ e. Whole (same_number u e *ℤ same_number v e)) ∙ counts_as_itself w (whole_in u *ℤ whole_in v) le
-operates first scaled op.Slash i j k w u v le n t = absurd (none-some k t)
-operates first scaled op.Div i j k w u v le n t = absurd (none-some k t)
-operates first scaled op.Mod i j k w u v le n t = absurd (none-some k t)
+operates first scaled _ i j k w u v le n t = absurd (none-some k t)
 
 negated : (z : ℤ) → pos 0 -ℤ z ≡ neg_ℤ z
 negated z = omega (arith, ints)
@@ -110,22 +107,7 @@ one_true false n bs none one = (let h : nat_le (0 + n) 1 ≡ nat_le n 1 = grind 
 no_arrow : (o : Op) (a b : Tree) (program : ProgramTree) (n : NodeTree) → is_constant_form (node_scope program n) (Binary o a b) ≡ true
     → (o ≡ op.Arrow → ⊥) × (is_constant (node_scope program n) a ≡ true) × (is_constant (node_scope program n) b ≡ true)
 no_arrow op.Arrow a b program n e = no_flag e
-no_arrow op.Implies a b program n e = let h = both_of _ _ e in (λ q. cc, h.0, h.1)
-no_arrow op.Or a b program n e = let h = both_of _ _ e in (λ q. cc, h.0, h.1)
-no_arrow op.Xor a b program n e = let h = both_of _ _ e in (λ q. cc, h.0, h.1)
-no_arrow op.And a b program n e = let h = both_of _ _ e in (λ q. cc, h.0, h.1)
-no_arrow op.Equal a b program n e = let h = both_of _ _ e in (λ q. cc, h.0, h.1)
-no_arrow op.Differs a b program n e = let h = both_of _ _ e in (λ q. cc, h.0, h.1)
-no_arrow op.Less a b program n e = let h = both_of _ _ e in (λ q. cc, h.0, h.1)
-no_arrow op.AtMost a b program n e = let h = both_of _ _ e in (λ q. cc, h.0, h.1)
-no_arrow op.Greater a b program n e = let h = both_of _ _ e in (λ q. cc, h.0, h.1)
-no_arrow op.AtLeast a b program n e = let h = both_of _ _ e in (λ q. cc, h.0, h.1)
-no_arrow op.Plus a b program n e = let h = both_of _ _ e in (λ q. cc, h.0, h.1)
-no_arrow op.Minus a b program n e = let h = both_of _ _ e in (λ q. cc, h.0, h.1)
-no_arrow op.Times a b program n e = let h = both_of _ _ e in (λ q. cc, h.0, h.1)
-no_arrow op.Slash a b program n e = let h = both_of _ _ e in (λ q. cc, h.0, h.1)
-no_arrow op.Div a b program n e = let h = both_of _ _ e in (λ q. cc, h.0, h.1)
-no_arrow op.Mod a b program n e = let h = both_of _ _ e in (λ q. cc, h.0, h.1)
+no_arrow _ a b program n e = let h = both_of _ _ e in (λ q. cc, h.0, h.1)
 
 module _ (program : ProgramTree) (flows : Sites → ℕ) (i : Instance) where
   abbrev known : Identifier → Value
@@ -136,57 +118,36 @@ module _ (program : ProgramTree) (flows : Sites → ℕ) (i : Instance) where
 
   -- the weight of an operator between constant operands
   operator_weight : (site : Option ℕ) (o : Op) (a b : Tree) → (o ≡ op.Arrow → ⊥) → IsConstant a → weight program flows i a ≡ weight_of known a
-      → weight program flows i b ≡ weight_of known b
-      → form_weight program flows i site (Binary o a b) ≡ constants.form_weight known (Binary o a b)
+      → weight program flows i b ≡ weight_of known b → form_weight program flows i site (Binary o a b) ≡ constants.form_weight known (Binary o a b)
   operator_weight site op.Arrow a b n c p q = absurd (n refl)
   operator_weight site op.Plus a b n c p q = λ e. p e + q e
   operator_weight site op.Minus a b n c p q = λ e. p e + q e
   operator_weight site op.Times a b n c p q = ap (λ t. cond t (constant_size program a * weight program flows i b)
       (constant_size program b * weight program flows i a)) c ∙ ap (λ w. constant_size program a * w) q
-  operator_weight site op.Implies a b n c p q = refl
-  operator_weight site op.Or a b n c p q = refl
-  operator_weight site op.Xor a b n c p q = refl
-  operator_weight site op.And a b n c p q = refl
-  operator_weight site op.Equal a b n c p q = refl
-  operator_weight site op.Differs a b n c p q = refl
-  operator_weight site op.Less a b n c p q = refl
-  operator_weight site op.AtMost a b n c p q = refl
-  operator_weight site op.Greater a b n c p q = refl
-  operator_weight site op.AtLeast a b n c p q = refl
-  operator_weight site op.Slash a b n c p q = refl
-  operator_weight site op.Div a b n c p q = refl
-  operator_weight site op.Mod a b n c p q = refl
+  operator_weight site _ a b n c p q = refl
 
   mutual
     -- a constant expression weighs the same as in a constant's body
     pub weighs : (e : Tree) → IsConstant e → weight program flows i e ≡ weight_of known e
-    weighs (Node at site form) c = form_weighs site form c
-
-    form_weighs : (site : Option ℕ) (form : Form) → is_constant_form (node_scope program i.node) form ≡ true
-        → form_weight program flows i site form ≡ constants.form_weight known form
-    form_weighs site True c = refl
-    form_weighs site False c = refl
-    form_weighs site (Number n) c = refl
-    form_weighs site (Named x) c = ap (λ b. cond b (flows (place i x)) (nat_abs (whole_in (known x)))) (of_not_true (is_flow i.node x) c)
-    form_weighs site (Not e) c = refl
-    form_weighs site (Minus e) c = weighs e c
-    form_weighs site (Pre e) c = no_flag c
-    form_weighs site (Current e) c = no_flag c
-    form_weighs site (When e x) c = no_flag c
-    form_weighs site (Binary o a b) c = let h = no_arrow o a b program i.node c in operator_weight site o a b h.0 h.1 (weighs a h.1) (weighs b h.2)
-    form_weighs site (If a b d) c =
+    weighs (Node at site (Named x)) c = ap (λ b. cond b (flows (place i x)) (nat_abs (whole_in (known x)))) (of_not_true (is_flow i.node x) c)
+    weighs (Node at site (Minus e)) c = weighs e c
+    weighs (Node at site (Pre e)) c = no_flag c
+    weighs (Node at site (Current e)) c = no_flag c
+    weighs (Node at site (When e x)) c = no_flag c
+    weighs (Node at site (Binary o a b)) c = let h = no_arrow o a b program i.node c in operator_weight site o a b h.0 h.1 (weighs a h.1) (weighs b h.2)
+    weighs (Node at site (If a b d)) c =
         let h = both_of (is_constant (node_scope program i.node) a) (is_constant (node_scope program i.node) b && is_constant (node_scope program i.node) d)
         c in
         let g = both_of (is_constant (node_scope program i.node) b) (is_constant (node_scope program i.node) d) h.1 in
         λ e. max (weighs b g.0 e) (weighs d g.1 e)
-    form_weighs site (AtMostOne es) c = refl
-    form_weighs site (Call f es) c = no_flag c
+    weighs (Node at site (Call f es)) c = no_flag c
+    weighs (Node at site _) c = refl
 
   -- where the parts of what stands in the instance are light
   module _ (state : State) (row : Instant) (light : (e : Tree) → Stands i.node e → weight program flows i e ≤ heaviest) where
     -- so it weighs no more than is counted
     counted_weight : (e : Tree) → Stands i.node e → IsConstant e → weight_of known e ≤ heaviest
-    counted_weight e s c = let h = light e s in let w = weighs e c in omega (arith, h, w)
+    counted_weight e s c = omega (arith, light e s, weighs e c)
 
     -- a choice, where either part has the value that it counts as
     chosen : (b c : Bool) (u v x y : Value) → b ≡ c → u ≡ x → v ≡ y → cond b u v ≡ cond c x y
@@ -195,50 +156,40 @@ module _ (program : ProgramTree) (flows : Sites → ℕ) (i : Instance) where
     mutual
       -- a constant expression that stands in the instance has at each instant the value that it counts as
       pub constant_now : (e : Tree) (k : Kind) → Stands i.node e → IsTyped program i.node e k → IsConstant e → now program state row i e ≡ value_of known e
-      constant_now (Node at site form) k s t c = constant_form_now at site form k s t c
-
-      constant_form_now : (at : ℕ) (site : Option ℕ) (form : Form) (k : Kind) → Stands i.node (Node at site form) → IsTyped program i.node (Node at site form) k
-          → IsConstant (Node at site form)
-          → form_now program state row i site form ≡ constants.form_value known form
-      constant_form_now at site True k s t c = refl
-      constant_form_now at site False k s t c = refl
-      constant_form_now at site (Number n) k s t c = counts_as_itself n (pos n) (counted_weight (Node at site (Number n)) s c)
-      constant_form_now at site (Named x) k s t c = ap (λ b. cond b (held (cell row (place i x))) (known x)) (of_not_true (is_flow i.node x) c)
-      constant_form_now at site (Not e) k s t c =
-          let h = constant_now e kind.Bool (as_child at site (Not e) e s of_not) (not_typed program i.node at site e k t).0 c in
+      constant_now (Node at site True) k s t c = refl
+      constant_now (Node at site False) k s t c = refl
+      constant_now (Node at site (Number n)) k s t c = counts_as_itself n (pos n) (counted_weight (Node at site (Number n)) s c)
+      constant_now (Node at site (Named x)) k s t c = ap (λ b. cond b (held (cell row (place i x))) (known x)) (of_not_true (is_flow i.node x) c)
+      constant_now (Node at site (Not e)) k s t c =
+          let h = constant_now e kind.Bool (as_child s of_not) (not_typed program i.node at site e k t).0 c in
           ap (λ v. Flag (not (is_true v))) h ∙ ap (λ b. Flag (not b)) (same_truth (value_of known e))
-      constant_form_now at site (Minus e) k s t c =
-          let h = constant_now e kind.Int (as_child at site (Minus e) e s of_minus) (minus_typed program i.node at site e k t).0 c in
+      constant_now (Node at site (Minus e)) k s t c =
+          let h = constant_now e kind.Int (as_child s of_minus) (minus_typed program i.node at site e k t).0 c in
           ap (λ v. Whole (pos 0 -ℤ number v)) h ∙ ap (λ z. Whole (pos 0 -ℤ z)) (same_number (value_of known e))
           ∙ ap Whole (negated (whole_in (value_of known e)))
           ∙ counts_as_itself (weight_of known e) (neg_ℤ (whole_in (value_of known e))) (counted_weight (Node at site (Minus e)) s c)
-      constant_form_now at site (Pre e) k s t c = no_flag c
-      constant_form_now at site (Current e) k s t c = no_flag c
-      constant_form_now at site (When e x) k s t c = no_flag c
-      constant_form_now at site (Binary o a b) k s t c =
-          let h = no_arrow o a b program i.node c in
-          let r = binary_typed program i.node at site o a b k t in
-          let p = constant_now a r.left (as_child at site (Binary o a b) a s of_left) r.left_is h.1 in
-          let q = constant_now b r.right (as_child at site (Binary o a b) b s of_right) r.right_is h.2 in
+      constant_now (Node at site (Binary o a b)) k s t c =
+          let h = no_arrow o a b program i.node c in let r = binary_typed program i.node at site o a b k t in
+          let p = constant_now a r.left (as_child s of_left) r.left_is h.1 in
+          let q = constant_now b r.right (as_child s of_right) r.right_is h.2 in
           (λ e. operate o (not (state.ticked (clock_in i Base (Node 0 site (Binary o a b))))) (p e) (q e))
           ∙ operates (not (state.ticked (clock_in i Base (Node 0 site (Binary o a b)))))
           (is_constant (node_scope program i.node) a || is_constant (node_scope program i.node) b) o r.left r.right k
           (weight_of known (Node at site (Binary o a b))) (value_of known a) (value_of known b) (counted_weight (Node at site (Binary o a b)) s c) h.0 r.rule
-      constant_form_now at site (If a b d) k s t c =
+      constant_now (Node at site (If a b d)) k s t c =
           let h = both_of (is_constant (node_scope program i.node) a) (is_constant (node_scope program i.node) b && is_constant (node_scope program i.node) d)
           c in
           let g = both_of (is_constant (node_scope program i.node) b) (is_constant (node_scope program i.node) d) h.1 in
           let r = if_typed program i.node at site a b d k t in
-          let p = constant_now a kind.Bool (as_child at site (If a b d) a s of_condition) r.0 h.0 in
+          let p = constant_now a kind.Bool (as_child s of_condition) r.0 h.0 in
           chosen (is_true (now program state row i a)) (flag_in (value_of known a)) (now program state row i b) (now program state row i d) (value_of known b)
-          (value_of known d)
-          (ap is_true p ∙ same_truth (value_of known a))
-          (constant_now b k (as_child at site (If a b d) b s of_first) r.1 g.0) (constant_now d k (as_child at site (If a b d) d s of_second) r.2 g.1)
+          (value_of known d) (ap is_true p ∙ same_truth (value_of known a))
+          (constant_now b k (as_child s of_first) r.1 g.0) (constant_now d k (as_child s of_second) r.2 g.1)
           ∙ part_itself (weight_of known (Node at site (If a b d))) (cond (flag_in (value_of known a)) (value_of known b) (value_of known d))
           (counted_weight (Node at site (If a b d)) s c)
-      constant_form_now at site (AtMostOne es) k s t c =
-          ap Flag (constants_now es (λ j e arg. as_child at site (AtMostOne es) e s (of_operand j arg)) (most_typed program i.node at site es k t).0 c).1
-      constant_form_now at site (Call f es) k s t c = no_flag c
+      constant_now (Node at site (AtMostOne es)) k s t c =
+          ap Flag (constants_now es (λ j e arg. as_child s (of_operand j arg)) (most_typed program i.node at site es k t).0 c).1
+      constant_now (Node at site _) k s t c = no_flag c
 
       -- so have the operands of a `#`
       constants_now : (es : Trees) → ((j : ℕ) (e : Tree) → IsArgument es j e → Stands i.node e)

@@ -1,10 +1,10 @@
 -- The numbers of a sorted list, each once.
-use Rattle.std.proofs.Common.{◌≡◌, ◌⊎◌, inl, inr, ℕ, zero, suc, ◌+◌, ◌-◌, ◌<◌, ◌≤◌, ℤ, pos, ◌<ℤ◌, ◌≤ℤ◌, Bool, true, false, cond, List, [], ◌∷◌, ◌++◌, length}
+use Rattle.std.proofs.Common.{◌≡◌, ◌⊎◌, inl, inr, ℕ, zero, suc, ◌+◌, ◌-◌, ◌<◌, ℤ, pos, ◌<ℤ◌, ◌≤ℤ◌, Bool, true, false, cond, List, [], ◌∷◌, ◌++◌, length}
 use Rattle.std.proofs.Common.{get_or, take, slice_get, nat_eq, SFits, to_z, of_z, refl, sym, ◌∙◌, ap, subst, arith, Some}
 use Rattle.std.proofs.lemmas.List.{take_more, length_push, get_or_push, get_or_append_left, get_or_default}
-use Rattle.std.proofs.{lemmas.Bool.cases_order, lemmas.Bool.eqb-true, lemmas.Bool.eq-eqb, lemmas.Int.ints, lemmas.Int.by_lt_z, lemmas.Int.to_z-of_z}
-use Rattle.std.proofs.{lemmas.List.Elements.Contains-append_left, lemmas.List.Elements.Contains-push, lemmas.List.Elements.Contains-push_cases}
-use Rattle.std.proofs.{lemmas.Option.none-some, lemmas.Option.same_Some}
+use Rattle.std.proofs.{lemmas.Bool.cases_eq, lemmas.Bool.cases_order, lemmas.Bool.eqb-true, lemmas.Bool.eq-eqb, lemmas.Int.ints, lemmas.Int.by_lt_z}
+use Rattle.std.proofs.{lemmas.Int.to_z-of_z, lemmas.List.Elements.Contains-append_left, lemmas.List.Elements.Contains-push}
+use Rattle.std.proofs.{lemmas.List.Elements.Contains-push_cases, lemmas.Option.none-some, lemmas.Option.same_Some}
 use Rattle.std.specs.{Int.w128, List.Contains, List.Sorted.IsSorted, Ordering.int_cmp, Ordering.int_eq, Ordering.is_lt}
 use Rattle.rv_flatten.specs.Literals.{is_last, with_new, IsDistinctOf}
 use Rattle.rv_types.proofs.ChainLaws.{no_flag}
@@ -64,12 +64,9 @@ pub record IsDistinctSoFar (xs : List ℤ) (i : ℕ) (ys : List ℤ) : Type 0 wh
 
 below_last : (ys : List ℤ) → ((j k : ℕ) → j < k → k < length ys → get_or ys j (pos 0) <ℤ get_or ys k (pos 0)) → (j : ℕ) → j < length ys
     → get_or ys j (pos 0) ≤ℤ last_of ys
-below_last ys rising j lt = elim (cases_order j (length ys - 1)) [
+below_last ys rising j lt = elim (cases_eq j (length ys - 1)) [
   | inl same ↦ subst (λ k. get_or ys j (pos 0) ≤ℤ get_or ys k (pos 0)) same (omega (arith, ints))
-  | inr other ↦ elim other [
-    | inl less ↦ let h = rising j (length ys - 1) less (omega (arith, lt)) in omega (arith, ints, h)
-    | inr more ↦ absurd (omega (arith, lt, more))
-  ]
+  | inr other ↦ omega (arith, ints, rising j (length ys - 1) (omega (arith, lt, other)) (omega (arith, lt)))
 ]
 
 pub one_more_distinct : (xs ys : List ℤ) (i : ℕ) (z : ℤ) → IsSorted int_cmp xs → i < length xs → z ≡ get_or xs i (pos 0) → IsDistinctSoFar xs i ys
@@ -103,7 +100,7 @@ one_more_distinct xs ys i z sorted lt is so_far = by (is_last ys z) refl
         all = λ y w. elim (Contains-push_cases (take i xs) z y (subst (λ l. Contains l y) longer w)) [
           | inl before ↦ so_far.distinct.all y before
           | inr same ↦ let t = last_told ys z e in
-              (length ys - 1, omega (arith, t.0), get_or_default ys (length ys - 1) y (pos 0) (let some = t.0 in omega (arith, some)) ∙ t.1 ∙ same)
+              (length ys - 1, omega (arith, t.0), get_or_default ys (length ys - 1) y (pos 0) (omega (arith, t.0)) ∙ t.1 ∙ same)
         ];
         only = λ y w. subst (λ l. Contains l y) (sym longer) (Contains-append_left (take i xs) (z ∷ []) y (so_far.distinct.only y w));
       };
@@ -146,4 +143,4 @@ one_more_distinct xs ys i z sorted lt is so_far = by (is_last ys z) refl
         pushed j k less within (inr (inl before)) =
             subst (λ y. y <ℤ get_or (ys ++ z ∷ []) k (pos 0)) (sym (get_or_append_left ys (z ∷ []) (pos 0) j (omega (arith, less, before))))
             (subst (λ y. get_or ys j (pos 0) <ℤ y) (sym (get_or_append_left ys (z ∷ []) (pos 0) k before)) (so_far.distinct.rising j k less before))
-        pushed j k less within (inr (inr after)) = absurd (let long = length_push ys z in omega (arith, within, after, long))
+        pushed j k less within (inr (inr after)) = absurd (omega (arith, within, after, length_push ys z))

@@ -6,10 +6,7 @@ use Rattle.rv_types.specs.Kinds.{decl_kinds, kind_in_program}
 
 pub few_inputs : (p : ProgramTree) → IsBounded p → (n : NodeTree) → Contains p.nodes n → length (decl_kinds p n.inputs) ≤ most
 few_inputs p bounded n w =
-    let few = bounded.node_flows n w in
-    let size = length-map n.inputs (λ (d : Decl). kind_in_program p d.kind) in
-    let names_size = length-map n.inputs (λ (d : Decl). d.name.text) in
-    let a = length-append (names n.inputs) (names n.outputs ++ names n.locals) in
-    let b = length-append (names n.inputs ++ names n.outputs) (names n.locals) in
-    let c = length-append (names n.inputs) (names n.outputs) in
-    omega (arith, few, size, names_size, a, b, c)
+    let kinds = length-map n.inputs (λ (d : Decl). kind_in_program p d.kind) in let own = length-map n.inputs (λ (d : Decl). d.name.text) in
+    let first = length-append (names n.inputs) (names n.outputs ++ names n.locals) in
+    let last = length-append (names n.inputs ++ names n.outputs) (names n.locals) in
+    omega (arith, bounded.node_flows n w, kinds, own, first, last, length-append (names n.inputs) (names n.outputs))

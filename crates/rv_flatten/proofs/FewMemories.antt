@@ -4,8 +4,8 @@ use Rattle.std.proofs.lemmas.List.{get_or_default, length-map}
 use Rattle.std.proofs.lemmas.Map.Made.{length-le_from_is_member, is_member-Decides, IsDistinct-from_AllPairs}
 use Rattle.std.proofs.{lemmas.Bool.Decides.Decides-eqb, lemmas.Cmp.nat_list_eq_equiv, lemmas.Slice.Eq.slice_eq-Decides}
 use Rattle.std.specs.{Bool.Decides, List.AllPairs, List.Contains}
-use Rattle.rv_tree.specs.Tree.{Tree, Node, Form, True, False, Number, Named, Not, Minus, Pre, Current, When, Binary, If, AtMostOne, Call, Trees, None, More}
-use Rattle.rv_tree.specs.Tree.{EquationTree, AssertionTree, NodeTree, ProgramTree}
+use Rattle.rv_tree.specs.Tree.{Tree, Node, Form, Not, Minus, Pre, Current, When, Binary, If, AtMostOne, Call, Trees, None, More, EquationTree, AssertionTree}
+use Rattle.rv_tree.specs.Tree.{NodeTree, ProgramTree}
 use Rattle.rv_tree.specs.Places.{Identifier, Sites, is_same}
 use Rattle.rv_tree.specs.Delays.{delays, form_delays, delays_of_all, delays_in_equations, delays_in_assertions, node_delays}
 use Rattle.rv_types.specs.Lists.{AreRising, AreMemories, IsAny, MemoryAt, memory_places, delay_place}
@@ -34,10 +34,6 @@ mutual
   delays_few (Node at site form) = form_few site form
 
   form_few : (site : Option ℕ) (form : Form) → length (form_delays site form) ≤ 1 + form_size form
-  form_few site True = omega arith
-  form_few site False = omega arith
-  form_few site (Number n) = omega arith
-  form_few site (Named x) = omega arith
   form_few site (Not e) = omega (arith, delays_few e)
   form_few site (Minus e) = omega (arith, delays_few e)
   form_few site (Pre e) = omega (arith, delays_few e)
@@ -48,6 +44,7 @@ mutual
       omega (arith, delays_few a, delays_few b, delays_few c, length-append (delays a) (delays b ++ delays c), length-append (delays b) (delays c))
   form_few site (AtMostOne es) = omega (arith, all_few es)
   form_few site (Call f es) = omega (arith, all_few es)
+  form_few site _ = omega arith
 
   all_few : (es : Trees) → length (delays_of_all es) ≤ size_of_all es
   all_few None = omega arith
@@ -77,14 +74,11 @@ places_few (i ∷ is) =
     omega (arith, node_few i.node, length-map (node_delays i.node) (delay_place i), places_few is, length-append own (flat_map places_in is))
 
 pub few_memories : (p : ProgramTree) (main : Identifier) (ms : List MemoryAt) → ((i : Instance) → IsInstance p main i → Contains (all_instances p main) i)
-    → AreMemories p main IsAny ms
-    → expanded p main ≤ 200000 → length ms ≤ 200000
+    → AreMemories p main IsAny ms → expanded p main ≤ 200000 → length ms ≤ 200000
 unfolding places_in
 few_memories p main ms counted are within =
     let few = no_more (memory_places ms) (flat_map places_in (all_instances p main)) are.rising (λ q w. there q w) in
-    let all = places_few (all_instances p main) in
-    let long = length-map ms (λ (m : MemoryAt). m.place) in
-    omega (arith, few, all, long, within)
+    omega (arith, few, places_few (all_instances p main), length-map ms (λ (m : MemoryAt). m.place), within)
   where
     there : (q : Sites) → Contains (memory_places ms) q → Contains (flat_map places_in (all_instances p main)) q
     there q w =

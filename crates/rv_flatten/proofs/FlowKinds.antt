@@ -1,19 +1,16 @@
 -- The flows that clocks, names and calls of an instance stand for, with their types.
-use Rattle.std.proofs.Common.{◌≡◌, ℕ, zero, suc, ◌+◌, ◌<◌, List, [], ◌∷◌, ◌++◌, map, length, get_or, slice_get, sym, ◌∙◌, ap, subst, arith, append_assoc}
-use Rattle.std.proofs.Common.{unwrap_or, length-append, Option, Some, None as Nothing}
-use Rattle.std.proofs.lemmas.List.{length-map, map-append, get_or_default}
-use Rattle.std.proofs.lemmas.Option.{none-some, same_Some, slice_get_within}
+use Rattle.std.proofs.Common.{◌≡◌, ℕ, ◌+◌, [], ◌∷◌, ◌++◌, length, slice_get, sym, ap, subst, append_assoc, unwrap_or, Option, Some, None as Nothing}
+use Rattle.std.proofs.lemmas.Option.{none-some, same_Some}
 use Rattle.std.specs.{Option.option_map, List.Contains}
-use Rattle.rv_tree.specs.{declared.tree.Decl.Decl, Tree.NodeTree, Tree.ProgramTree, Places.Identifier, Places.Sites, Places.flows, Places.site_of}
-use Rattle.rv_types.specs.Kinds.{kind_in_program, decl_kinds, flow_kinds, flow_kind, node_named}
+use Rattle.rv_tree.specs.{Tree.NodeTree, Tree.ProgramTree, Places.Identifier, Places.Sites, Places.flows}
+use Rattle.rv_types.specs.Kinds.{decl_kinds, flow_kinds, flow_kind, node_named}
 use Rattle.rv_types.specs.Instances.{CallTree, calls, Instance, place, absolute, clock_of_args, callee, main_instance, node_of, output_place, IsInstance}
 use Rattle.rv_types.specs.Instances.{is_main, is_callee, IsFlow, IsNode, no_node}
 use Rattle.rv_types.specs.{declared.typed.Kind.Kind, declared.typed.Clock.Clock, declared.typed.Clock.TheVariants.Base, declared.typed.Clock.TheVariants.On}
 use Rattle.rv_types.specs.{Types.Signature, Scopes.signature_of, Scopes.signature_named, WellFormed.AreWell}
 use Rattle.rv_types.specs.declared.typed.Kind.TheVariants as kind
-use Rattle.rv_flat.proofs.PlaceNumbers.{its_number}
 use Rattle.rv_flatten.proofs.ClockKinds.{IsTrueClock, clock_taken, paces_are_true}
-use Rattle.rv_meaning.proofs.Acceptable.{formed, typed}
+use Rattle.rv_meaning.proofs.{Acceptable.typed, FlowSites.flow_at, FlowSites.input_kind, FlowSites.output_kind}
 
 -- a flow of a type stands at the place
 pub record HasFlow (program : ProgramTree) (main : Identifier) (q : Sites) (k : Kind) : Type 0 where
@@ -27,39 +24,6 @@ pub record HasFlow (program : ProgramTree) (main : Identifier) (q : Sites) (k : 
 -- so it is a flow
 pub is_flow : {program : ProgramTree} {main : Identifier} {q : Sites} {k : Kind} → HasFlow program main q k → IsFlow program main q
 is_flow h = (h.instance, h.name, h.of, h.within, h.at)
-
--- an element of the first part, and of the second
-front : {X : Type 0} (xs ys : List X) (j : ℕ) (x : X) → slice_get xs j ≡ Some x → slice_get (xs ++ ys) j ≡ Some x
-front [] ys j x e = absurd (none-some x e)
-front (z ∷ xs) ys zero x e = e
-front (z ∷ xs) ys (suc j) x e = front xs ys j x e
-
-back : {X : Type 0} (xs ys : List X) (j : ℕ) → slice_get (xs ++ ys) (length xs + j) ≡ slice_get ys j
-back [] ys j = let none : 0 + j ≡ j = omega arith in ap (slice_get ys) none
-back (z ∷ xs) ys j = let next : suc (length xs) + j ≡ suc (length xs + j) = omega arith in ap (slice_get (z ∷ xs ++ ys)) next ∙ back xs ys j
-
-module _ (program : ProgramTree) (n : NodeTree) where
-  -- as many types as flows
-  pub kinds_many : length (flow_kinds program n) ≡ length (flows n)
-  kinds_many = simp (length-append, length-map)
-
-  -- the type of an output
-  output_kind : (j : ℕ) (k : Kind) → slice_get (decl_kinds program n.outputs) j ≡ Some k → slice_get (flow_kinds program n) (length n.inputs + j) ≡ Some k
-  output_kind j k e =
-      let f : Decl → Kind = λ d. kind_in_program program d.kind in
-      ap (λ l. slice_get l (length n.inputs + j)) (map-append f (n.inputs ++ n.outputs) n.locals)
-      ∙ front (map f (n.inputs ++ n.outputs)) (map f n.locals) (length n.inputs + j) k
-      (ap (λ l. slice_get l (length n.inputs + j)) (map-append f n.inputs n.outputs)
-      ∙ ap (λ m. slice_get (map f n.inputs ++ map f n.outputs) (m + j)) (sym (length-map n.inputs f))
-      ∙ back (map f n.inputs) (map f n.outputs) j ∙ e)
-
-  -- and of an input
-  input_kind : (j : ℕ) (k : Kind) → slice_get (decl_kinds program n.inputs) j ≡ Some k → slice_get (flow_kinds program n) j ≡ Some k
-  input_kind j k e =
-      let f : Decl → Kind = λ d. kind_in_program program d.kind in
-      ap (λ l. slice_get l j) (map-append f (n.inputs ++ n.outputs) n.locals)
-      ∙ front (map f (n.inputs ++ n.outputs)) (map f n.locals) j k
-      (ap (λ l. slice_get l j) (map-append f n.inputs n.outputs) ∙ front (map f n.inputs) (map f n.outputs) j k e)
 
 -- the node of a name whose signature is known
 known_node : (program : ProgramTree) (o : Option NodeTree) (g : Signature) → option_map (signature_of program) o ≡ Some g
@@ -76,18 +40,8 @@ module _ (program : ProgramTree) (main : Identifier) (well : AreWell program) (n
   pub flow_of_site : (i : Instance) (s : ℕ) (k : Kind) → IsInstance program main i → slice_get (flow_kinds program i.node) s ≡ Some k
       → HasFlow program main (i.path ++ s ∷ []) k
   flow_of_site i s k of e =
-      let lt : s < length (flows i.node) = let less = slice_get_within (flow_kinds program i.node) s k e in let many = kinds_many program i.node in
-      omega (arith, less, many) in
-      let x : Identifier = get_or (flows i.node) s [] in
-      let own : site_of i.node x ≡ s = its_number (flows i.node) (formed program main well named i of).once s lt in
-      record {
-        instance = i;
-        name = x;
-        of = of;
-        within = (s, lt, get_or_default (flows i.node) s x [] lt);
-        at = ap (λ m. i.path ++ m ∷ []) (sym own);
-        kind = ap (slice_get (flow_kinds program i.node)) own ∙ e;
-      }
+      let f = flow_at program main well named i of s k e in
+      record { instance = i; name = f.name; of = of; within = f.within; at = ap (λ m. i.path ++ m ∷ []) (sym f.site); kind = f.kind }
 
   -- the flow of a clock, where that of the base clock is known
   clock_by : (i : Instance) → IsInstance program main i → ((q : Sites) → i.base ≡ Some q → HasFlow program main q kind.Bool) → (c : Clock) (q : Sites)
@@ -110,8 +64,7 @@ module _ (program : ProgramTree) (main : Identifier) (well : AreWell program) (n
 
   -- an output of a call
   pub output_flow : (i : Instance) (c : CallTree) (j : ℕ) (k : Kind) → IsInstance program main i → Contains (calls i.node) c
-      → slice_get (decl_kinds program (node_of program c.name).outputs) j ≡ Some k
-      → HasFlow program main (output_place program i c.site c.name j) k
+      → slice_get (decl_kinds program (node_of program c.name).outputs) j ≡ Some k → HasFlow program main (output_place program i c.site c.name j) k
   output_flow i c j k of called e =
       subst (λ p. HasFlow program main p k) (append_assoc i.path (c.site ∷ []) ((length (node_of program c.name).inputs + j) ∷ []))
       (flow_of_site (callee program i c) (length (node_of program c.name).inputs + j) k (is_callee c of called)
@@ -119,8 +72,7 @@ module _ (program : ProgramTree) (main : Identifier) (well : AreWell program) (n
 
   -- an input of what is called, and of main
   pub input_flow : (i : Instance) (c : CallTree) (j : ℕ) (k : Kind) → IsInstance program main i → Contains (calls i.node) c
-      → slice_get (decl_kinds program (node_of program c.name).inputs) j ≡ Some k
-      → HasFlow program main (i.path ++ c.site ∷ j ∷ []) k
+      → slice_get (decl_kinds program (node_of program c.name).inputs) j ≡ Some k → HasFlow program main (i.path ++ c.site ∷ j ∷ []) k
   input_flow i c j k of called e =
       subst (λ p. HasFlow program main p k) (append_assoc i.path (c.site ∷ []) (j ∷ []))
       (flow_of_site (callee program i c) j k (is_callee c of called) (input_kind program (node_of program c.name) j k e))

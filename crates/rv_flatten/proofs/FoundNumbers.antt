@@ -16,11 +16,9 @@ pub ticks_numbered : (places : List Sites) (count : ℕ) (ts taken made : List �
     → (k : ℕ) → k < length places → Contains (map (place_at places) ts) (place_at places k)
     → slice_index_or made k 0 ≡ index_of (map (place_at places) ts) (place_at places k) + 1
 ticks_numbered places count ts taken made same told many rising up within k lt w =
-    subst (λ (l : List ℕ). slice_index_or made k 0 ≡ index_of (map (place_at places) l) (place_at places k) + 1) same
-    (told places (sym many) rising
+    subst (λ (l : List ℕ). slice_index_or made k 0 ≡ index_of (map (place_at places) l) (place_at places k) + 1) same (told places (sym many) rising
     (subst (λ (l : List ℕ). AreRising (map (place_at places) l)) (sym same) up)
-    (λ j v. subst (λ (n : ℕ). j < n) (sym many) (within j (subst (λ (l : List ℕ). Contains l j) same v)))
-    k (subst (λ (n : ℕ). k < n) (sym many) lt)
+    (λ j v. subst (λ (n : ℕ). j < n) (sym many) (within j (subst (λ (l : List ℕ). Contains l j) same v))) k (subst (λ (n : ℕ). k < n) (sym many) lt)
     (subst (λ (l : List ℕ). Contains (map (place_at places) l) (place_at places k)) (sym same) w))
 
 pub memories_numbered : (p : ProgramTree) (main : Identifier) (instances : List Numbered) (ks taken : List Kept) (table : List ((ℕ × ℕ) × ℕ)) → taken ≡ ks

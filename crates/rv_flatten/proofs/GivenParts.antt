@@ -9,6 +9,5 @@ use Rattle.rv_types.proofs.Members.{index_there}
 pub main_name : (p : ProgramTree) (main : Identifier) (t : Typed) → IsSettled p main t → name_at p t.main ≡ main
 main_name p main t s =
     ap (λ (x : Name). x.text) (sym (made_of (λ (n : NodeTree). n.name) p.nodes t.main no_node))
-    ∙ sym (made_of (λ (x : Name). x.text) (node_names p) t.main no_node.name)
-    ∙ ap (λ k. get_or (texts (node_names p)) k []) s.main_number
+    ∙ sym (made_of (λ (x : Name). x.text) (node_names p) t.main no_node.name) ∙ ap (λ k. get_or (texts (node_names p)) k []) s.main_number
     ∙ (index_there (texts (node_names p)) main s.has_main).1

@@ -1,20 +1,22 @@
 -- The item of a flow of an instance is on the clock of the flow.
 use Rattle.std.proofs.Common.{◌≡◌, ℕ, zero, suc, ◌+◌, ◌<◌, List, [], ◌∷◌, ◌++◌, map, length, get_or, slice_get, refl, sym, ◌∙◌, ap, subst, arith, append_assoc}
 use Rattle.std.proofs.Common.{length-append, Some}
-use Rattle.std.proofs.{lemmas.List.length-map, lemmas.List.get_or_default, lemmas.List.get_or_append_left, lemmas.Option.slice_get_within}
-use Rattle.std.specs.List.{Contains}
+use Rattle.std.proofs.{lemmas.List.length-map, lemmas.List.get_or_default, lemmas.List.get_or_append_left, lemmas.List.Elements.All-contains}
+use Rattle.std.proofs.lemmas.Option.{slice_get_within}
+use Rattle.std.specs.List.{All, Contains}
 use Rattle.rv_tree.specs.Places.{Identifier, Sites, flows as flows_of, names, site_of, index_of}
 use Rattle.rv_tree.specs.{declared.tree.Decl.Decl, Tree.NodeTree, Tree.ProgramTree}
 use Rattle.rv_types.specs.Clocks.{base_clock, declared_clock, clock_at, pace}
 use Rattle.rv_types.specs.Instances.{CallTree, calls, Body, Output, Instance, absolute, clock_of, clock_of_arguments, callee, main_instance, node_of}
 use Rattle.rv_types.specs.Instances.{output_place, IsInstance, is_main, is_callee, IsFlow, IsNode}
-use Rattle.rv_types.specs.Needs.{Giver, Gives, given, by_equation, by_call}
+use Rattle.rv_types.specs.Needs.{Giver, Gives, given, by_equation, by_call, IsAmongFirst}
 use Rattle.rv_types.specs.{declared.typed.Kind.Kind, declared.typed.Clock.TheVariants.Base, Kinds.kind_in_program, Kinds.decl_kinds, WellFormed.AreWell}
 use Rattle.rv_agreement.specs.Trees.{System, nth_item}
 use Rattle.rv_agreement.specs.Translation.{Numbers, clock_number, giver_item, IsTranslated, IsClockOf}
 use Rattle.rv_flat.proofs.PlaceNumbers.{its_number}
 use Rattle.rv_instances.proofs.FlowPlaces.{snoc_parts}
-use Rattle.rv_meaning.proofs.{Acceptable.suits_taken, Acceptable.formed, Defined.same_instance}
+use Rattle.rv_types.proofs.Suiting.{suits_taken}
+use Rattle.rv_meaning.proofs.{Acceptable.formed, Defined.same_instance}
 use Rattle.rv_types.proofs.Members.{among_from, index_there}
 
 -- inputs and outputs are on the base clock
@@ -28,22 +30,16 @@ all_base (d ∷ ds) es (suc m) = all_base ds es m
 pub base_at : (n : NodeTree) (m : ℕ) → m < length n.inputs + length n.outputs → clock_at n m ≡ Base
 base_at n m lt =
     let long = length-append (map base_clock n.inputs) (map base_clock n.outputs) in
-    let a = length-map n.inputs base_clock in
-    let b = length-map n.outputs base_clock in
+    let a = length-map n.inputs base_clock in let b = length-map n.outputs base_clock in
     get_or_append_left (map base_clock n.inputs ++ map base_clock n.outputs) (map (λ (d : Decl). declared_clock n d.clock) n.locals) Base m
-    (omega (arith, lt, long, a, b))
-    ∙ all_base n.inputs n.outputs m
+    (omega (arith, lt, long, a, b)) ∙ all_base n.inputs n.outputs m
 
 -- they are flows
 pub given_site : (n : NodeTree) (m : ℕ) → m < length n.inputs + length n.outputs → m < length (flows_of n)
 given_site n m lt =
     let f : Decl → Identifier = λ d. d.name.text in
-    let a = length-map n.inputs f in
-    let b = length-map n.outputs f in
-    let c = length-map n.locals f in
-    let u = length-append (names n.inputs) (names n.outputs) in
-    let v = length-append (names n.inputs ++ names n.outputs) (names n.locals) in
-    omega (arith, lt, a, b, c, u, v)
+    let both = length-append (names n.inputs) (names n.outputs) in let all = length-append (names n.inputs ++ names n.outputs) (names n.locals) in
+    omega (arith, lt, length-map n.inputs f, length-map n.outputs f, length-map n.locals f, both, all)
 
 module _ (program : ProgramTree) (main : Identifier) (well : AreWell program) (named : IsNode program main) where
   -- a flow of an instance by its site
@@ -66,8 +62,7 @@ module _ (program : ProgramTree) (main : Identifier) (well : AreWell program) (n
         let r = snoc_parts a.path i.path (site_of a.node x) m (at ∙ is) in
         let one = same_instance program main well named a i inst of r.0 in
         ap (λ c. clock_number numbers (absolute a c)) (suits_taken (clock_of a.node x) (pace a.node e)
-        ((formed program main well named a inst).body_clock x e right))
-        ∙ (λ t. clock_number numbers (absolute (one t) (clock_at (one t).node (r.1 t))))
+        ((formed program main well named a inst).body_clock x e right)) ∙ (λ t. clock_number numbers (absolute (one t) (clock_at (one t).node (r.1 t))))
     giver_clock q _ i m (by_equation a x (Output c j) inst right at) of is =
         let r = snoc_parts a.path i.path (site_of a.node x) m (at ∙ is) in
         let one = same_instance program main well named a i inst of r.0 in
@@ -90,15 +85,25 @@ module _ (program : ProgramTree) (main : Identifier) (well : AreWell program) (n
       number_at q is = index_there numbers.flows q (among_from numbers.flows q (read.sequence.flows q is))
 
       pub number_within : (q : Sites) → IsFlow program main q → number q < length s.flows
-      number_within q is = let at = (number_at q is).0 in omega (arith, at, read.many)
+      number_within q is = omega (arith, (number_at q is).0, read.many)
+
+      -- the number of a place of the sequence
+      pub place_number : (k : ℕ) → k < length numbers.flows → number (get_or numbers.flows k []) ≡ k
+      place_number k lt = its_number numbers.flows read.sequence.once k lt
+
+      -- what stands among the first has an earlier number
+      pub among_first : (k : ℕ) (qs : List Sites) → k < length numbers.flows → All (IsAmongFirst program main numbers.flows k) qs → (q : Sites)
+          → Contains qs q → IsFlow program main q → number q < k
+      among_first k qs lt all q w is =
+          let r = All-contains (IsAmongFirst program main numbers.flows k) qs q all w in
+          omega (arith, r.1, ap number (sym r.2) ∙ place_number r.0 (omega (arith, r.1, lt)))
 
       -- A flow by its site is on its clock.
       pub item_clock : (i : Instance) (m : ℕ) → IsInstance program main i → m < length (flows_of i.node)
           → (nth_item s.flows (number (i.path ++ m ∷ []))).clock ≡ clock_number numbers (absolute i (clock_at i.node m))
       item_clock i m of lt =
           let q : Sites = i.path ++ m ∷ [] in
-          let is = flow_there i m of lt in
-          let r = read.flow (number q) (number_within q is) in
+          let is = flow_there i m of lt in let r = read.flow (number q) (number_within q is) in
           ap (λ x. x.clock) r.2 ∙ giver_clock q r.0 i m (subst (λ p. Gives program main p r.0) (number_at q is).1 r.1) of refl
 
       -- The same by its name.

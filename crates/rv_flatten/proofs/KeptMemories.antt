@@ -23,10 +23,8 @@ module _ (p : ProgramTree) (main : Identifier) (instances : List Numbered) (know
   one_memory : (i j : Instance) (d e : Delay) → IsInstance p main i → IsInstance p main j → Contains (node_delays i.node) d → Contains (node_delays j.node) e
       → delay_place i d ≡ delay_place j e → memory_at p i d ≡ memory_at p j e
   one_memory i j d e a b w v same =
-      let kind =
-      one_of_place p main known.well (is_node p main instances known) Kind (λ i d. operand_kind p i.node d.operand)
-      (λ i x. operand_kind p i.node (Node 0 Nothing (Named x))) (λ i d x is. ap (operand_kind p i.node) is.2)
-      i j d e a b w v same in
+      let kind = one_of_place p main known.well (is_node p main instances known) Kind (λ i d. operand_kind p i.node d.operand)
+      (λ i x. operand_kind p i.node (Node 0 Nothing (Named x))) (λ i d x is. ap (operand_kind p i.node) is.2) i j d e a b w v same in
       λ k. record { place = same k; kind = kind k }
 
   -- what an instance reads
@@ -49,8 +47,7 @@ module _ (p : ProgramTree) (main : Identifier) (instances : List Numbered) (know
         let here = subst (λ (l : List KeptAt). Contains l (kept_seen k)) (own_is a.0 b.0 b.1 b.2) a.2 in
         let r = from_map (kept_at b.0.path a.0) (reads_in p b.0.node) (kept_seen k) here in
         let d = from_map (read_by b.0.node (node_scope p b.0.node)) (node_delays b.0.node) r.0 r.1 in
-        let seen : kept_seen k ≡ kept_at b.0.path a.0 (read_by b.0.node (node_scope p b.0.node) d.0) =
-        sym (ap (kept_at b.0.path a.0) d.2 ∙ r.2) in (
+        let seen : kept_seen k ≡ kept_at b.0.path a.0 (read_by b.0.node (node_scope p b.0.node) d.0) = sym (ap (kept_at b.0.path a.0) d.2 ∙ r.2) in (
           record {
             i = b.0;
             d = d.0;
@@ -67,9 +64,7 @@ module _ (p : ProgramTree) (main : Identifier) (instances : List Numbered) (know
     all_seen : (i : Instance) (d : Delay) → IsInstance p main i → Contains (node_delays i.node) d
         → (k : Kept) × Contains found k × (k.place.sites ≡ delay_place i d)
     all_seen i d inst w =
-        let n = number_at p main instances known i inst in
-        let r = read_by i.node (node_scope p i.node) d in
-        let x = kept_at i.path n.0 r in
+        let n = number_at p main instances known i inst in let r = read_by i.node (node_scope p i.node) d in let x = kept_at i.path n.0 r in
         let here = in_map (kept_at i.path n.0) (reads_in p i.node) r (in_map (read_by i.node (node_scope p i.node)) (node_delays i.node) d w) in
         let own_here = subst (λ (l : List KeptAt). Contains l x) (sym (own_is n.0 i inst n.2)) here in
         let all = in_lists own (length instances) n.0 x n.1 own_here in
@@ -81,14 +76,11 @@ module _ (p : ProgramTree) (main : Identifier) (instances : List Numbered) (know
       list = record {
         rising = subst AreRising (sym (kept_places ks)) up.rising;
         all = λ i d inst taken w.
-            let a = all_seen i d inst w in
-            let y = up.all a.0 a.1 in
-            let s = seen_there y.0 (up.only y.0 y.1) in
+            let a = all_seen i d inst w in let y = up.all a.0 a.1 in let s = seen_there y.0 (up.only y.0 y.1) in
             subst (λ (m : MemoryAt). Contains (map kept_memory ks) m)
             (s.1 ∙ one_memory s.0.i i s.0.d d s.0.is inst s.0.there w (sym s.0.place ∙ y.2 ∙ a.2)) (in_map kept_memory ks y.0 y.1);
         only = λ m w.
-            let y = from_map kept_memory ks m w in
-            let s = seen_there y.0 (up.only y.0 y.1) in
+            let y = from_map kept_memory ks m w in let s = seen_there y.0 (up.only y.0 y.1) in
             (s.0.i, s.0.d, s.0.is, tt, s.0.there, sym y.2 ∙ s.1);
       };
       each = λ k w. (seen_there k (up.only k w)).0;

@@ -15,7 +15,6 @@ pub mod ReadFlat
 pub mod ClockKinds
 pub mod FlowKinds
 pub mod KindNumbers
-pub mod SuitedParts
 pub mod ItemClocks
 pub mod ReadFits
 pub mod ConstantSizes
@@ -24,7 +23,6 @@ pub mod DistinctPlaces
 pub mod ApartComparisons
 pub mod ReadChecks
 pub mod KindedParts
-pub mod PartsStand
 pub mod ReadTables
 pub mod ReadItems
 pub mod ReadNodes

@@ -1,10 +1,10 @@
 -- The flows of a flat system as they are made.
-use Rattle.std.proofs.Common.{◌≡◌, inl, inr, ℕ, zero, suc, ◌+◌, ◌<◌, List, [], ◌∷◌, ◌++◌, map, length, Some, unwrap_or, slice_get, slice_index_or, refl, sym}
+use Rattle.std.proofs.Common.{◌≡◌, inl, inr, ℕ, ◌+◌, ◌<◌, List, [], ◌∷◌, ◌++◌, length, Some, unwrap_or, slice_get, slice_index_or, refl, sym}
 use Rattle.std.proofs.Common.{◌∙◌, ap, subst, arith}
 use Rattle.std.proofs.lemmas.List.{length-append, length-map}
 use Rattle.std.proofs.lemmas.Option.{none-some, slice_get_within, slice_get-map, get_or_from_slice_get, slice_get-get_or}
 use Rattle.std.specs.{Option.option_map, List.Contains}
-use Rattle.rv_tree.specs.{Places.Identifier, Places.Sites, Places.flows, Places.site_of, Tree.NodeTree, Tree.ProgramTree}
+use Rattle.rv_tree.specs.{Places.Identifier, Places.Sites, Places.flows, Places.site_of, Tree.ProgramTree}
 use Rattle.rv_types.specs.Instances.{Instance, no_node, place, IsInstance}
 use Rattle.rv_types.specs.{declared.typed.Kind.Kind, Kinds.flow_kind, Kinds.flow_kinds, Needs.Giver, Needs.Gives}
 use Rattle.rv_types.specs.declared.typed.Kind.TheVariants as kind
@@ -14,7 +14,8 @@ use Rattle.rv_instances.specs.{declared.flows.Flow.Flow, Expanded.no_instance, G
 use Rattle.rv_flatten.specs.{declared.given.Given.Given, Building.IsGiven, Building.IsMade, Building.kind_at, Building.program_given, Building.main_given}
 use Rattle.rv_flat.specs.declared.parts.FlatFlow.{FlatFlow}
 use Rattle.rv_agreement.specs.Translation.{Numbers}
-use Rattle.rv_flatten.proofs.FlowKinds.{kinds_many}
+use Rattle.rv_meaning.proofs.FlowSites.{kinds_many}
+use Rattle.rv_flatten.proofs.{InstanceNumbers.made_of}
 use Rattle.rv_instances.proofs.{FlowPlaces.snoc_parts, ExpandedLaws.instance_at, ExpandedLaws.path_is, ExpandedLaws.node_is, ExpandedLaws.same as same_instance}
 use Rattle.rv_types.proofs.Members.{among_from, index_there}
 use Rattle.rv_base.proofs.Lists.{contains_got, push_cases}
@@ -31,7 +32,7 @@ module _ (p : ProgramTree) (main : Identifier) (numbers : Numbers) (sequence : L
   pub one_made : (n : ℕ) (fs more : List FlatFlow) (f : FlatFlow) → AreMadeTo p main numbers sequence n fs → more ≡ fs ++ f ∷ []
       → IsMade p main numbers (slice_index_or sequence n []) f → AreMadeTo p main numbers sequence (n + 1) more
   one_made n fs more f are e is = subst (AreMadeTo p main numbers sequence (n + 1)) (sym e) (record {
-    many = let had = are.many in let size : length (fs ++ f ∷ []) ≡ length fs + 1 = simp (length-append) in omega (arith, had, size);
+    many = let size : length (fs ++ f ∷ []) ≡ length fs + 1 = simp (length-append) in omega (arith, are.many, size);
     each = λ k g at. elim (push_cases fs f g k at) [
       | inl there ↦ are.each k g there
       | inr last ↦ subst (IsMade p main numbers (slice_index_or sequence k [])) last.1
@@ -53,8 +54,7 @@ module _ (g : Given) (given : IsGiven g) where
   pub its_giver : (k : ℕ) (told : Told) → slice_get g.givers.now k ≡ Some told
       → (f : Giver) × Gives p main (place_at (all_places p instances) k) f × StandsFor p instances told f
   its_giver k told at =
-      let lt = slice_get_within g.givers.now k told at in
-      let f = given.givers.each k lt in
+      let lt = slice_get_within g.givers.now k told at in let f = given.givers.each k lt in
       (f.0, f.1, subst (λ t. StandsFor p instances t f.0) (get_or_from_slice_get g.givers.now k told (Input 0) at) (given.givers.one k f.0 lt f.1))
 
   -- there are as many flows as places
@@ -68,16 +68,9 @@ module _ (g : Given) (given : IsGiven g) where
       (slice_get-map (flow_sites instances) (all_flows p instances) k ∙ ap (option_map (flow_sites instances))
       (ap (λ (l : List Flow). slice_get l k) (sym given.flows) ∙ at))
 
-  -- the types of the flows of a node by its number
-  kinds_of_node : (ns : List NodeTree) (k : ℕ) → slice_index_or (map (flow_kinds p) ns) k [] ≡ flow_kinds p (slice_index_or ns k no_node)
-  kinds_of_node [] k = refl
-  kinds_of_node (n ∷ ns) zero = refl
-  kinds_of_node (n ∷ ns) (suc k) = kinds_of_node ns k
-
   -- The type of a flow is that of its name in its node.
   pub its_kind : (k : ℕ) (f : Flow) (i : Instance) (x : Identifier) → slice_get g.flows.now k ≡ Some f → IsInstance p main i → Contains (flows i.node) x
-      → place_at (all_places p instances) k ≡ place i x
-      → Some (kind_at g f) ≡ flow_kind p i.node x
+      → place_at (all_places p instances) k ≡ place i x → Some (kind_at g f) ≡ flow_kind p i.node x
   its_kind k f i x at is w same =
       let known = given.known.expanded in
       let lt : f.instance < length instances = given.of f (contains_got g.flows.now k f at) in
@@ -87,12 +80,10 @@ module _ (g : Given) (given : IsGiven g) where
       let node = node_is p main instances known f.instance a.0 a.1 a.2 ∙ ap (λ (j : Instance). j.node) one in
       let kinds : slice_index_or g.kinds.now (slice_index_or instances f.instance no_instance).node [] ≡ flow_kinds p i.node =
       ap (λ (l : List (List Kind)). slice_index_or l (slice_index_or instances f.instance no_instance).node []) given.kinds
-      ∙ kinds_of_node (program_given g).nodes (slice_index_or instances f.instance no_instance).node ∙ ap (flow_kinds p) node in
+      ∙ made_of (flow_kinds p) p.nodes (slice_index_or instances f.instance no_instance).node no_node ∙ ap (flow_kinds p) node in
       let among = index_there (flows i.node) x (among_from (flows i.node) x w) in
-      let site : site_of i.node x < length (flow_kinds p i.node) = let less = among.0 in let many = kinds_many p i.node in omega (arith, less, many) in
+      let site : site_of i.node x < length (flow_kinds p i.node) = omega (arith, among.0, kinds_many p i.node) in
       let some : slice_get (flow_kinds p i.node) (site_of i.node x) ≡ Some (slice_index_or (flow_kinds p i.node) (site_of i.node x) kind.Bool)
       = slice_get-get_or (flow_kinds p i.node) (site_of i.node x) kind.Bool site in
       ap (λ (l : List Kind). Some (unwrap_or (slice_get l f.site) kind.Bool)) kinds
-      ∙ ap (λ s. Some (unwrap_or (slice_get (flow_kinds p i.node) s) kind.Bool)) parts.1
-      ∙ ap (λ o. Some (unwrap_or o kind.Bool)) some
-      ∙ sym some
+      ∙ ap (λ s. Some (unwrap_or (slice_get (flow_kinds p i.node) s) kind.Bool)) parts.1 ∙ ap (λ o. Some (unwrap_or o kind.Bool)) some ∙ sym some

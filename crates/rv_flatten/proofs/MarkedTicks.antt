@@ -2,7 +2,7 @@
 use Rattle.std.proofs.Common.{◌≡◌, ◌⊎◌, inl, inr, ℕ, zero, suc, ◌+◌, ◌<◌, ◌^◌, Bool, true, false, cond, List, [], ◌∷◌, ◌++◌, map, length, get_or, replicate}
 use Rattle.std.proofs.Common.{set, refl, sym, ◌∙◌, ap, subst, arith, length-set, get_or-set_same, get_or-set_other, Option, Some, None as Nothing}
 use Rattle.std.proofs.lemmas.List.{get_or-map, length-map, length-replicate}
-use Rattle.std.proofs.lemmas.List.Elements.{Contains-append_left, Contains-append_right, Contains-append_cases, Contains-get_or}
+use Rattle.std.proofs.lemmas.List.Elements.{Contains-append_right, Contains-get_or}
 use Rattle.std.proofs.{lemmas.Bool.cases_eq, lemmas.Option.none-some, lemmas.Option.same_Some}
 use Rattle.std.specs.List.{Contains}
 use Rattle.rv_tree.specs.{Tree.Tree, Tree.NodeTree, Tree.ProgramTree, Places.Identifier, Places.Sites, Places.flows}
@@ -13,8 +13,12 @@ use Rattle.rv_instances.specs.Layouts.{Here, IsHere, IsNumberOf, IsClockPlaced, 
 use Rattle.rv_instances.specs.{declared.answer.Instance.Instance as Numbered, declared.layout.Layout.Layout, Expanded.IsExpanded, Flowing.place_at}
 use Rattle.rv_instances.specs.{Flowing.AreFlowPlaces, Flowing.IsKnownClock, NumberedNeeds.listed, NumberedNeeds.clock_number}
 use Rattle.rv_flatten.specs.Arrows.{node_arrows, arrow_numbers, arrow_numbers_to, with_marks, marked_from}
+use Rattle.rv_flatten.specs.NodeReaders.{lists_to}
+use Rattle.rv_flatten.proofs.InstanceNumbers.{from_lists, in_lists}
+use Rattle.rv_instances.proofs.ExpandedLaws.{instance_at, node_is, number_at}
 use Rattle.rv_flatten.proofs.{ArrowClocks.node_comes, ArrowClocks.node_only, ArrowClocks.arrow_known, MainNames.is_node}
 use Rattle.rv_types.proofs.Members.{at_head, cons_cases, in_flat_map, in_map, in_tail, nothing_in, of_flat_map}
+use Rattle.rv_types.proofs.ChainLaws.{no_flag}
 use Rattle.rv_base.proofs.Lists.{set_keeps}
 use Rattle.rv_meaning.proofs.Acceptable.{formed, typed}
 
@@ -48,17 +52,14 @@ mark_only ms (n ∷ ns) k e = elim (mark_only (set ms n true) ns k e) [
 ]
 
 none_marked : (n k : ℕ) → get_or (replicate n false) k false ≡ true → ⊥
-none_marked zero k e = let bad : false ≡ true = e in cc
-none_marked (suc n) zero e = let bad : false ≡ true = e in cc
+none_marked zero k e = no_flag e
+none_marked (suc n) zero e = no_flag e
 none_marked (suc n) (suc k) e = none_marked n k e
 
 -- The numbers that are marked.
 
 some_marked : (j : ℕ) (bs : List Bool) (k : ℕ) → get_or bs k false ≡ true → Contains (marked_from j bs) (j + k)
-some_marked j [] k e = let bad : false ≡ true = e in absurd (bad_flag bad)
-  where
-    bad_flag : false ≡ true → ⊥
-    bad_flag e = cc
+some_marked j [] k e = no_flag e
 some_marked j (b ∷ bs) zero e = subst (λ c. Contains (cond c (j ∷ []) [] ++ marked_from (j + 1) bs) (j + 0)) (sym e)
     (0, omega arith, (let same : j ≡ j + 0 = omega arith in same))
 some_marked j (b ∷ bs) (suc k) e =
@@ -72,15 +73,11 @@ marked_is j [] n w = nothing_in n w
 marked_is j (true ∷ bs) n w = elim (cons_cases j (marked_from (j + 1) bs) n w) [
   | inl same ↦ (0, omega arith, (omega (arith, same)), refl)
   | inr rest ↦
-      let r = marked_is (j + 1) bs n rest in
-      let lt = r.1 in
-      let at = r.2 in
+      let r = marked_is (j + 1) bs n rest in let lt = r.1 in let at = r.2 in
       (suc r.0, omega (arith, lt), omega (arith, at), r.3)
 ]
 marked_is j (false ∷ bs) n w =
-    let r = marked_is (j + 1) bs n w in
-    let lt = r.1 in
-    let at = r.2 in
+    let r = marked_is (j + 1) bs n w in let lt = r.1 in let at = r.2 in
     (suc r.0, omega (arith, lt), omega (arith, at), r.3)
 
 marked_rising : (j : ℕ) (bs : List Bool) (a b : ℕ) → a < b → b < length (marked_from j bs) → get_or (marked_from j bs) a 0 < get_or (marked_from j bs) b 0
@@ -90,29 +87,22 @@ marked_rising j (true ∷ bs) a zero lt less = absurd (omega (arith, lt))
 marked_rising j (true ∷ bs) zero (suc b) lt less =
     let within : b < length (marked_from (j + 1) bs) = omega (arith, less) in
     let r = marked_is (j + 1) bs (get_or (marked_from (j + 1) bs) b 0) (Contains-get_or (marked_from (j + 1) bs) b 0 within) in
-    let at = r.2 in
-    omega (arith, at)
+    omega (arith, r.2)
 marked_rising j (true ∷ bs) (suc a) (suc b) lt less = marked_rising (j + 1) bs a b (omega (arith, lt)) (omega (arith, less))
 
 -- The numbers of the clocks of all instances.
 
+arrows_listed : (p : ProgramTree) (instances : List Numbered) (l : Layout) (n : ℕ) → lists_to (arrow_numbers p instances l) n ≡ arrow_numbers_to p instances l n
+arrows_listed p instances l zero = refl
+arrows_listed p instances l (suc n) = ap (λ ks. ks ++ arrow_numbers p instances l n) (arrows_listed p instances l n)
+
 numbers_there : (p : ProgramTree) (instances : List Numbered) (l : Layout) (n m k : ℕ) → m < n → Contains (arrow_numbers p instances l m) k
     → Contains (arrow_numbers_to p instances l n) k
-numbers_there p instances l zero m k lt w = absurd (omega (arith, lt))
-numbers_there p instances l (suc n) m k lt w = elim (cases_eq m n) [
-  | inl same ↦ Contains-append_right (arrow_numbers_to p instances l n) (arrow_numbers p instances l n) k
-      (subst (λ i. Contains (arrow_numbers p instances l i) k) same w)
-  | inr other ↦ Contains-append_left (arrow_numbers_to p instances l n) (arrow_numbers p instances l n) k
-      (numbers_there p instances l n m k (omega (arith, lt, other)) w)
-]
+numbers_there p instances l n m k lt w = subst (λ ks. Contains ks k) (arrows_listed p instances l n) (in_lists (arrow_numbers p instances l) n m k lt w)
 
 numbers_from : (p : ProgramTree) (instances : List Numbered) (l : Layout) (n k : ℕ) → Contains (arrow_numbers_to p instances l n) k
     → (m : ℕ) × (m < n) × Contains (arrow_numbers p instances l m) k
-numbers_from p instances l zero k w = nothing_in k w
-numbers_from p instances l (suc n) k w = elim (Contains-append_cases (arrow_numbers_to p instances l n) (arrow_numbers p instances l n) k w) [
-  | inl v ↦ let r = numbers_from p instances l n k v in let lt = r.1 in (r.0, omega (arith, lt), r.2)
-  | inr v ↦ (n, omega arith, v)
-]
+numbers_from p instances l n k w = from_lists (arrow_numbers p instances l) n k (subst (λ ks. Contains ks k) (sym (arrows_listed p instances l n)) w)
 
 -- a number that is listed is there
 listed_is : (o : Option ℕ) (k : ℕ) → Contains (listed o) k → o ≡ Some k
@@ -141,18 +131,7 @@ to_place places (Some j) (Some q) k h e = ap Some (sym h.1 ∙ ap (place_at plac
 to_place places Nothing (Some q) k h e = absurd h
 to_place places (Some j) Nothing k h e = absurd h
 
--- what is known of the numbers of instances
-pub record AreNumbered (p : ProgramTree) (main : Identifier) (instances : List Numbered) : Type 0 where
-  pub at : (m : ℕ) → m < length instances → (i : Instance) × IsInstance p main i × IsNumberOf p instances m i
-  pub number : (i : Instance) → IsInstance p main i → (m : ℕ) × IsNumberOf p instances m i
-  pub node : (m : ℕ) (i : Instance) → IsInstance p main i → IsNumberOf p instances m i → node_at p instances m ≡ i.node
-
--- an expression that takes a clock stands on the flow of that
-on_flow : (i : Instance) (e : Tree) (c : Clock) (q : Option Sites) → taken Base (pace i.node e) ≡ c → absolute i c ≡ q → clock_in i Base e ≡ q
-on_flow i e c q takes at = ap (absolute i) takes ∙ at
-
 module _ (p : ProgramTree) (main : Identifier) (instances : List Numbered) (l : Layout) (known : IsExpanded p main instances)
-    (are_numbered : AreNumbered p main instances)
     (here : (m : ℕ) (i : Instance) → IsInstance p main i → IsNumberOf p instances m i → IsHere p (all_places p instances) i (here_of l m)) where
   -- a clock of an instance that comes is known
   known_clock : (i : Instance) → IsInstance p main i → (k : Clock) → Contains (node_arrows i.node) k → IsKnownClock i.node k
@@ -165,22 +144,16 @@ module _ (p : ProgramTree) (main : Identifier) (instances : List Numbered) (l : 
       → (k : ℕ) × Contains (arrow_numbers_to p instances l (length instances)) k × (k < length (all_places p instances))
       × (place_at (all_places p instances) k ≡ q)
   tick_comes i e q is w arrow at =
-      let number = are_numbered.number i is in
-      let m = number.0 in
-      let at_m : IsNumberOf p instances m i = number.1 in
-      let c = taken Base (pace i.node e) in
-      let v = node_comes i.node e w arrow in
+      let number = number_at p main instances known i is in let m = number.0 in
+      let at_m : IsNumberOf p instances m i = (number.1, number.2) in
+      let c = taken Base (pace i.node e) in let v = node_comes i.node e w arrow in
       let r = to_number (all_places p instances) (clock_number (here_of l m) c) (absolute i c) q
       (clock_placed p (all_places p instances) i (here_of l m) (here m i is at_m) c (known_clock i is c v)) at in
-      let there : Contains (node_arrows (node_at p instances m)) c = subst (λ (n : NodeTree). Contains (node_arrows n) c) (sym (are_numbered.node m i is at_m))
-      v in (
-        r.0,
-        numbers_there p instances l (length instances) m r.0 at_m.0
-            (in_flat_map (λ (d : Clock). listed (clock_number (here_of l m) d)) (node_arrows (node_at p instances m)) c r.0 there
-            (is_listed (clock_number (here_of l m) c) r.0 r.1)),
-        r.2,
-        r.3,
-      )
+      let there : Contains (node_arrows (node_at p instances m)) c =
+      subst (λ (n : NodeTree). Contains (node_arrows n) c) (sym (node_is p main instances known m i is at_m.1)) v in
+      let comes = in_flat_map (λ (d : Clock). listed (clock_number (here_of l m) d)) (node_arrows (node_at p instances m)) c r.0 there
+      (is_listed (clock_number (here_of l m) c) r.0 r.1) in
+      (r.0, numbers_there p instances l (length instances) m r.0 at_m.0 comes, r.2, r.3)
 
   -- and what comes is that of a tick
   tick_of : (k : ℕ) → Contains (arrow_numbers_to p instances l (length instances)) k
@@ -188,23 +161,15 @@ module _ (p : ProgramTree) (main : Identifier) (instances : List Numbered) (l : 
       × (clock_in i Base e ≡ Some (place_at (all_places p instances) k))
   tick_of k w =
       let from = numbers_from p instances l (length instances) k w in
-      let m = from.0 in
-      let one = are_numbered.at m from.1 in
-      let i = one.0 in
-      let at_m : IsNumberOf p instances m i = one.2 in
+      let m = from.0 in let one = instance_at p main instances known m from.1 in let i = one.0 in
+      let at_m : IsNumberOf p instances m i = (from.1, one.2) in
       let r = of_flat_map (λ (d : Clock). listed (clock_number (here_of l m) d)) (node_arrows (node_at p instances m)) k from.2 in
       let c = r.0 in
-      let there : Contains (node_arrows i.node) c = subst (λ (n : NodeTree). Contains (node_arrows n) c) (are_numbered.node m i one.1 at_m) r.1 in
+      let there : Contains (node_arrows i.node) c = subst (λ (n : NodeTree). Contains (node_arrows n) c) (node_is p main instances known m i one.1 one.2) r.1 in
       let arrow = node_only i.node c there in
-      let placed = clock_placed p (all_places p instances) i (here_of l m) (here m i one.1 at_m) c (known_clock i one.1 c there) in (
-        i,
-        arrow.0,
-        one.1,
-        arrow.1,
-        arrow.2,
-        on_flow i arrow.0 c (Some (place_at (all_places p instances) k)) arrow.3
-            (to_place (all_places p instances) (clock_number (here_of l m) c) (absolute i c) k placed (listed_is (clock_number (here_of l m) c) k r.2)),
-      )
+      let placed = clock_placed p (all_places p instances) i (here_of l m) (here m i one.1 at_m) c (known_clock i one.1 c there) in
+      let at = to_place (all_places p instances) (clock_number (here_of l m) c) (absolute i c) k placed (listed_is (clock_number (here_of l m) c) k r.2) in
+      (i, arrow.0, one.1, arrow.1, arrow.2, ap (absolute i) arrow.3 ∙ at)
 
   module _ (numbers ticks : List ℕ) (marks : List Bool) (are : numbers ≡ arrow_numbers_to p instances l (length instances))
       (marked : marks ≡ with_marks (replicate (length (all_places p instances)) false) numbers) (found : ticks ≡ marked_from 0 marks) where
@@ -216,16 +181,13 @@ module _ (p : ProgramTree) (main : Identifier) (instances : List Numbered) (l : 
     pub ticks_within : (k : ℕ) → Contains ticks k → k < length (all_places p instances)
     ticks_within k w =
         let r = marked_is 0 marks k (subst (λ ks. Contains ks k) found w) in
-        let lt = r.1 in
-        let at = r.2 in
-        let long = marks_long in
-        omega (arith, lt, at, long)
+        omega (arith, r.1, r.2, marks_long)
 
     -- that of a tick
     tick_found : (k : ℕ) → Contains ticks k → Contains (arrow_numbers_to p instances l (length instances)) k
     tick_found k w =
         let r = marked_is 0 marks k (subst (λ ks. Contains ks k) found w) in
-        let same : r.0 ≡ k = (let at = r.2 in omega (arith, at)) in
+        let same : r.0 ≡ k = (omega (arith, r.2)) in
         let is : get_or (with_marks (replicate (length (all_places p instances)) false) numbers) k false ≡ true = ap (λ bs. get_or bs k false) (sym marked)
         ∙ ap (λ j. get_or marks j false) (sym same) ∙ r.3 in
         subst (λ ns. Contains ns k) are (elim (mark_only (replicate (length (all_places p instances)) false) numbers k is) [
@@ -254,7 +216,7 @@ module _ (p : ProgramTree) (main : Identifier) (instances : List Numbered) (l : 
             (in_map (place_at (all_places p instances)) ticks r.0 (found_tick r.0 r.2 r.1));
         only = λ q w.
             let many = length-map ticks (place_at (all_places p instances)) in
-            let less : w.0 < length ticks = (let lt = w.1 in omega (arith, lt, many)) in
+            let less : w.0 < length ticks = (omega (arith, w.1, many)) in
             let k = get_or ticks w.0 0 in
             let r = tick_of k (tick_found k (Contains-get_or ticks w.0 0 less)) in
             let same : place_at (all_places p instances) k ≡ q = sym (get_or-map (place_at (all_places p instances)) ticks w.0 0 q less) ∙ w.2 in
@@ -275,7 +237,7 @@ module _ (p : ProgramTree) (main : Identifier) (instances : List Numbered) (l : 
               (sym (get_or-map (place_at (all_places p instances)) ticks k 0 [] within)) h)
 
 -- The clocks of the `->` of the instance with a number have numbers of 32 bits, where all its flows have.
-module _ (p : ProgramTree) (main : Identifier) (instances : List Numbered) (known : IsExpanded p main instances) (are_numbered : AreNumbered p main instances)
+module _ (p : ProgramTree) (main : Identifier) (instances : List Numbered) (known : IsExpanded p main instances)
   where
     within_room : (n : NodeTree) (first : ℕ) (k : Clock) → first + length (flows n) < 2 ^ 32 → IsKnownClock n k → IsWithin first k
     within_room n first Base room h = tt
@@ -284,11 +246,9 @@ module _ (p : ProgramTree) (main : Identifier) (instances : List Numbered) (know
     pub arrow_within : (m first : ℕ) (n : NodeTree) (k : Clock) → m < length instances → n ≡ node_at p instances m → first + length (flows n) < 2 ^ 32
         → Contains (node_arrows n) k → IsWithin first k
     arrow_within m first n k lt is room w =
-        let one = are_numbered.at m lt in
-        let i = one.0 in
-        let node : n ≡ i.node = is ∙ are_numbered.node m i one.1 one.2 in
+        let one = instance_at p main instances known m lt in let i = one.0 in
+        let node : n ≡ i.node = is ∙ node_is p main instances known m i one.1 one.2 in
         let named = is_node p main known.declared in
-        within_room n first k room
-        (subst (λ (o : NodeTree). IsKnownClock o k) (sym node)
+        within_room n first k room (subst (λ (o : NodeTree). IsKnownClock o k) (sym node)
         (arrow_known p i.node (typed p main known.well named i one.1) (formed p main known.well named i one.1) k
         (subst (λ (o : NodeTree). Contains (node_arrows o) k) node w)))

@@ -51,8 +51,7 @@ module _ (p : ProgramTree) (main : Identifier) (instances : List Numbered) (know
   pub one_more_told : (n : ℕ) (x : Kept) → n < length ks → x ≡ get_or ks n x → (t : ℕ) → ((path : Sites) (s : ℕ) → x.place.sites ≡ path ++ s ∷ [] → t ≡ s)
       → (old new : ℕ → ℕ → Option ℕ) → ((m s : ℕ) → new m s ≡ cond (nat_eq x.instance m && nat_eq t s) (Some n) (old m s))
       → AreTold instances ks old n → AreTold instances ks new (n + 1)
-  one_more_told n x lt is t last old new grown so_far k w s less place =
-      grown k.instance s ∙ tested (nat_eq x.instance k.instance && nat_eq t s) refl
+  one_more_told n x lt is t last old new grown so_far k w s less place = grown k.instance s ∙ tested (nat_eq x.instance k.instance && nat_eq t s) refl
     where
       other : (nat_eq x.instance k.instance && nat_eq t s) ≡ false → w.0 ≡ n → ⊥
       other e at =
@@ -76,8 +75,7 @@ module _ (p : ProgramTree) (main : Identifier) (instances : List Numbered) (know
   number_told told n le all m i d inst at w =
       let s = memory_site i.node d.site d.operand in
       let a = from_map kept_memory ks (memory_at p i d) (kept.list.all i d inst tt w) in
-      let k = a.0 in
-      let lt = a.1.1 in
+      let k = a.0 in let lt = a.1.1 in
       let place : k.place.sites ≡ delay_place i d = ap (λ (x : MemoryAt). x.place) a.2 in
       let e = kept.each k a.1 in
       let parts = snoc_parts e.i.path i.path (memory_site e.i.node e.d.site e.d.operand) s (sym e.place ∙ place) in

@@ -1,16 +1,16 @@
 -- Where the layout of all flows leads along a place.
-use Rattle.std.proofs.Common.{◌≡◌, inl, inr, ℕ, zero, suc, ◌+◌, ◌-◌, ◌<◌, ◌^◌, List, [], ◌∷◌, ◌++◌, map, length, get_or, take, unwrap_or, refl, sym, ◌∙◌, ap}
+use Rattle.std.proofs.Common.{◌≡◌, ℕ, zero, suc, ◌+◌, ◌-◌, ◌<◌, ◌^◌, List, [], ◌∷◌, ◌++◌, map, length, get_or, take, unwrap_or, refl, sym, ◌∙◌, ap}
 use Rattle.std.proofs.Common.{subst, arith}
-use Rattle.std.proofs.{lemmas.Bool.cases_eq, lemmas.List.get_or_default, lemmas.List.get_or-map, lemmas.List.length-map, lemmas.List.take_all}
+use Rattle.std.proofs.{lemmas.List.get_or-map, lemmas.List.length-map, lemmas.List.take_all}
 use Rattle.std.specs.Prelude.{min}
 use Rattle.rv_tree.specs.{Tree.ProgramTree, Places.Identifier, Places.Sites, Places.flows, Places.site_of}
-use Rattle.rv_types.specs.Instances.{Instance, callee, main_instance, IsInstance, is_main, is_callee, IsFlow}
-use Rattle.rv_types.specs.Needs.{IsBefore, IsSequence}
-use Rattle.rv_instances.specs.Expanded.{IsExpanded, no_instance}
-use Rattle.rv_instances.specs.Layouts.{IsLayout, IsHere, IsNumberOf, IsPlaced, callee_or_main, here_of, path_at, all_places}
-use Rattle.rv_instances.specs.{declared.answer.Instance.Instance as Numbered, declared.layout.Layout.Layout, AllInstances.numbered}
+use Rattle.rv_types.specs.Instances.{Instance, callee, IsInstance, is_main, is_callee, IsFlow}
+use Rattle.rv_types.specs.Needs.{IsSequence}
+use Rattle.rv_instances.specs.Layouts.{IsLayout, IsHere, IsNumberOf, IsPlaced, callee_or_main, here_of, all_places}
+use Rattle.rv_instances.specs.{declared.answer.Instance.Instance as Numbered, declared.layout.Layout.Layout, Expanded.IsExpanded}
 use Rattle.rv_flatten.specs.Positions.{AreNumbersOf, number_from, site_number, way_from}
 use Rattle.rv_flatten.proofs.FlowTotals.{few_flows}
+use Rattle.rv_instances.proofs.ExpandedLaws.{main_at, number_at}
 use Rattle.rv_types.proofs.Members.{among_from, index_there}
 
 -- the instance to which calls lead
@@ -29,7 +29,7 @@ number-snoc l m n (t ∷ q) s = number-snoc l (callee_or_main l.callees m t) (si
 -- the instances along calls: how many, the last of them, and those along one call more and along fewer calls
 way_long : (l : Layout) (m : ℕ) (q : Sites) → length (way_from l m q) ≡ length q + 1
 way_long l m [] = refl
-way_long l m (s ∷ q) = let h = way_long l (callee_or_main l.callees m s) q in omega (arith, h)
+way_long l m (s ∷ q) = omega (arith, way_long l (callee_or_main l.callees m s) q)
 
 way_end : (l : Layout) (m : ℕ) (q : Sites) → get_or (way_from l m q) (length q) 0 ≡ walk l m q
 way_end l m [] = refl
@@ -37,7 +37,7 @@ way_end l m (s ∷ q) = way_end l (callee_or_main l.callees m s) q
 
 pub way_last : (l : Layout) (m : ℕ) (q : Sites) → get_or (way_from l m q) (length (way_from l m q) - 1) 0 ≡ walk l m q
 way_last l m q =
-    let long : length (way_from l m q) - 1 ≡ length q = let h = way_long l m q in omega (arith, h) in
+    let long : length (way_from l m q) - 1 ≡ length q = omega (arith, way_long l m q) in
     ap (λ k. get_or (way_from l m q) k 0) long ∙ way_end l m q
 
 way-snoc : (l : Layout) (m : ℕ) (q : Sites) (s : ℕ) → way_from l m (q ++ s ∷ []) ≡ way_from l m q ++ callee_or_main l.callees (walk l m q) s ∷ []
@@ -69,29 +69,12 @@ number_reached l m n q s way is =
     (λ i. site_number l (get_or (is i) (length (is i) - 1) 0) s) ∙ ap (λ k. site_number l k s) (way_last l m q) ∙ sym (number-snoc l m n q s)
 
 module _ (p : ProgramTree) (main : Identifier) (instances : List Numbered) (known : IsExpanded p main instances) where
-  -- the number of an instance
-  pub number_at : (i : Instance) → IsInstance p main i → (m : ℕ) × (m < length instances) × (get_or instances m no_instance ≡ numbered p i)
-  number_at i is = let w = known.all.all i is in (w.0, w.1, get_or_default instances w.0 no_instance (numbered p i) w.1 ∙ w.2)
-
-  -- the first one is that of main
-  main_first : IsNumberOf p instances 0 (main_instance p main)
-  main_first =
-      let root = number_at (main_instance p main) is_main in
-      let lt = root.1 in
-      elim (cases_eq root.0 0) [
-        | inl here ↦ (omega (arith, lt), ap (λ k. get_or instances k no_instance) (sym here) ∙ root.2)
-        | inr other ↦ absurd (subst (IsBefore (path_at instances 0)) (ap (λ (x : Numbered). x.path) root.2)
-            (known.all.rising 0 root.0 no_instance (omega (arith, other)) lt))
-      ]
-
   module _ (l : Layout) (laid_out : IsLayout p main instances l) where
     -- the calls of a path lead to its instance
     walked : (i : Instance) → IsInstance p main i → IsNumberOf p instances (walk l 0 i.path) i
-    walked _ is_main = main_first
+    walked _ is_main = main_at p main instances known
     walked _ (is_callee {i = i} c is w) =
-        let m = walk l 0 i.path in
-        let from = walked i is in
-        let to = number_at (callee p i c) (is_callee c is w) in
+        let m = walk l 0 i.path in let from = walked i is in let to = number_at p main instances known (callee p i c) (is_callee c is w) in
         let told = laid_out.callees.found m c.site to.0 from.0 to.1
         (ap (λ (x : Numbered). x.path) to.2 ∙ ap (λ (x : Numbered). x.path ++ c.site ∷ []) (sym from.1)) in
         let there : walk l 0 (i.path ++ c.site ∷ []) ≡ to.0 = walk-snoc l 0 i.path c.site ∙ ap (λ o. unwrap_or o 0) told in
@@ -101,11 +84,9 @@ module _ (p : ProgramTree) (main : Identifier) (instances : List Numbered) (know
       -- and a place to its flow
       pub number_placed : (q : Sites) → IsFlow p main q → IsPlaced (all_places p instances) (number_from l 0 0 q) q
       number_placed q (i, x, is, w, e) =
-          let m = walk l 0 i.path in
-          let s = site_of i.node x in
+          let m = walk l 0 i.path in let s = site_of i.node x in
           let at = (here m i is (walked i is)).flow s (index_there (flows i.node) x (among_from (flows i.node) x w)).0 in
-          let few = few_flows p main instances known in
-          let lt = at.0 in
+          let few = few_flows p main instances known in let lt = at.0 in
           let same : number_from l 0 0 q ≡ (here_of l m).offset + s =
           ap (number_from l 0 0) e ∙ number-snoc l 0 0 i.path s ∙ no_greater ((here_of l m).offset + s) (omega (arith, lt, few)) in
           subst (λ k. IsPlaced (all_places p instances) k q) (sym same) (lt, at.1 ∙ sym e)
@@ -121,7 +102,6 @@ module _ (p : ProgramTree) (main : Identifier) (instances : List Numbered) (know
         each = λ j lt.
             let many = length-map sequence (number_from l 0 0) in
             let less : j < length sequence = omega (arith, lt, many) in
-            let q = get_or sequence j [] in
-            let at = number_placed q (are.only j less) in
+            let q = get_or sequence j [] in let at = number_placed q (are.only j less) in
             subst (λ k. IsPlaced (all_places p instances) k q) (sym (get_or-map (number_from l 0 0) sequence j [] 0 less)) at;
       })

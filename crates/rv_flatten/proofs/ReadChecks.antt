@@ -1,17 +1,16 @@
 -- A system that is read from its program passes the tests that a flat system keeps, and each `current` in it shows its memory.
-use Rattle.std.proofs.Common.{ℕ, suc, ℤ, Bool, true, false, cond, sym, subst, slice_get, Option, IsTrue}
+use Rattle.std.proofs.Common.{ℕ, suc, ℤ, Bool, true, false, cond, sym, subst, slice_get, IsTrue}
 use Rattle.rv_base.specs.declared.value.Value.{Value}
-use Rattle.rv_tree.specs.{declared.tree.Op.Op, Tree.Tree, Tree.Form, Tree.Trees, Tree.ProgramTree, Places.Identifier, Places.Sites, Places.is_flow}
-use Rattle.rv_tree.specs.{Places.index_of}
+use Rattle.rv_tree.specs.{declared.tree.Op.Op, Tree.Tree, Tree.Trees, Tree.ProgramTree, Places.Identifier, Places.Sites, Places.is_flow, Places.index_of}
 use Rattle.rv_tree.specs.declared.tree.Op.TheVariants as op
 use Rattle.rv_tree.specs.Tree as tree
 use Rattle.rv_types.specs.declared.typed.Kind.TheVariants as kind
-use Rattle.rv_types.specs.Instances.{Body, Output, Instance, place, clock_in, IsInstance, IsNode, IsArgument, head, tail}
-use Rattle.rv_types.specs.Needs.{Giver, Gives, given, by_equation, by_call}
+use Rattle.rv_types.specs.Instances.{Body, Instance, place, clock_in, IsInstance, IsNode, IsArgument, head, tail}
+use Rattle.rv_types.specs.Needs.{Giver, Gives, by_equation, by_call}
 use Rattle.rv_types.specs.{declared.typed.Clock.TheVariants.Base, Scopes.node_scope, Scopes.constant_value, Types.is_constant, WellFormed.AreWell}
 use Rattle.rv_agreement.specs.Checks.{is_of, IsShared, FormIsShared, AreShared, IsChecked, IsInlined}
 use Rattle.rv_agreement.specs.Programs.{coefficient, operation}
-use Rattle.rv_agreement.specs.Translation.{Numbers, tick_number, unplaced, flat_of, flat_form, flats_of, giver_item, IsTranslated}
+use Rattle.rv_agreement.specs.Translation.{Numbers, tick_number, unplaced, flat_of, flats_of, giver_item, IsTranslated}
 use Rattle.rv_agreement.specs.Trees.{FlatTree, Constant, Flow, Ticked, Scale, If, Binary, Item, System}
 use Rattle.rv_flatten.specs.Kinded.{IsKinded}
 use Rattle.rv_flatten.proofs.ReadFits.{all_flows_fit, all_memories_fit, all_assertions_fit, all_clocks_fit, clock_many}
@@ -28,21 +27,7 @@ module _ (s : System) where
       → FormIsShared s (operation o (If (unplaced (Ticked t)) g f) (cond left (Scale y g) (Scale z f)) (Binary o f g))
   operator_shared left op.Arrow y z t f g p q = (tt, q, p)
   operator_shared left op.Times y z t f g p q = product_shared left y z f g p q
-  operator_shared left op.Implies y z t f g p q = (p, q)
-  operator_shared left op.Or y z t f g p q = (p, q)
-  operator_shared left op.Xor y z t f g p q = (p, q)
-  operator_shared left op.And y z t f g p q = (p, q)
-  operator_shared left op.Equal y z t f g p q = (p, q)
-  operator_shared left op.Differs y z t f g p q = (p, q)
-  operator_shared left op.Less y z t f g p q = (p, q)
-  operator_shared left op.AtMost y z t f g p q = (p, q)
-  operator_shared left op.Greater y z t f g p q = (p, q)
-  operator_shared left op.AtLeast y z t f g p q = (p, q)
-  operator_shared left op.Plus y z t f g p q = (p, q)
-  operator_shared left op.Minus y z t f g p q = (p, q)
-  operator_shared left op.Slash y z t f g p q = (p, q)
-  operator_shared left op.Div y z t f g p q = (p, q)
-  operator_shared left op.Mod y z t f g p q = (p, q)
+  operator_shared left _ y z t f g p q = (p, q)
 
   name_shared : (k : ℕ) (v : Value) (b : Bool) → FormIsShared s (cond b (Flow k) (Constant v))
   name_shared k v true = tt
@@ -52,44 +37,35 @@ module _ (program : ProgramTree) (main : Identifier) (numbers : Numbers) (s : Sy
   module _ (i : Instance) (of : IsInstance program main i) where
     mutual
       expression_shared : (e : Tree) → Stands i.node e → IsShared s (flat_of program numbers i e)
-      expression_shared (tree.Node at site form) t = form_shared at site form t
-
-      form_shared : (at : ℕ) (site : Option ℕ) (form : Form) → Stands i.node (tree.Node at site form) → IsShared s (flat_form program numbers i site form)
-      form_shared at site tree.True t = tt
-      form_shared at site tree.False t = tt
-      form_shared at site (tree.Number n) t = tt
-      form_shared at site (tree.Named x) t = name_shared s (index_of numbers.flows (place i x)) (constant_value program x) (is_flow i.node x)
-      form_shared at site (tree.Not e) t = expression_shared e (as_child at site (tree.Not e) e t of_not)
-      form_shared at site (tree.Minus e) t = expression_shared e (as_child at site (tree.Minus e) e t of_minus)
-      form_shared at site (tree.Pre e) t = tt
-      form_shared at site (tree.Current e) t = (
+      expression_shared (tree.Node at site (tree.Named x)) t = name_shared s (index_of numbers.flows (place i x)) (constant_value program x) (is_flow i.node x)
+      expression_shared (tree.Node at site (tree.Not e)) t = expression_shared e (as_child t of_not)
+      expression_shared (tree.Node at site (tree.Minus e)) t = expression_shared e (as_child t of_minus)
+      expression_shared (tree.Node at site (tree.Current e)) t = (
         read.memory i (record { site = site; operand = e }) of (own_current i.node at site e t),
         expression_shared e
-            (as_child at site (tree.Current e) e t of_current),
+            (as_child t of_current),
       )
-      form_shared at site (tree.When e x) t = expression_shared e (as_child at site (tree.When e x) e t (of_when x))
-      form_shared at site (tree.Binary o a b) t =
+      expression_shared (tree.Node at site (tree.When e x)) t = expression_shared e (as_child t (of_when x))
+      expression_shared (tree.Node at site (tree.Binary o a b)) t =
           operator_shared s (is_constant (node_scope program i.node) a) o (coefficient program a) (coefficient program b)
-          (tick_number numbers (clock_in i Base (tree.Node 0 site (tree.Binary o a b))))
-          (flat_of program numbers i a) (flat_of program numbers i b)
-          (expression_shared a (as_child at site (tree.Binary o a b) a t of_left)) (expression_shared b (as_child at site (tree.Binary o a b) b t of_right))
-      form_shared at site (tree.If a b d) t = (
-        expression_shared a (as_child at site (tree.If a b d) a t of_condition),
-        expression_shared b (as_child at site (tree.If a b d) b t of_first),
-        expression_shared d (as_child at site (tree.If a b d) d t of_second),
+          (tick_number numbers (clock_in i Base (tree.Node 0 site (tree.Binary o a b)))) (flat_of program numbers i a) (flat_of program numbers i b)
+          (expression_shared a (as_child t of_left)) (expression_shared b (as_child t of_right))
+      expression_shared (tree.Node at site (tree.If a b d)) t = (
+        expression_shared a (as_child t of_condition),
+        expression_shared b (as_child t of_first),
+        expression_shared d (as_child t of_second),
       )
-      form_shared at site (tree.AtMostOne es) t = all_shared es (λ j e arg. as_child at site (tree.AtMostOne es) e t (of_operand j arg))
-      form_shared at site (tree.Call f args) t = tt
+      expression_shared (tree.Node at site (tree.AtMostOne es)) t = all_shared es (λ j e arg. as_child t (of_operand j arg))
+      expression_shared (tree.Node at site _) t = tt
 
       all_shared : (es : Trees) → ((j : ℕ) (e : Tree) → IsArgument es j e → Stands i.node e) → AreShared s (flats_of program numbers i es)
       all_shared tree.None t = tt
       all_shared (tree.More e es) t = (expression_shared e (t 0 e head), all_shared es (λ j a arg. t (suc j) a (tail arg)))
 
   giver_shared : (q : Sites) (g : Giver) → Gives program main q g → IsShared s (giver_item program numbers g).body
-  giver_shared q _ (given j lt at) = tt
   giver_shared q _ (by_equation i x (Body e) of right at) = expression_shared i of e (body_stands i.node x e right)
-  giver_shared q _ (by_equation i x (Output c j) of right at) = tt
   giver_shared q _ (by_call i c j e of called arg at) = expression_shared i of e (argument_stands i.node c j e called arg)
+  giver_shared q _ _ = tt
 
   -- Each item shows its memories.
   pub is_inlined : IsInlined s

@@ -1,31 +1,30 @@
 -- What is read of a program fits: it names earlier flows alone, each on its clock, and its types fit.
-use Rattle.std.proofs.Common.{◌≡◌, ℕ, suc, ◌+◌, ◌<◌, Bool, true, false, not, ◌&&◌, ◌||◌, cond, nat_lt, nat_eq, ℤ, pos, List, [], ◌∷◌, ◌++◌, map, length, get_or}
+use Rattle.std.proofs.Common.{◌≡◌, ℕ, suc, ◌+◌, ◌<◌, Bool, true, false, not, ◌&&◌, ◌||◌, cond, nat_eq, ℤ, pos, List, [], ◌∷◌, ◌++◌, map, length, get_or}
 use Rattle.std.proofs.Common.{slice_get, refl, sym, ◌∙◌, ap, subst, arith, unwrap_or, Option, Some, None as Nothing}
-use Rattle.std.proofs.lemmas.Bool.{eq-eqb, and_from, or_right}
-use Rattle.std.proofs.lemmas.List.Elements.{Contains-append_left, Contains-append_right, All-contains}
+use Rattle.std.proofs.lemmas.List.Elements.{Contains-append_left, Contains-append_right}
 use Rattle.std.proofs.lemmas.Option.{none-some, same_Some, slice_get-get_or, slice_get-map, slice_get_within, get_or_from_slice_get}
-use Rattle.std.proofs.{lemmas.List.length-map, lemmas.List.get_or-map, lemmas.Simd.map-map}
-use Rattle.std.specs.{Option.option_map, List.All, List.Contains}
+use Rattle.std.proofs.{lemmas.List.length-map, lemmas.List.get_or-map, lemmas.Simd.map-map, lemmas.Bool.eq-eqb, lemmas.Bool.and_from, lemmas.Bool.or_right}
+use Rattle.std.specs.{Option.option_map, List.Contains}
 use Rattle.rv_base.specs.{declared.value.Value.Value, declared.value.Value.TheVariants.Flag}
 use Rattle.rv_base.specs.declared.value.Value.TheVariants as value
 use Rattle.rv_tree.specs.Places.{Identifier, Sites, flows as flows_of, is_flow, index_of, site_of}
-use Rattle.rv_tree.specs.{declared.tree.Op.Op, Sites.is_comparison, Tree.Tree, Tree.Form, Tree.Trees, Tree.ProgramTree, Delays.Delay, Delays.node_delays}
+use Rattle.rv_tree.specs.{declared.tree.Op.Op, Sites.is_comparison, Tree.Tree, Tree.Trees, Tree.ProgramTree, Delays.Delay, Delays.node_delays}
 use Rattle.rv_tree.specs.declared.tree.Op.TheVariants as op
 use Rattle.rv_tree.specs.Tree as tree
-use Rattle.rv_types.specs.Clocks.{seen, meet, pace, form_pace, pace_of_all}
+use Rattle.rv_types.specs.Clocks.{seen, meet, pace, pace_of_all}
 use Rattle.rv_types.specs.Types.{kind_in, same_kind, where_met, both_are, binary_rule, is_constant}
 use Rattle.rv_types.specs.Instances.{CallTree, Body, Output, clock_of_arguments, Instance, place, absolute, clock_of, clock_taken as taken_clock, clock_in}
 use Rattle.rv_types.specs.Instances.{output_place, node_of, IsInstance, IsFlow, IsNode, IsArgument, head, tail}
-use Rattle.rv_types.specs.Needs.{IsBefore, flow_of, needs, form_needs, needs_all, needs_of, Giver, Of, Gives, given, by_equation, by_call, IsAmongFirst}
+use Rattle.rv_types.specs.Needs.{flow_of, needs, form_needs, needs_all, needs_of, Giver, Of, Gives, given, by_equation, by_call}
 use Rattle.rv_types.specs.{declared.typed.Kind.Kind, declared.typed.Clock.Clock, declared.typed.Clock.TheVariants.Base, declared.fault.Pace.TheVariants.Free}
-use Rattle.rv_types.specs.{declared.fault.Pace.TheVariants.At, declared.fault.Verdict.TheVariants.Has, declared.fault.Verdict.TheVariants.Clashes}
-use Rattle.rv_types.specs.{declared.fault.Verdict.TheVariants.Multiplies, Kinds.kind_in_program, Kinds.decl_kinds, Kinds.flow_kind, Kinds.flow_kinds}
+use Rattle.rv_types.specs.{declared.fault.Pace.TheVariants.At, Kinds.kind_in_program, Kinds.decl_kinds, Kinds.flow_kind, Kinds.flow_kinds}
 use Rattle.rv_types.specs.{Names.labels_of, Names.texts, Scopes.node_scope, Scopes.constant_kind, Scopes.constant_value, Values.HasKind, Variables.is_arrow}
-use Rattle.rv_types.specs.{Variables.is_integer, Lists.MemoryAt, Lists.memory_at, Lists.delay_place, Lists.sides_of, WellFormed.Suits, WellFormed.AreWell}
+use Rattle.rv_types.specs.{Variables.is_integer, Lists.AreRising, Lists.MemoryAt, Lists.memory_at, Lists.delay_place, Lists.sides_of, WellFormed.Suits}
+use Rattle.rv_types.specs.{WellFormed.AreWell}
 use Rattle.rv_types.specs.declared.typed.Kind.TheVariants as kind
 use Rattle.rv_agreement.specs.Checks.{same_clock, is_of, any_of, all_kinds, constant_fits, is_placed_for, clock_fits, fits, form_fits, all_fit, item_fits}
 use Rattle.rv_agreement.specs.Checks.{flows_fit, memories_fit, assertions_fit, clocks_fit}
-use Rattle.rv_agreement.specs.Translation.{Numbers, clock_number, tick_number, unplaced, flat_of, flat_form, flats_of, giver_item, delay_item, assertion_item}
+use Rattle.rv_agreement.specs.Translation.{Numbers, clock_number, tick_number, unplaced, flat_of, flats_of, giver_item, delay_item, assertion_item}
 use Rattle.rv_agreement.specs.Translation.{IsTranslated}
 use Rattle.rv_agreement.specs.Trees.{FlatTree, Constant, Flow, Ticked, Scale, If, Binary, Item, Kept, System, no_item, nth_item, memory_items, memory_kinds}
 use Rattle.rv_agreement.specs.Trees.{memory_places, kind_at}
@@ -35,19 +34,19 @@ use Rattle.rv_flatten.proofs.Standing.{Stands, as_child, of_not, of_minus, of_cu
 use Rattle.rv_flatten.proofs.Standing.{of_operand, stands_in, own_delay, own_current, own_call, body_stands, argument_stands, operand_stands, as_assertion}
 use Rattle.rv_flatten.proofs.Standing.{output_call}
 use Rattle.rv_flatten.proofs.ClockKinds.{IsTrueClock, clock_taken, clock_taken_on, clock_is_true, pace_is_true, paces_are_true}
-use Rattle.rv_flatten.proofs.FlowKinds.{HasFlow, is_flow as flow_there, kinds_many, signature_is, flow_of_site, clock_flow, output_flow, input_flow, main_input}
-use Rattle.rv_flatten.proofs.KindNumbers.{IsBelow, kind_declared, kind_itself, among_kinds, value_fits}
-use Rattle.rv_flatten.proofs.ItemClocks.{number_at, number_within, item_clock, output_clock}
-use Rattle.rv_flatten.proofs.{ArrowClocks.arrow_true, ComparedParts.has_site, SuitedParts.suits_when}
+use Rattle.rv_flatten.proofs.FlowKinds.{HasFlow, is_flow as flow_there, signature_is, flow_of_site, clock_flow, output_flow, input_flow, main_input}
+use Rattle.rv_flatten.proofs.KindNumbers.{IsBelow, kind_declared, kind_itself, among_kinds, product_rule, value_fits}
+use Rattle.rv_flatten.proofs.ItemClocks.{among_first, number_at, number_within, item_clock, output_clock, place_number}
+use Rattle.rv_flatten.proofs.{ArrowClocks.arrow_true, ComparedParts.has_site, ComparedParts.sides_told}
 use Rattle.rv_flat.proofs.TypedParts.{some_is, IsTyped, named_typed, not_typed, minus_typed, pre_typed, current_typed, when_typed, binary_typed, if_typed}
 use Rattle.rv_flat.proofs.TypedParts.{most_typed, call_typed}
-use Rattle.rv_flat.proofs.PlaceNumbers.{its_number}
-use Rattle.rv_agreement.proofs.Suited.{suits_binary}
-use Rattle.rv_meaning.proofs.Suiting.{ground_taken, suits_both, suits_seen, taken_suits}
-use Rattle.rv_meaning.proofs.{TypedOperators.met_kind, Acceptable.node_in, Acceptable.formed, Acceptable.typed}
+use Rattle.rv_flat.proofs.TickList.{number_at as number_of_place}
+use Rattle.rv_types.proofs.Verdicts.{met_kind}
+use Rattle.rv_types.proofs.Suiting.{ground_taken, suits_both, suits_seen, suits_when, taken_suits, suits_operands, suits_parts}
+use Rattle.rv_meaning.proofs.{Acceptable.node_in, Acceptable.formed, Acceptable.typed, FlowSites.kinds_many}
 use Rattle.rv_types.proofs.Members.{among_contains, among_from, at_head, in_map, in_tail, index_there}
-use Rattle.rv_types.proofs.{ConstantContents.kind_same, ChainLaws.no_flag, PlaceOrders.not_itself}
-use Rattle.rv_base.proofs.Truths.{both_of, less_told}
+use Rattle.rv_types.proofs.{Verdicts.kind_same}
+use Rattle.rv_base.proofs.Truths.{both_of, less_told, of_not_false}
 
 -- a clock is itself
 same_told : (c d : Option ℕ) → d ≡ c → same_clock c d ≡ true
@@ -60,23 +59,7 @@ same_told c d e = subst (λ (k : Option ℕ). same_clock c k ≡ true) (sym e) (
 -- Where a comparison has a place.
 
 no_sides : (o : Op) → is_comparison o ≡ false → nat_eq (length (sides_of o)) 0 ≡ true
-no_sides op.Arrow e = refl
-no_sides op.Implies e = refl
-no_sides op.Or e = refl
-no_sides op.Xor e = refl
-no_sides op.And e = refl
-no_sides op.Equal e = no_flag (sym e)
-no_sides op.Differs e = no_flag (sym e)
-no_sides op.Less e = no_flag (sym e)
-no_sides op.AtMost e = no_flag (sym e)
-no_sides op.Greater e = no_flag (sym e)
-no_sides op.AtLeast e = no_flag (sym e)
-no_sides op.Plus e = refl
-no_sides op.Minus e = refl
-no_sides op.Times e = refl
-no_sides op.Slash e = refl
-no_sides op.Div e = refl
-no_sides op.Mod e = refl
+no_sides o e = of_not_false (nat_eq (length (sides_of o)) 0) (sym (sides_told o) ∙ e)
 
 spot_there : (path : Sites) (site : Option ℕ) (m : ℕ) → site ≡ Some m → is_placed (spot path site) ≡ true
 spot_there path site m e = ap (λ (o : Option ℕ). is_placed (spot path o)) e ∙ by path
@@ -112,9 +95,7 @@ module _ (program : ProgramTree) (main : Identifier) (well : AreWell program) (n
     flow_fits : (before : ℕ) (c : Option ℕ) (q : Sites) (k : Kind) (at : Sites) → HasFlow program main q k → number q < before
         → (nth_item s.flows (number q)).clock ≡ c → form_fits s before c k at (Flow (number q)) ≡ true
     flow_fits before c q k at h lt clock =
-        and_from (nat_lt (number q) before) (is_of k (slice_get s.kinds (number q)) && same_clock c (nth_item s.flows (number q)).clock)
-        (less_told (number q) before lt)
-        (and_from (is_of k (slice_get s.kinds (number q))) (same_clock c (nth_item s.flows (number q)).clock) (ap (is_of k) (kind_there q k h) ∙ kind_itself k)
+        and_from _ _ (less_told (number q) before lt) (and_from _ _ (ap (is_of k) (kind_there q k h) ∙ kind_itself k)
         (same_told c (nth_item s.flows (number q)).clock clock))
 
     -- The memories by place and type.
@@ -130,13 +111,8 @@ module _ (program : ProgramTree) (main : Identifier) (well : AreWell program) (n
     memory_count : length numbers.memories ≡ length s.memories
     memory_count = ap length read.memory_numbers ∙ length-map s.memories (λ (m : Kept). m.place)
 
-    places_once : (j k : ℕ) → j < k → k < length numbers.memories → get_or numbers.memories j [] ≡ get_or numbers.memories k [] → ⊥
-    places_once j k lt less same =
-        let ps : List Sites = numbers.memories in
-        let rising : IsBefore (get_or ps j []) (get_or ps k []) =
-        subst (λ (l : List Sites). IsBefore (get_or l j []) (get_or l k [])) places_are
-        (read.memories.rising j k lt (let e = ap length places_are in omega (arith, less, e))) in
-        not_itself (get_or ps k []) (subst (λ (q : Sites). IsBefore q (get_or ps k [])) same rising)
+    memories_rise : AreRising numbers.memories
+    memories_rise = subst AreRising places_are read.memories.rising
 
     -- a memory has the type of what it holds
     memory_kind_at : (i : Instance) (d : Delay) (k : Kind) → IsInstance program main i → Contains (node_delays i.node) d → IsTyped program i.node d.operand k
@@ -150,12 +126,10 @@ module _ (program : ProgramTree) (main : Identifier) (well : AreWell program) (n
         ap (λ (l : List Sites). get_or l r.0 []) (sym places_are) ∙ get_or-map (λ (m : MemoryAt). m.place) listed r.0 own [] r.1
         ∙ ap (λ (m : MemoryAt). m.place) r.2 in
         let place : index_of numbers.memories (delay_place i d) ≡ r.0 = ap (index_of numbers.memories) (sym at_place)
-        ∙ its_number numbers.memories places_once r.0 lt in
+        ∙ number_of_place numbers.memories memories_rise r.0 lt in
         let kinds_as_listed : map (λ (m : MemoryAt). m.kind) listed ≡ memory_kinds s = map-map (λ (m : MemoryAt). m.kind) as_listed s.memories in
-        ap (slice_get (memory_kinds s)) place
-        ∙ ap (λ (l : List Kind). slice_get l r.0) (sym kinds_as_listed)
-        ∙ slice_get-map (λ (m : MemoryAt). m.kind) listed r.0
-        ∙ ap (option_map (λ (m : MemoryAt). m.kind)) (slice_get-get_or listed r.0 own r.1 ∙ ap Some r.2)
+        ap (slice_get (memory_kinds s)) place ∙ ap (λ (l : List Kind). slice_get l r.0) (sym kinds_as_listed)
+        ∙ slice_get-map (λ (m : MemoryAt). m.kind) listed r.0 ∙ ap (option_map (λ (m : MemoryAt). m.kind)) (slice_get-get_or listed r.0 own r.1 ∙ ap Some r.2)
         ∙ ap (λ (o : Option Kind). Some (unwrap_or o kind.Bool)) t
 
     -- a tick is one of them
@@ -183,64 +157,44 @@ module _ (program : ProgramTree) (main : Identifier) (well : AreWell program) (n
 
       operands_fit : (o : Op) (j : Kind) (f g : FlatTree) → is_placed_for at o j ≡ true → fits s before c j f ≡ true → fits s before c j g ≡ true
           → OperandsFit o f g j ≡ true
-      operands_fit o j f g placed p q = and_from (is_placed_for at o j) (fits s before c j f && fits s before c j g) placed
-          (and_from (fits s before c j f) (fits s before c j g) p q)
+      operands_fit o j f g placed p q = and_from _ _ placed
+          (and_from _ _ p q)
 
       one_kind : (o : Op) (j : Kind) (f g : FlatTree) → is_placed_for at o j ≡ true → fits s before c j f ≡ true → fits s before c j g ≡ true
           → any_of (OperandsFit o f g) (j ∷ []) ≡ true
       one_kind o j f g placed p q = ap (λ (b : Bool). b || false) (operands_fit o j f g placed p q)
 
-      -- under a rule that is met by two equal types
-      flags_fit : (o : Op) (l r k : Kind) (f g : FlatTree) → kind_in (where_met (both_are kind.Bool l r) kind.Bool) ≡ Some k → is_placed_for at o l ≡ true
-          → fits s before c l f ≡ true → fits s before c r g ≡ true
-          → (same_kind k kind.Bool && any_of (OperandsFit o f g) (kind.Bool ∷ [])) ≡ true
-      flags_fit o l r k f g e placed p q =
-          let m = met_kind (both_are kind.Bool l r) kind.Bool k e in
-          let t = both_of (same_kind l kind.Bool) (same_kind r kind.Bool) m.0 in
-          and_from (same_kind k kind.Bool) (any_of (OperandsFit o f g) (kind.Bool ∷ [])) (ap (λ (j : Kind). same_kind j kind.Bool) (sym m.1))
-          (one_kind o kind.Bool f g (subst (λ (j : Kind). is_placed_for at o j ≡ true) (kind_same l kind.Bool t.0) placed)
-          (subst (λ (j : Kind). fits s before c j f ≡ true) (kind_same l kind.Bool t.0) p)
-          (subst (λ (j : Kind). fits s before c j g ≡ true) (kind_same r kind.Bool t.1) q))
-
-      wholes_fit : (o : Op) (l r made k : Kind) (f g : FlatTree) → kind_in (where_met (both_are kind.Int l r) made) ≡ Some k → is_placed_for at o l ≡ true
-          → fits s before c l f ≡ true → fits s before c r g ≡ true
-          → (same_kind k made && any_of (OperandsFit o f g) (kind.Int ∷ [])) ≡ true
-      wholes_fit o l r made k f g e placed p q =
-          let m = met_kind (both_are kind.Int l r) made k e in
-          let t = both_of (same_kind l kind.Int) (same_kind r kind.Int) m.0 in
-          and_from (same_kind k made) (any_of (OperandsFit o f g) (kind.Int ∷ [])) (ap (λ (j : Kind). same_kind j made) (sym m.1) ∙ kind_itself made)
-          (one_kind o kind.Int f g (subst (λ (j : Kind). is_placed_for at o j ≡ true) (kind_same l kind.Int t.0) placed)
-          (subst (λ (j : Kind). fits s before c j f ≡ true) (kind_same l kind.Int t.0) p)
-          (subst (λ (j : Kind). fits s before c j g ≡ true) (kind_same r kind.Int t.1) q))
+      -- under a rule that is met by two operands of one type
+      alike_fit : (j : Kind) (o : Op) (l r made k : Kind) (f g : FlatTree) → kind_in (where_met (both_are j l r) made) ≡ Some k → is_placed_for at o l ≡ true
+          → fits s before c l f ≡ true → fits s before c r g ≡ true → (same_kind k made && any_of (OperandsFit o f g) (j ∷ [])) ≡ true
+      alike_fit j o l r made k f g e placed p q =
+          let m = met_kind (both_are j l r) made k e in let t = both_of (same_kind l j) (same_kind r j) m.0 in
+          and_from _ _ (ap (λ (i : Kind). same_kind i made) (sym m.1) ∙ kind_itself made)
+          (one_kind o j f g (subst (λ (i : Kind). is_placed_for at o i ≡ true) (kind_same l j t.0) placed)
+          (subst (λ (i : Kind). fits s before c i f ≡ true) (kind_same l j t.0) p) (subst (λ (i : Kind). fits s before c i g ≡ true) (kind_same r j t.1) q))
 
       equals_fit : (o : Op) (l r k : Kind) (f g : FlatTree) → IsBelow (length program.types) l → kind_in (where_met (same_kind l r) kind.Bool) ≡ Some k
           → is_placed_for at o l ≡ true → fits s before c l f ≡ true → fits s before c r g ≡ true
           → (same_kind k kind.Bool && any_of (OperandsFit o f g) (all_kinds s.labels)) ≡ true
       equals_fit o l r k f g h e placed p q =
           let m = met_kind (same_kind l r) kind.Bool k e in
-          and_from (same_kind k kind.Bool) (any_of (OperandsFit o f g) (all_kinds s.labels)) (ap (λ (j : Kind). same_kind j kind.Bool) (sym m.1))
+          and_from _ _ (ap (λ (j : Kind). same_kind j kind.Bool) (sym m.1))
           (among_kinds s.labels (OperandsFit o f g) l (subst (λ (n : ℕ). IsBelow n l) (sym types_declared) h)
           (operands_fit o l f g placed p (subst (λ (j : Kind). fits s before c j g ≡ true) (sym (kind_same l r m.0)) q)))
 
       -- a product, whose operands are integers
-      product_kinds : (b scaled : Bool) (k : Kind) → kind_in (cond b (cond scaled (Has kind.Int) Multiplies) Clashes) ≡ Some k → (b ≡ true) × (kind.Int ≡ k)
-      product_kinds true true k e = (refl, same_Some kind.Int k e)
-      product_kinds true false k e = absurd (none-some k e)
-      product_kinds false scaled k e = absurd (none-some k e)
-
       product_fits : (scaled left : Bool) (l r k : Kind) (y z : ℤ) (f g : FlatTree) → kind_in (binary_rule true scaled op.Times l r) ≡ Some k
-          → fits s before c l f ≡ true → fits s before c r g ≡ true
-          → form_fits s before c k at (cond left (Scale y g) (Scale z f)) ≡ true
+          → fits s before c l f ≡ true → fits s before c r g ≡ true → form_fits s before c k at (cond left (Scale y g) (Scale z f)) ≡ true
       product_fits scaled left l r k y z f g e p q =
-          let m = product_kinds (both_are kind.Int l r) scaled k e in
+          let m = product_rule (both_are kind.Int l r) scaled k e in
           let t = both_of (same_kind l kind.Int) (same_kind r kind.Int) m.0 in
-          by left (ap (λ (j : Kind). same_kind j kind.Int) (sym m.1)) (subst (λ (j : Kind). fits s before c j f ≡ true) (kind_same l kind.Int t.0) p)
+          by left (ap (λ (j : Kind). same_kind j kind.Int) (sym m.2)) (subst (λ (j : Kind). fits s before c j f ≡ true) (kind_same l kind.Int t.0) p)
           (subst (λ (j : Kind). fits s before c j g ≡ true) (kind_same r kind.Int t.1) q)
         where
           by : (left : Bool) → same_kind k kind.Int ≡ true → fits s before c kind.Int f ≡ true → fits s before c kind.Int g ≡ true
               → form_fits s before c k at (cond left (Scale y g) (Scale z f)) ≡ true
-          by true t p q = and_from (same_kind k kind.Int) (fits s before c kind.Int g) t q
-          by false t p q = and_from (same_kind k kind.Int) (fits s before c kind.Int f) t p
+          by true t p q = and_from _ _ t q
+          by false t p q = and_from _ _ t p
 
       operator_fits : (scaled left : Bool) (o : Op) (l r k : Kind) (y z : ℤ) (tick f g : FlatTree) → IsBelow (length program.types) l
           → kind_in (binary_rule true scaled o l r) ≡ Some k → is_placed_for at o l ≡ true
@@ -248,25 +202,22 @@ module _ (program : ProgramTree) (main : Identifier) (well : AreWell program) (n
           → form_fits s before c k at (operation o (If tick g f) (cond left (Scale y g) (Scale z f)) (Binary o f g)) ≡ true
       operator_fits scaled left op.Arrow l r k y z tick f g h e placed t p q =
           let m = met_kind (same_kind l r) l k e in
-          and_from (fits s before c kind.Bool tick) (fits s before c k g && fits s before c k f) (t refl)
-          (and_from (fits s before c k g) (fits s before c k f) (subst (λ (j : Kind). fits s before c j g ≡ true) (sym (kind_same l r m.0) ∙ m.1) q)
+          and_from _ _ (t refl) (and_from _ _ (subst (λ (j : Kind). fits s before c j g ≡ true) (sym (kind_same l r m.0) ∙ m.1) q)
           (subst (λ (j : Kind). fits s before c j f ≡ true) m.1 p))
       operator_fits scaled left op.Times l r k y z tick f g h e placed t p q = product_fits scaled left l r k y z f g e p q
-      operator_fits scaled left op.Implies l r k y z tick f g h e placed t p q = flags_fit op.Implies l r k f g e placed p q
-      operator_fits scaled left op.Or l r k y z tick f g h e placed t p q = flags_fit op.Or l r k f g e placed p q
-      operator_fits scaled left op.Xor l r k y z tick f g h e placed t p q = flags_fit op.Xor l r k f g e placed p q
-      operator_fits scaled left op.And l r k y z tick f g h e placed t p q = flags_fit op.And l r k f g e placed p q
+      operator_fits scaled left op.Implies l r k y z tick f g h e placed t p q = alike_fit kind.Bool op.Implies l r kind.Bool k f g e placed p q
+      operator_fits scaled left op.Or l r k y z tick f g h e placed t p q = alike_fit kind.Bool op.Or l r kind.Bool k f g e placed p q
+      operator_fits scaled left op.Xor l r k y z tick f g h e placed t p q = alike_fit kind.Bool op.Xor l r kind.Bool k f g e placed p q
+      operator_fits scaled left op.And l r k y z tick f g h e placed t p q = alike_fit kind.Bool op.And l r kind.Bool k f g e placed p q
       operator_fits scaled left op.Equal l r k y z tick f g h e placed t p q = equals_fit op.Equal l r k f g h e placed p q
       operator_fits scaled left op.Differs l r k y z tick f g h e placed t p q = equals_fit op.Differs l r k f g h e placed p q
-      operator_fits scaled left op.Less l r k y z tick f g h e placed t p q = wholes_fit op.Less l r kind.Bool k f g e placed p q
-      operator_fits scaled left op.AtMost l r k y z tick f g h e placed t p q = wholes_fit op.AtMost l r kind.Bool k f g e placed p q
-      operator_fits scaled left op.Greater l r k y z tick f g h e placed t p q = wholes_fit op.Greater l r kind.Bool k f g e placed p q
-      operator_fits scaled left op.AtLeast l r k y z tick f g h e placed t p q = wholes_fit op.AtLeast l r kind.Bool k f g e placed p q
-      operator_fits scaled left op.Plus l r k y z tick f g h e placed t p q = wholes_fit op.Plus l r kind.Int k f g e placed p q
-      operator_fits scaled left op.Minus l r k y z tick f g h e placed t p q = wholes_fit op.Minus l r kind.Int k f g e placed p q
-      operator_fits scaled left op.Slash l r k y z tick f g h e placed t p q = absurd (none-some k e)
-      operator_fits scaled left op.Div l r k y z tick f g h e placed t p q = absurd (none-some k e)
-      operator_fits scaled left op.Mod l r k y z tick f g h e placed t p q = absurd (none-some k e)
+      operator_fits scaled left op.Less l r k y z tick f g h e placed t p q = alike_fit kind.Int op.Less l r kind.Bool k f g e placed p q
+      operator_fits scaled left op.AtMost l r k y z tick f g h e placed t p q = alike_fit kind.Int op.AtMost l r kind.Bool k f g e placed p q
+      operator_fits scaled left op.Greater l r k y z tick f g h e placed t p q = alike_fit kind.Int op.Greater l r kind.Bool k f g e placed p q
+      operator_fits scaled left op.AtLeast l r k y z tick f g h e placed t p q = alike_fit kind.Int op.AtLeast l r kind.Bool k f g e placed p q
+      operator_fits scaled left op.Plus l r k y z tick f g h e placed t p q = alike_fit kind.Int op.Plus l r kind.Int k f g e placed p q
+      operator_fits scaled left op.Minus l r k y z tick f g h e placed t p q = alike_fit kind.Int op.Minus l r kind.Int k f g e placed p q
+      operator_fits scaled left _ l r k y z tick f g h e placed t p q = absurd (none-some k e)
 
     module _ (i : Instance) (of : IsInstance program main i) where
       -- what an expression names has earlier numbers
@@ -283,12 +234,10 @@ module _ (program : ProgramTree) (main : Identifier) (well : AreWell program) (n
           (subst (λ (o : Option Sites). Contains (flow_of o) q) (sym e) (at_head q []))
 
       clock_fits_at : (before : ℕ) (k : Option Sites) → ((q : Sites) → k ≡ Some q → HasFlow program main q kind.Bool)
-          → ((q : Sites) → k ≡ Some q → number q < before)
-          → clock_fits s before (clock_number numbers k) ≡ true
+          → ((q : Sites) → k ≡ Some q → number q < before) → clock_fits s before (clock_number numbers k) ≡ true
       clock_fits_at before Nothing flow early = refl
       clock_fits_at before (Some q) flow early =
-          and_from (nat_lt (number q) before) (is_of kind.Bool (slice_get s.kinds (number q))) (less_told (number q) before (early q refl))
-          (ap (is_of kind.Bool) (kind_there q kind.Bool (flow q refl)) ∙ kind_itself kind.Bool)
+          and_from _ _ (less_told (number q) before (early q refl)) (ap (is_of kind.Bool) (kind_there q kind.Bool (flow q refl)) ∙ kind_itself kind.Bool)
 
       -- the clock of an expression that has a type
       pub own_clock : (e : Tree) (k : Kind) → IsTyped program i.node e k → (q : Sites) → clock_in i Base e ≡ Some q → HasFlow program main q kind.Bool
@@ -340,67 +289,54 @@ module _ (program : ProgramTree) (main : Identifier) (well : AreWell program) (n
       mutual
         -- an expression that stands in the instance, on a clock, and whose flows have earlier numbers
         pub expression_fits : (before : ℕ) (c : Clock) (e : Tree) (k : Kind) → Stands i.node e → IsTyped program i.node e k → Suits c (pace i.node e)
-            → IsEarly before c e
-            → fits s before (clock_number numbers (absolute i c)) k (flat_of program numbers i e) ≡ true
-        expression_fits before c (tree.Node at site form) k t is h early = form_fits_too before c at site form k t is h early
-
-        form_fits_too : (before : ℕ) (c : Clock) (at : ℕ) (site : Option ℕ) (form : Form) (k : Kind) → Stands i.node (tree.Node at site form)
-            → IsTyped program i.node (tree.Node at site form) k
-            → Suits c (form_pace i.node form) → IsEarly before c (tree.Node at site form)
-            → fits s before (clock_number numbers (absolute i c)) k (flat_form program numbers i site form) ≡ true
-        form_fits_too before c at site tree.True k t is h early = subst (λ (j : Kind). constant_fits s.labels j (Flag true) ≡ true) (same_Some kind.Bool k is)
-            refl
-        form_fits_too before c at site tree.False k t is h early = subst (λ (j : Kind). constant_fits s.labels j (Flag false) ≡ true) (same_Some kind.Bool k is)
-            refl
-        form_fits_too before c at site (tree.Number n) k t is h early = subst (λ (j : Kind). constant_fits s.labels j (value.Whole (pos n)) ≡ true)
-            (same_Some kind.Int k is) refl
-        form_fits_too before c at site (tree.Named x) k t is h early = name_fits before c at site x k (is_flow i.node x) refl is h early
-        form_fits_too before c at site (tree.Not e) k t is h early =
+            → IsEarly before c e → fits s before (clock_number numbers (absolute i c)) k (flat_of program numbers i e) ≡ true
+        expression_fits before c (tree.Node at site tree.True) k t is h early =
+            subst (λ (j : Kind). constant_fits s.labels j (Flag true) ≡ true) (same_Some kind.Bool k is) refl
+        expression_fits before c (tree.Node at site tree.False) k t is h early =
+            subst (λ (j : Kind). constant_fits s.labels j (Flag false) ≡ true) (same_Some kind.Bool k is) refl
+        expression_fits before c (tree.Node at site (tree.Number n)) k t is h early =
+            subst (λ (j : Kind). constant_fits s.labels j (value.Whole (pos n)) ≡ true) (same_Some kind.Int k is) refl
+        expression_fits before c (tree.Node at site (tree.Named x)) k t is h early = name_fits before c at site x k (is_flow i.node x) refl is h early
+        expression_fits before c (tree.Node at site (tree.Not e)) k t is h early =
             let r = not_typed program i.node at site e k is in
-            and_from (same_kind k kind.Bool) _ (ap (λ (j : Kind). same_kind j kind.Bool) (sym r.1))
-            (expression_fits before c e kind.Bool (as_child at site (tree.Not e) e t of_not) r.0 (suits_seen c (pace i.node e) h)
+            and_from _ _ (ap (λ (j : Kind). same_kind j kind.Bool) (sym r.1))
+            (expression_fits before c e kind.Bool (as_child t of_not) r.0 (suits_seen c (pace i.node e) h)
             (λ q w. early q (Contains-append_right (flow_of (absolute i c)) (needs program i c e) q w)))
-        form_fits_too before c at site (tree.Minus e) k t is h early =
+        expression_fits before c (tree.Node at site (tree.Minus e)) k t is h early =
             let r = minus_typed program i.node at site e k is in
-            and_from (same_kind k kind.Int) _ (ap (λ (j : Kind). same_kind j kind.Int) (sym r.1))
-            (expression_fits before c e kind.Int (as_child at site (tree.Minus e) e t of_minus) r.0 (suits_seen c (pace i.node e) h)
+            and_from _ _ (ap (λ (j : Kind). same_kind j kind.Int) (sym r.1))
+            (expression_fits before c e kind.Int (as_child t of_minus) r.0 (suits_seen c (pace i.node e) h)
             (λ q w. early q (Contains-append_right (flow_of (absolute i c)) (needs program i c e) q w)))
-        form_fits_too before c at site (tree.Pre e) k t is h early = memory_fits site e k (own_delay i.node at site e t)
+        expression_fits before c (tree.Node at site (tree.Pre e)) k t is h early = memory_fits site e k (own_delay i.node at site e t)
             (pre_typed program i.node at site e k is)
-        form_fits_too before c at site (tree.Current e) k t is h early =
-            let r = current_typed program i.node at site e k is in
-            let own = own_current i.node at site e t in
+        expression_fits before c (tree.Node at site (tree.Current e)) k t is h early =
+            let r = current_typed program i.node at site e k is in let own = own_current i.node at site e t in
             let on = taken_clock i Base e in
             let inside = λ (q : Sites) (w : Contains (needs program i on e) q). Contains-append_right (flow_of (absolute i c)) (needs program i on e) q w in
             let flow = own_clock e k r in
-            and_from (is_of k (slice_get (memory_kinds s) (index_of numbers.memories (delay_place i (record { site = site; operand = e }))))) _
-            (memory_fits site e k own r)
-            (and_from (clock_fits s before (clock_number numbers (clock_in i Base e))) _
+            and_from _ _ (memory_fits site e k own r) (and_from _ _
             (clock_fits_at before (clock_in i Base e) flow (λ q at. early q (inside q (clock_needed on e q at)) (flow_there (flow q at))))
-            (expression_fits before on e k (as_child at site (tree.Current e) e t of_current) r
+            (expression_fits before on e k (as_child t of_current) r
             ((formed program main well named i of).delay_clock (record { site = site; operand = e }) own) (λ q w. early q (inside q w))))
-        form_fits_too before c at site (tree.When e x) k t is h early =
+        expression_fits before c (tree.Node at site (tree.When e x)) k t is h early =
             let r = when_typed program i.node at site e x k is in
             let m : ℕ = site_of i.node x.text in
             let q : Sites = place i x.text in
             let there : HasFlow program main q kind.Bool = flow_of_site program main well named i m kind.Bool of r.1 in
-            let suits = suits_when c i.node (seen (pace i.node e)) m h in
-            let lt : m < length (flows_of i.node) = (let less = slice_get_within (flow_kinds program i.node) m kind.Bool r.1 in
-            let many = kinds_many program i.node in omega (arith, less, many)) in
+            let suits = suits_when i.node c (pace i.node e) m h in
+            let lt : m < length (flows_of i.node) = (omega (arith, slice_get_within (flow_kinds program i.node) m kind.Bool r.1, kinds_many program i.node)) in
             let needed : Contains (needs program i c (tree.Node at site (tree.When e x))) q = clock_needed c (tree.Node at site (tree.When e x)) q
-            (ap (absolute i) (sym suits.0)) in
-            and_from (same_clock (clock c) (Some (number q))) _ (same_told (clock c) (Some (number q)) (ap clock suits.0))
-            (and_from (clock_fits s before (Some (number q))) _
+            (ap (absolute i) (sym suits.1)) in
+            and_from _ _ (same_told (clock c) (Some (number q)) (ap clock suits.1)) (and_from _ _
             (clock_fits_at before (Some q) (λ p e. subst (λ (p : Sites). HasFlow program main p kind.Bool) (same_Some q p e) there)
             (λ p e. subst (λ (p : Sites). number p < before) (same_Some q p e) (early q needed (flow_there there))))
             (subst (λ (n : Option ℕ). fits s before n k (flat_of program numbers i e) ≡ true)
             (sym (item_clock program main well named numbers s read i m of lt))
-            (expression_fits before (clock_of i.node x.text) e k (as_child at site (tree.When e x) e t (of_when x)) r.0
-            (suits_seen (clock_of i.node x.text) (pace i.node e) suits.1)
+            (expression_fits before (clock_of i.node x.text) e k (as_child t (of_when x)) r.0 suits.0
             (λ q w. early q (Contains-append_right (flow_of (absolute i c)) (needs program i (clock_of i.node x.text) e) q w)))))
-        form_fits_too before c at site (tree.Binary o a b) k t is h early =
+        expression_fits before c (tree.Node at site (tree.Binary o a b)) k t is h early =
             let r = binary_typed program i.node at site o a b k is in
-            let suits = suits_binary c o (seen (pace i.node a)) (seen (pace i.node b)) h in
+            let suits = suits_operands c o (pace i.node a) (pace i.node b) h in
             let inside = λ (q : Sites) (w : Contains (needs program i c a ++ needs program i c b) q). Contains-append_right (flow_of (absolute i c))
             (needs program i c a ++ needs program i c b) q w in
             let on = clock_in i Base (tree.Node 0 site (tree.Binary o a b)) in
@@ -411,33 +347,30 @@ module _ (program : ProgramTree) (main : Identifier) (well : AreWell program) (n
             (λ arrow. tick_fits before (clock c) on
             (λ q is. read.ticks.all i (tree.Node at site (tree.Binary o a b)) q of (stands_in i.node (tree.Node at site (tree.Binary o a b)) t)
             (ap (λ (u : Op). is_arrow (tree.Node at site (tree.Binary u a b))) arrow) is))
-            (expression_fits before c a r.left (as_child at site (tree.Binary o a b) a t of_left) r.left_is (suits_seen c (pace i.node a) suits.0)
+            (expression_fits before c a r.left (as_child t of_left) r.left_is suits.0
             (λ q w. early q (inside q (Contains-append_left (needs program i c a) (needs program i c b) q w))))
-            (expression_fits before c b r.right (as_child at site (tree.Binary o a b) b t of_right) r.right_is (suits_seen c (pace i.node b) suits.1)
+            (expression_fits before c b r.right (as_child t of_right) r.right_is suits.1
             (λ q w. early q (inside q (Contains-append_right (needs program i c a) (needs program i c b) q w))))
-        form_fits_too before c at site (tree.If a b d) k t is h early =
+        expression_fits before c (tree.Node at site (tree.If a b d)) k t is h early =
             let r = if_typed program i.node at site a b d k is in
             let first = suits_both c (seen (pace i.node a)) (meet (seen (pace i.node b)) (seen (pace i.node d))) h in
-            let rest = suits_both c (seen (pace i.node b)) (seen (pace i.node d)) first.1 in
+            let rest = suits_parts c (pace i.node b) (pace i.node d) first.1 in
             let last = needs program i c b ++ needs program i c d in
             let inside = λ (q : Sites) (w : Contains (needs program i c a ++ last) q). Contains-append_right (flow_of (absolute i c))
             (needs program i c a ++ last) q w in
-            and_from (fits s before (clock c) kind.Bool (flat_of program numbers i a)) _
-            (expression_fits before c a kind.Bool (as_child at site (tree.If a b d) a t of_condition) r.0 (suits_seen c (pace i.node a) first.0)
-            (λ q w. early q (inside q (Contains-append_left (needs program i c a) last q w))))
-            (and_from (fits s before (clock c) k (flat_of program numbers i b)) _
-            (expression_fits before c b k (as_child at site (tree.If a b d) b t of_first) r.1 (suits_seen c (pace i.node b) rest.0)
+            and_from _ _ (expression_fits before c a kind.Bool (as_child t of_condition) r.0 (suits_seen c (pace i.node a) first.0)
+            (λ q w. early q (inside q (Contains-append_left (needs program i c a) last q w)))) (and_from _ _
+            (expression_fits before c b k (as_child t of_first) r.1 rest.0
             (λ q w. early q (inside q (Contains-append_right (needs program i c a) last q
             (Contains-append_left (needs program i c b) (needs program i c d) q w)))))
-            (expression_fits before c d k (as_child at site (tree.If a b d) d t of_second) r.2 (suits_seen c (pace i.node d) rest.1)
+            (expression_fits before c d k (as_child t of_second) r.2 rest.1
             (λ q w. early q (inside q (Contains-append_right (needs program i c a) last q
             (Contains-append_right (needs program i c b) (needs program i c d) q w))))))
-        form_fits_too before c at site (tree.AtMostOne es) k t is h early =
+        expression_fits before c (tree.Node at site (tree.AtMostOne es)) k t is h early =
             let r = most_typed program i.node at site es k is in
-            and_from (same_kind k kind.Bool) _ (ap (λ (j : Kind). same_kind j kind.Bool) (sym r.1))
-            (all_fit_too before c es (λ j e arg. as_child at site (tree.AtMostOne es) e t (of_operand j arg)) r.0 h
+            and_from _ _ (ap (λ (j : Kind). same_kind j kind.Bool) (sym r.1)) (all_fit_too before c es (λ j e arg. as_child t (of_operand j arg)) r.0 h
             (λ q w. early q (Contains-append_right (flow_of (absolute i c)) (needs_all program i c es) q w)))
-        form_fits_too before c at site (tree.Call f args) k t is h early =
+        expression_fits before c (tree.Node at site (tree.Call f args)) k t is h early =
             let r = call_typed program i.node at site f args k is in
             let own : CallTree = record { at = at; site = unwrap_or site 0; name = f; args = args } in
             let called = own_call i.node at site f args t in
@@ -454,8 +387,7 @@ module _ (program : ProgramTree) (main : Identifier) (well : AreWell program) (n
         all_fit_too before c tree.None t is h early = refl
         all_fit_too before c (tree.More e es) t is h early =
             let suits = suits_both c (seen (pace i.node e)) (pace_of_all i.node es) h in
-            and_from (fits s before (clock c) kind.Bool (flat_of program numbers i e)) _
-            (expression_fits before c e kind.Bool (t 0 e head) (is 0 e head) (suits_seen c (pace i.node e) suits.0)
+            and_from _ _ (expression_fits before c e kind.Bool (t 0 e head) (is 0 e head) (suits_seen c (pace i.node e) suits.0)
             (λ q w. early q (Contains-append_left (needs program i c e) (needs_all program i c es) q w)))
             (all_fit_too before c es (λ j a arg. t (suc j) a (tail arg)) (λ j a arg. is (suc j) a (tail arg)) suits.1
             (λ q w. early q (Contains-append_right (needs program i c e) (needs_all program i c es) q w)))
@@ -488,7 +420,7 @@ module _ (program : ProgramTree) (main : Identifier) (well : AreWell program) (n
         let ks : List Kind = decl_kinds program (node_of program main).inputs in
         let k : Kind = get_or ks j kind.Bool in
         let e : slice_get ks j ≡ Some k = slice_get-get_or ks j kind.Bool
-        (let many = length-map (node_of program main).inputs (λ d. kind_in_program program d.kind) in omega (arith, lt, many)) in
+        (omega (arith, lt, length-map (node_of program main).inputs (λ d. kind_in_program program d.kind))) in
         record {
           kind = k;
           flow = subst (λ (q : Sites). HasFlow program main q k) at (main_input program main well named j k e);
@@ -507,8 +439,7 @@ module _ (program : ProgramTree) (main : Identifier) (well : AreWell program) (n
         let q : Sites = output_place program i c.site c.name j in
         let h : HasFlow program main q t.0 = output_flow program main well named i c j t.0 of called t.1 in
         let clock : Clock = clock_of_arguments i c.args in
-        let own = clock_taken program i.node (pace_of_all i.node c.args)
-        (paces_are_true program i.node (typed program main well named i of) c.args
+        let own = clock_taken program i.node (pace_of_all i.node c.args) (paces_are_true program i.node (typed program main well named i of) c.args
         (λ n a arg. let u = (typed program main well named i of).argument c n a called arg in (u.0, u.1))) in
         let flow = λ (r : Sites) (on : absolute i clock ≡ Some r). clock_flow program main well named i clock r of own on in
         record {
@@ -536,18 +467,6 @@ module _ (program : ProgramTree) (main : Identifier) (well : AreWell program) (n
         ((formed program main well named i of).argument_clock c j e called arg) early p
         (subst (λ (q : Sites). HasFlow program main q t.0) at (input_flow program main well named i c j t.0 of called t.2))
 
-    -- the number of a place of the sequence
-    place_number : (k : ℕ) → k < length numbers.flows → number (get_or numbers.flows k []) ≡ k
-    place_number k lt = its_number numbers.flows read.sequence.once k lt
-
-    -- what stands among the first has an earlier number
-    among_first : (k : ℕ) (qs : List Sites) → k < length numbers.flows → All (IsAmongFirst program main numbers.flows k) qs → (q : Sites) → Contains qs q
-        → IsFlow program main q → number q < k
-    among_first k qs lt all q w is =
-        let r = All-contains (IsAmongFirst program main numbers.flows k) qs q all w in
-        let same : number q ≡ r.0 = ap number (sym r.2) ∙ place_number r.0 (omega (arith, r.1, lt)) in
-        omega (arith, r.1, same)
-
     -- each flow
     flow_item_fits : (k : ℕ) (x : Item) → slice_get s.flows k ≡ Some x → item_fits s k (kind_at s.kinds k) x ≡ true
     flow_item_fits k x at =
@@ -556,20 +475,19 @@ module _ (program : ProgramTree) (main : Identifier) (well : AreWell program) (n
         let p : Sites = get_or numbers.flows k [] in
         let r = read.flow k lt in
         let is : x ≡ giver_item program numbers r.0 = sym (get_or_from_slice_get s.flows k x no_item at) ∙ r.2 in
-        let h = giver_fits k p r.0 r.1 (among_first k (needs_of program r.0) less (read.sequence.after k r.0 less r.1)) in
+        let h = giver_fits k p r.0 r.1
+        (among_first program main well named numbers s read k (needs_of program r.0) less (read.sequence.after k r.0 less r.1)) in
+        let same = place_number program main well named numbers s read k less in
         let kind_is : kind_at s.kinds k ≡ h.kind =
-        get_or_from_slice_get s.kinds k h.kind kind.Bool (ap (slice_get s.kinds) (sym (place_number k less)) ∙ kind_there p h.kind h.flow) in
-        and_from (clock_fits s k x.clock) (fits s k x.clock (kind_at s.kinds k) x.body)
-        (ap (λ (item : Item). clock_fits s k item.clock) is ∙ h.clock)
-        ((λ j. fits s k (is j).clock (kind_is j) (is j).body) ∙ h.body)
+        get_or_from_slice_get s.kinds k h.kind kind.Bool (ap (slice_get s.kinds) (sym same) ∙ kind_there p h.kind h.flow) in
+        and_from _ _ (ap (λ (item : Item). clock_fits s k item.clock) is ∙ h.clock) ((λ j. fits s k (is j).clock (kind_is j) (is j).body) ∙ h.body)
 
     flows_fit_from : (before : ℕ) (xs : List Item) → ((j : ℕ) (x : Item) → slice_get xs j ≡ Some x → slice_get s.flows (before + j) ≡ Some x)
         → flows_fit s before xs ≡ true
     flows_fit_from before [] from = refl
     flows_fit_from before (x ∷ xs) from =
         let here : before + 0 ≡ before = omega arith in
-        and_from (item_fits s before (kind_at s.kinds before) x) (flows_fit s (before + 1) xs)
-        (flow_item_fits before x (ap (slice_get s.flows) (sym here) ∙ from 0 x refl))
+        and_from _ _ (flow_item_fits before x (ap (slice_get s.flows) (sym here) ∙ from 0 x refl))
         (flows_fit_from (before + 1) xs (λ j g e. let next : (before + 1) + j ≡ before + suc j = omega arith in ap (slice_get s.flows) next ∙ from (suc j) g e))
 
     -- The flows fit.
@@ -584,38 +502,31 @@ module _ (program : ProgramTree) (main : Identifier) (well : AreWell program) (n
         let r = read.memories.only (as_listed x) (in_map as_listed s.memories x (m, lt, get_or_from_slice_get s.memories m x x at)) in
         let i : Instance = r.0 in
         let d : Delay = r.1 in
-        let at_place : get_or numbers.memories m [] ≡ delay_place i d =
-        ap (λ (l : List Sites). get_or l m []) read.memory_numbers
+        let at_place : get_or numbers.memories m [] ≡ delay_place i d = ap (λ (l : List Sites). get_or l m []) read.memory_numbers
         ∙ get_or_from_slice_get (memory_places s) m x.place [] (slice_get-map (λ (k : Kept). k.place) s.memories m ∙ ap (option_map (λ (k : Kept). k.place)) at)
         ∙ ap (λ (k : MemoryAt). k.place) r.5 in
         let own : index_of numbers.memories (delay_place i d) ≡ m = ap (index_of numbers.memories) (sym at_place)
-        ∙ its_number numbers.memories places_once m less in
+        ∙ number_of_place numbers.memories memories_rise m less in
         let is : x.item ≡ delay_item program numbers i d =
         sym (get_or_from_slice_get (memory_items s) m x.item no_item (slice_get-map (λ (k : Kept). k.item) s.memories m
-        ∙ ap (option_map (λ (k : Kept). k.item)) at))
-        ∙ ap (nth_item (memory_items s)) (sym own) ∙ read.memory i d r.2 r.4 in
+        ∙ ap (option_map (λ (k : Kept). k.item)) at)) ∙ ap (nth_item (memory_items s)) (sym own) ∙ read.memory i d r.2 r.4 in
         let t = some_is ((typed program main well named i r.2).delay d r.4) in
         let kind_is : x.kind ≡ t.0 = ap (λ (k : MemoryAt). k.kind) r.5 ∙ ap (λ (o : Option Kind). unwrap_or o kind.Bool) t.1 in
         let flow = own_clock i r.2 d.operand t.0 t.1 in
-        and_from (clock_fits s (length s.flows) x.item.clock) (fits s (length s.flows) x.item.clock x.kind x.item.body)
-        (ap (λ (item : Item). clock_fits s (length s.flows) item.clock) is
+        and_from _ _ (ap (λ (item : Item). clock_fits s (length s.flows) item.clock) is
         ∙ clock_fits_at i r.2 (length s.flows) (clock_in i Base d.operand) flow (λ q e. within q (flow_there (flow q e))))
         ((λ j. fits s (length s.flows) (is j).clock (kind_is j) (is j).body)
         ∙ expression_fits i r.2 (length s.flows) (taken_clock i Base d.operand) d.operand t.0 (operand_stands i.node d r.4) t.1
         ((formed program main well named i r.2).delay_clock d r.4) (λ q w e. within q e))
 
-    memories_fit_from : (done : ℕ) (ms : List Kept) → ((j : ℕ) (x : Kept) → slice_get ms j ≡ Some x → slice_get s.memories (done + j) ≡ Some x)
-        → memories_fit s ms ≡ true
-    memories_fit_from done [] from = refl
-    memories_fit_from done (x ∷ xs) from =
-        let here : done + 0 ≡ done = omega arith in
-        and_from (item_fits s (length s.flows) x.kind x.item) (memories_fit s xs)
-        (memory_item_fits done x (ap (slice_get s.memories) (sym here) ∙ from 0 x refl))
-        (memories_fit_from (done + 1) xs (λ j g e. let next : (done + 1) + j ≡ done + suc j = omega arith in ap (slice_get s.memories) next ∙ from (suc j) g e))
+    memories_fit_all : (ms : List Kept) → ((x : Kept) → Contains ms x → item_fits s (length s.flows) x.kind x.item ≡ true) → memories_fit s ms ≡ true
+    memories_fit_all [] each = refl
+    memories_fit_all (x ∷ xs) each = and_from _ _ (each x (at_head x xs))
+        (memories_fit_all xs (λ y w. each y (in_tail x xs y w)))
 
     -- The memories fit.
     pub all_memories_fit : memories_fit s s.memories ≡ true
-    all_memories_fit = memories_fit_from 0 s.memories (λ j x e. let same : 0 + j ≡ j = omega arith in ap (slice_get s.memories) same ∙ e)
+    all_memories_fit = memories_fit_all s.memories (λ x w. memory_item_fits w.0 x (slice_get-get_or s.memories w.0 x w.1 ∙ ap Some w.2))
 
     -- each assertion
     assertion_fits : (k : ℕ) (x : Item) → slice_get s.assertions k ≡ Some x → item_fits s (length s.flows) kind.Bool x ≡ true
@@ -625,26 +536,20 @@ module _ (program : ProgramTree) (main : Identifier) (well : AreWell program) (n
         let t : IsTyped program i.node r.1.body kind.Bool = (typed program main well named i r.2).assertion r.1 r.3 in
         let is : x ≡ assertion_item program numbers i r.1 = sym (get_or_from_slice_get s.assertions k x no_item at) ∙ r.4 in
         let flow = own_clock i r.2 r.1.body kind.Bool t in
-        and_from (clock_fits s (length s.flows) x.clock) (fits s (length s.flows) x.clock kind.Bool x.body)
-        (ap (λ (item : Item). clock_fits s (length s.flows) item.clock) is
+        and_from _ _ (ap (λ (item : Item). clock_fits s (length s.flows) item.clock) is
         ∙ clock_fits_at i r.2 (length s.flows) (clock_in i Base r.1.body) flow (λ q e. within q (flow_there (flow q e))))
         ((λ j. fits s (length s.flows) (is j).clock kind.Bool (is j).body)
         ∙ expression_fits i r.2 (length s.flows) (taken_clock i Base r.1.body) r.1.body kind.Bool (as_assertion r.1 r.3) t
         ((formed program main well named i r.2).assertion_clock r.1 r.3) (λ q w e. within q e))
 
-    assertions_fit_from : (done : ℕ) (xs : List Item) → ((j : ℕ) (x : Item) → slice_get xs j ≡ Some x → slice_get s.assertions (done + j) ≡ Some x)
-        → assertions_fit s xs ≡ true
-    assertions_fit_from done [] from = refl
-    assertions_fit_from done (x ∷ xs) from =
-        let here : done + 0 ≡ done = omega arith in
-        and_from (item_fits s (length s.flows) kind.Bool x) (assertions_fit s xs)
-        (assertion_fits done x (ap (slice_get s.assertions) (sym here) ∙ from 0 x refl))
-        (assertions_fit_from (done + 1) xs (λ j g e. let next : (done + 1) + j ≡ done + suc j = omega arith in ap (slice_get s.assertions) next
-        ∙ from (suc j) g e))
+    assertions_fit_all : (xs : List Item) → ((x : Item) → Contains xs x → item_fits s (length s.flows) kind.Bool x ≡ true) → assertions_fit s xs ≡ true
+    assertions_fit_all [] each = refl
+    assertions_fit_all (x ∷ xs) each = and_from _ _ (each x (at_head x xs))
+        (assertions_fit_all xs (λ y w. each y (in_tail x xs y w)))
 
     -- The assertions fit.
     pub all_assertions_fit : assertions_fit s s.assertions ≡ true
-    all_assertions_fit = assertions_fit_from 0 s.assertions (λ j x e. let same : 0 + j ≡ j = omega arith in ap (slice_get s.assertions) same ∙ e)
+    all_assertions_fit = assertions_fit_all s.assertions (λ x w. assertion_fits w.0 x (slice_get-get_or s.assertions w.0 x w.1 ∙ ap Some w.2))
 
     -- the flow of a tick is Boolean
     tick_flow : (q : Sites) → Contains numbers.ticks q → HasFlow program main q kind.Bool
@@ -659,8 +564,7 @@ module _ (program : ProgramTree) (main : Identifier) (well : AreWell program) (n
     ticks_fit [] into = refl
     ticks_fit (q ∷ qs) into =
         let h = tick_flow q (into q (at_head q qs)) in
-        and_from (nat_lt (number q) (length s.flows) && is_of kind.Bool (slice_get s.kinds (number q))) (clocks_fit s (map (λ q. Some (number q)) qs))
-        (and_from (nat_lt (number q) (length s.flows)) (is_of kind.Bool (slice_get s.kinds (number q)))
+        and_from _ _ (and_from _ _
         (less_told (number q) (length s.flows) (within q (flow_there h))) (ap (is_of kind.Bool) (kind_there q kind.Bool h) ∙ kind_itself kind.Bool))
         (ticks_fit qs (λ p w. into p (in_tail q qs p w)))
 

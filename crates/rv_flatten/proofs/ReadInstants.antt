@@ -13,9 +13,9 @@ use Rattle.rv_types.specs.Instances.{Body, Output, Instance, place, absolute, cl
 use Rattle.rv_types.specs.Needs.{Giver, Given, Of, Gives, given, by_equation, by_call}
 use Rattle.rv_types.specs.{declared.typed.Clock.Clock, declared.typed.Clock.TheVariants.Base, declared.typed.Kind.Kind, Lists.delay_place, WellFormed.AreWell}
 use Rattle.rv_types.specs.declared.typed.Kind.TheVariants as kind
-use Rattle.rv_meaning.specs.Meaning.{Cells, is_there, held, is_on, is_true}
+use Rattle.rv_meaning.specs.Meaning.{held, is_on, is_true}
 use Rattle.rv_meaning.specs.Instants.{State as Brought, is_on_in, now, value_now, right_now, IsInstant, IsNext}
-use Rattle.rv_meaning.specs.{Runs.Instant, Runs.flat, Runs.cell, Givers.AreDefined, Givers.expected}
+use Rattle.rv_meaning.specs.{Runs.Instant, Runs.flat, Runs.cell, Givers.AreDefined}
 use Rattle.rv_instances.specs.Weights.{weight, AreLight}
 use Rattle.rv_agreement.specs.Translation.{Numbers, clock_number, tick_number, flat_of, giver_item, IsTranslated}
 use Rattle.rv_agreement.specs.{Evaluation.form_value, Evaluation.integers, Programs.found_of, Trees.FlatTree, Trees.Item}
@@ -30,7 +30,7 @@ use Rattle.rv_flat.specs.RawTree as raw
 use Rattle.rv_flatten.specs.Readings.{IsRead, presence, assertion_of, no_assumption}
 use Rattle.rv_flatten.proofs.Standing.{Stands, body_stands, as_assertion, argument_stands, operand_stands}
 use Rattle.rv_flatten.proofs.Translated.{AreAlike, is_translated, memory_is, whole_shown, mapped_at, memory_there}
-use Rattle.rv_flatten.proofs.{AgreedLaws.Laws, NamedParts.names_in, NamedParts.products_in, WellInstances.is_light}
+use Rattle.rv_flatten.proofs.{AgreedLaws.Laws, ItemClocks.clock_is, NamedParts.names_in, NamedParts.products_in, WellInstances.is_light}
 use Rattle.rv_flat.proofs.PlaceNumbers.{made_at, row_agrees, instant_agrees, instant_places}
 use Rattle.rv_flat.proofs.{TypedParts.some_is, TypedParts.IsTyped, Typing.value_kth}
 use Rattle.rv_agreement.proofs.Meanings.{held_same, on_same}
@@ -123,8 +123,7 @@ module _ (laws : Laws) (program : ProgramTree) (main : Identifier) (well : AreWe
         reads i e k of s t =
             laws.whole program numbers (found_at here (flat_inputs f inputs)) row (found_of state inputs) (cell instant) agrees i e
             (names_in program main well named (λ q. get_or here.kept (index_of numbers.memories q) (Flag false) ≡ state.kept q)
-            (λ u. get_or here.ticked (tick_number numbers u) false ≡ state.ticked u) (λ j x. Unit {0})
-            remembers ticks (λ j x v w. tt) i of e k s t)
+            (λ u. get_or here.ticked (tick_number numbers u) false ≡ state.ticked u) (λ j x. Unit {0}) remembers ticks (λ j x v w. tt) i of e k s t)
             ∙ laws.meaning program state inputs instant i e (products_in program main weights.0 light state instant i of e k s t)
 
         -- an expression on a clock
@@ -149,7 +148,7 @@ module _ (laws : Laws) (program : ProgramTree) (main : Identifier) (well : AreWe
         flow_read : (k : ℕ) → k < length f.flows → (g : Giver) × Gives program main (get_or (places f) k []) g
             × (masked (nth_item (flow_items f) k) ≡ expected_now program state inputs instant g)
         flow_read k lt =
-            let r = translated.flow k (let a = translated.many in omega (arith, lt, a, flow_count)) in
+            let r = translated.flow k (omega (arith, lt, translated.many, flow_count)) in
             (r.0, r.1, ap masked r.2 ∙ giver_read (get_or (places f) k []) r.0 r.1)
 
       -- Each instant of the program is one of the flat system.
@@ -201,8 +200,7 @@ module _ (laws : Laws) (program : ProgramTree) (main : Identifier) (well : AreWe
               ∙ (λ j. sym (each state) j || sym (ap (is_on_at row_here) (get_or-map (λ p. Some (index_of (places f) p)) ps k [] Nothing less)
               ∙ on_here (Some p)) j)
 
-          memory_next : (m : ℕ) → m < length f.memories
-              → get_or (flat_state f next).kept m (Flag false)
+          memory_next : (m : ℕ) → m < length f.memories → get_or (flat_state f next).kept m (Flag false)
               ≡ cond (is_on_at row_here (nth_item (memory_items f) m).clock) (value_at here (flat_inputs f inputs) row_here (nth_item (memory_items f) m).body)
               (get_or here.kept m (Flag false))
           memory_next m lt =
@@ -215,18 +213,16 @@ module _ (laws : Laws) (program : ProgramTree) (main : Identifier) (well : AreWe
               let t = some_is ((typed program main well named i r.2).delay d r.3) in
               each next ∙ is_next.memories i d r.2 r.3
               ∙ sym (ap (λ item. cond (is_on_at row_here item.clock) (value_at here (flat_inputs f inputs) row_here item.body)
-              (get_or here.kept m (Flag false)))
-              (memory_is program main f.flows f.memories f.inputs f.variables f.assertions read table alike m lt)
+              (get_or here.kept m (Flag false))) (memory_is program main f.flows f.memories f.inputs f.variables f.assertions read table alike m lt)
               ∙ (λ j. cond (on_here (clock_in i Base d.operand) j) (reads row_here instant agrees_here i d.operand t.0 r.2 (operand_stands i.node d r.3) t.1 j)
               (each state j)))
 
           pub next_read : IsFlatNext f here (flat_inputs f inputs) row_here (flat_state f next)
           next_read = record {
-            ticks = (let a = length-map (tick_places f.variables) (λ p. Some (index_of (places f) p)) in
-                let b = length-map (map (λ p. Some p) (tick_places f.variables)) next.ticked in
-                let c : length (map (λ (p : Sites). Some p) (tick_places f.variables)) ≡ length (tick_places f.variables) = length-map (tick_places f.variables)
-                (λ p. Some p) in
-                omega (arith, a, b, c));
+            ticks = (let many : length (map (λ (p : Sites). Some p) (tick_places f.variables)) ≡ length (tick_places f.variables) =
+                length-map (tick_places f.variables) (λ p. Some p) in
+                let clocks = length-map (tick_places f.variables) (λ p. Some (index_of (places f) p)) in
+                omega (arith, clocks, length-map (map (λ p. Some p) (tick_places f.variables)) next.ticked, many));
             ticked = tick_next;
             memories = length-map (memory_places f) next.kept ∙ memory_count;
             kept = memory_next;
@@ -249,12 +245,10 @@ module _ (laws : Laws) (program : ProgramTree) (main : Identifier) (well : AreWe
             (is_on_in instant (clock_in i Base a.body)) (now program state instant i a.body) (Flag true)
         assertion_read i a of w =
             ap (value_at here (flat_inputs f inputs) (row_of (places f) instant))
-            (whole_shown program main f.flows f.memories f.inputs f.variables f.assertions read table alike i of a w)
-            ∙ (λ j. cond
+            (whole_shown program main f.flows f.memories f.inputs f.variables f.assertions read table alike i of a w) ∙ (λ j. cond
             (present (row_of (places f) instant) instant agrees_here (clock_in i Base a.body) j)
             (reads (row_of (places f) instant) instant agrees_here i a.body kind.Bool of (as_assertion a w) ((typed program main well named i of).assertion a w)
-            j)
-            (Flag true))
+            j) (Flag true))
 
         -- the whole expression of the assertion with a number
         tree_is : (k : ℕ) → k < length f.assertions → get_or (assertion_trees f) k no_assertion ≡ shown (get_or (map raw_tree f.assertions) k no_assumption)
@@ -270,14 +264,11 @@ module _ (laws : Laws) (program : ProgramTree) (main : Identifier) (well : AreWe
                 let r = read.asserts i a of w in
                 let here_is : get_or (map raw_tree f.assertions) r.0 no_assumption ≡ assertion_of program numbers i a = get_or_default
                 (map raw_tree f.assertions) r.0 no_assumption (assertion_of program numbers i a) r.1 ∙ r.2 in
-                let lt : r.0 < length f.assertions = let many = length-map f.assertions raw_tree in omega (arith, r.1, many) in (
-                  r.0,
-                  lt,
-                  at ∙ sym (place_at f.assertions r.0 lt ∙ ap root here_is),
-                  ap (λ e. is_true (value_at here (flat_inputs f inputs) (row_of (places f) instant) e)) (tree_is r.0 lt ∙ ap shown here_is)
-                      ∙ ap is_true (assertion_read i a of w)
-                      ∙ both_broken (is_on_in instant (clock_in i Base a.body)) (now program state instant i a.body) v value broken,
-                )
+                let lt : r.0 < length f.assertions = omega (arith, r.1, length-map f.assertions raw_tree) in
+                let is_false = ap (λ e. is_true (value_at here (flat_inputs f inputs) (row_of (places f) instant) e)) (tree_is r.0 lt ∙ ap shown here_is)
+                ∙ ap is_true (assertion_read i a of w)
+                ∙ both_broken (is_on_in instant (clock_in i Base a.body)) (now program state instant i a.body) v value broken in
+                (r.0, lt, at ∙ sym (place_at f.assertions r.0 lt ∙ ap root here_is), is_false)
 
             back : IsFlatBroken f here (flat_inputs f inputs) (row_of (places f) instant) q → IsBroken program main state instant q
             back (k, lt, at, broken) =
@@ -316,41 +307,25 @@ module _ (laws : Laws) (program : ProgramTree) (main : Identifier) (well : AreWe
         told_flow : (p : Sites) → is_among (places f) p ≡ true → IsFlow program main p
         told_flow p e = let at = index_there (places f) p e in subst (IsFlow program main) at.1 (read.sequence.only (index_of (places f) p) at.0)
 
-        -- the same instant at all times
-        abbrev always : Cells
-        always t p = cell instant p
-
-        on_always : (k : Option Sites) → is_there always k 0 ≡ is_on_in instant k
-        on_always Nothing = refl
-        on_always (Some q) = refl
-
-        masked_alike : (b c : Bool) (v w : Value) → b ≡ c → IsSome (cond b (Some v) Nothing) → IsSome (cond c (Some w) Nothing)
-        masked_alike b c v w e h = by b c e h
-          where
-            by : (b c : Bool) → b ≡ c → IsSome (cond b (Some v) Nothing) → IsSome (cond c (Some w) Nothing)
-            by b true e h = refl
-            by true false e h = no_flag (sym e)
-            by false false e h = h
-
-        -- a giver gives something at this instant where it does so in that history
-        gives_alike : (g : Giver) → IsSome (expected_now program state inputs instant g) ↔ IsSome (expected program (λ p. Flag false) (λ t. inputs) g always 0)
-        gives_alike (Given j) = (λ h. refl, λ h. refl)
-        gives_alike (Of i k (Body e)) = (masked_alike _ _ _ _ (sym (on_always (clock_in i k e))), masked_alike _ _ _ _ (on_always (clock_in i k e)))
-        gives_alike (Of i k (Output c j)) = (
-          masked_alike _ _ _ _ (sym (on_always (absolute i (clock_of_arguments i c.args)))),
-          masked_alike _ _ _ _
-              (on_always (absolute i (clock_of_arguments i c.args))),
-        )
+        -- what is masked by its clock is there with that
+        some_masked : (b : Bool) (v : Value) → IsSome (cond b (Some v) Nothing) ↔ (b ≡ true)
+        some_masked true v = (λ h. refl, λ h. refl)
+        some_masked false v = (λ h. h, λ h. h)
 
         clocked_there : (i : Instance) (x : Identifier) → IsInstance program main i → Contains (flows i.node) x
             → IsSome (cell instant (place i x)) ↔ (is_on_in instant (absolute i (clock_of i.node x)) ≡ true)
         clocked_there i x of w =
-            let g = defined.complete (place i x) (i, x, of, w, refl) in
-            let c = defined.clocked i x g.0 (λ p. Flag false) (λ t. inputs) always 0 of w g.1 in
-            let has = given_there (place i x) g.0 g.1 in (
-              λ h. sym (on_always (absolute i (clock_of i.node x))) ∙ c.0 ((gives_alike g.0).0 (subst IsSome has h)),
-              λ h. subst IsSome (sym has) ((gives_alike g.0).1 (c.1 (on_always (absolute i (clock_of i.node x)) ∙ h))),
-            )
+            let q : Sites = place i x in
+            let k : ℕ = index_of (places f) q in
+            let lt : k < length f.flows = omega (arith, (index_there (places f) q (is_flow_there q (i, x, of, w, refl))).0, flow_count) in
+            let item : Item = nth_item (flow_items f) k in
+            let v : Value = value_at here (flat_inputs f inputs) row item.body in
+            let filled : cell instant q ≡ cond (is_on_at row item.clock) (Some v) Nothing = sym (agrees_there q) ∙ is.holds k lt in
+            let there = some_masked (is_on_at row item.clock) v in
+            let on_clock : is_on_at row item.clock ≡ is_on_in instant (absolute i (clock_of i.node x)) =
+            ap (is_on_at row) (clock_is program main well named numbers (system_of f) translated i x of w)
+            ∙ on row instant agrees_there (absolute i (clock_of i.node x)) in
+            (λ h. sym on_clock ∙ there.0 (subst IsSome filled h), λ h. subst IsSome (sym filled) (there.1 (on_clock ∙ h)))
 
         pub row_read : IsInstant program main state inputs (instant_of (places f) row)
         row_read = record {

@@ -1,15 +1,14 @@
 -- What is told of givers, memories and assertions of instances, as far as flat items need it.
-use Rattle.std.proofs.Common.{◌≡◌, ℕ, suc, ◌+◌, ◌<◌, ◌≤◌, Bool, true, false, ◌||◌, cond, List, [], ◌∷◌, map, length, get_or, refl, sym, ◌∙◌, ap, subst, arith}
-use Rattle.std.proofs.Common.{length-append, unwrap_or, Some, IsSome}
+use Rattle.std.proofs.Common.{◌≡◌, ℕ, ◌+◌, ◌<◌, ◌≤◌, List, length, refl, sym, ◌∙◌, ap, subst, arith, length-append, IsSome}
 use Rattle.std.proofs.{lemmas.List.length-map, lemmas.Option.slice_get_within}
 use Rattle.std.specs.List.{Contains}
-use Rattle.rv_tree.specs.Places.{Identifier, Sites, flows as flows_of, is_among, is_same, index_of, site_of}
+use Rattle.rv_tree.specs.Places.{Identifier, Sites, flows as flows_of, site_of}
 use Rattle.rv_tree.specs.{Tree.Tree, Tree.NodeTree, Tree.ProgramTree, Bounded.most}
-use Rattle.rv_types.specs.Instances.{CallTree, calls, Right, Body, Output, Instance, clock_taken as taken_clock, clock_of, clock_of_args, node_of, no_node}
-use Rattle.rv_types.specs.Instances.{callee, IsInstance, is_main, is_callee, IsNode}
-use Rattle.rv_types.specs.Needs.{Given, Of, Gives, by_equation, by_call}
+use Rattle.rv_types.specs.Instances.{CallTree, calls, Right, Body, Output, Instance, clock_taken as taken_clock, clock_of, clock_of_args, node_of}
+use Rattle.rv_types.specs.Instances.{callee, IsInstance, is_callee, IsNode}
+use Rattle.rv_types.specs.Needs.{Of, Gives, by_equation, by_call}
 use Rattle.rv_types.specs.{declared.typed.Clock.Clock, declared.typed.Clock.TheVariants.Base, declared.typed.Clock.TheVariants.On, Clocks.pace}
-use Rattle.rv_types.specs.{Clocks.pace_of_all, Kinds.decl_kinds, Kinds.kind_in_program, Kinds.node_among, Kinds.node_named, Names.texts, Settled.node_number}
+use Rattle.rv_types.specs.{Clocks.pace_of_all, Kinds.decl_kinds, Kinds.kind_in_program}
 use Rattle.rv_types.specs.{Types.kind_of, Scopes.node_scope, Scopes.constant_value, ValueTables.value_by, Variables.node_parts, WellFormed.AreWell}
 use Rattle.rv_instances.specs.{declared.answer.Instance.Instance as Numbered, declared.givers.BodyOf.BodyOf, declared.givers.OutputOf.OutputOf}
 use Rattle.rv_instances.specs.{declared.reader.Reader.Reader, Expanded.IsExpanded, Expanded.IsKnown, Expanded.program_of, Expanded.main_of, Layouts.IsLayout}
@@ -20,39 +19,9 @@ use Rattle.rv_flatten.specs.{declared.frame.Frame.Frame, Frames.IsFrame, Frames.
 use Rattle.rv_agreement.specs.Translation.{Numbers}
 use Rattle.rv_flatten.proofs.{Standing.stands_in, Standing.body_stands, Standing.argument_stands, Standing.output_call, ClockKinds.IsTrueClock}
 use Rattle.rv_flatten.proofs.{ClockKinds.clock_taken, ClockKinds.clock_is_true, ClockKinds.paces_are_true, ReadTables.clock_known, MainNames.is_node}
-use Rattle.rv_meaning.proofs.{Acceptable.suits_taken, Acceptable.node_in, Acceptable.formed, Acceptable.typed, NameLemmas.same_text}
-use Rattle.rv_types.proofs.ChainLaws.{no_flag}
-
--- The number of a node that is there.
-known_name : (ns : List NodeTree) (f : Identifier) → IsSome (node_among ns f) → (unwrap_or (node_among ns f) no_node).name.text ≡ f
-known_name [] f some = no_flag some
-known_name (n ∷ ns) f some = by (is_same n.name.text f) refl some (known_name ns f)
-  where
-    by : (b : Bool) → is_same n.name.text f ≡ b → IsSome (cond b (Some n) (node_among ns f))
-        → (IsSome (node_among ns f) → (unwrap_or (node_among ns f) no_node).name.text ≡ f)
-        → (unwrap_or (cond b (Some n) (node_among ns f)) no_node).name.text ≡ f
-    by true e some again = same_text n.name.text f e
-    by false e some again = again some
-
-number_known : (ns : List NodeTree) (f : Identifier) → IsSome (node_among ns f)
-    → get_or ns (index_of (texts (map (λ n. n.name) ns)) f) no_node ≡ unwrap_or (node_among ns f) no_node
-number_known [] f some = no_flag some
-number_known (n ∷ ns) f some = by (is_same n.name.text f) (index_of (texts (map (λ n. n.name) ns)) f) some (number_known ns f)
-  where
-    by : (b : Bool) (at : ℕ) → IsSome (cond b (Some n) (node_among ns f))
-        → (IsSome (node_among ns f) → get_or ns at no_node ≡ unwrap_or (node_among ns f) no_node)
-        → get_or (n ∷ ns) (cond b 0 (at + 1)) no_node ≡ unwrap_or (cond b (Some n) (node_among ns f)) no_node
-    by true at some again = refl
-    by false at some again = let next : at + 1 ≡ suc at = omega arith in ap (λ k. get_or (n ∷ ns) k no_node) next ∙ again some
-
-some_named : (ns : List NodeTree) (f : Identifier) → is_among (texts (map (λ n. n.name) ns)) f ≡ true → IsSome (node_among ns f)
-some_named [] f e = no_flag e
-some_named (n ∷ ns) f e = by (is_same n.name.text f) e (some_named ns f)
-  where
-    by : (b : Bool) → (b || is_among (texts (map (λ n. n.name) ns)) f) ≡ true → (is_among (texts (map (λ n. n.name) ns)) f ≡ true → IsSome (node_among ns f))
-        → IsSome (cond b (Some n) (node_among ns f))
-    by true e again = refl
-    by false e again = again e
+use Rattle.rv_instances.proofs.ExpandedLaws.{node_is}
+use Rattle.rv_types.proofs.Suiting.{suits_taken}
+use Rattle.rv_meaning.proofs.{Acceptable.node_in, Acceptable.formed, Acceptable.typed}
 
 module _ (p : ProgramTree) (main : Identifier) (instances : List Numbered) (known : IsExpanded p main instances) where
   abbrev well : AreWell p
@@ -60,17 +29,6 @@ module _ (p : ProgramTree) (main : Identifier) (instances : List Numbered) (know
 
   is_named : IsNode p main
   is_named = is_node p main known.declared
-
-  -- the node of an instance by its number
-  numbered_node : (f : Identifier) → IsSome (node_named p f) → get_or p.nodes (node_number p (node_of p f).name.text) no_node ≡ node_of p f
-  numbered_node f some = ap (λ g. get_or p.nodes (node_number p g) no_node) (known_name p.nodes f some) ∙ number_known p.nodes f some
-
-  instance_node : (i : Instance) → IsInstance p main i → get_or p.nodes (node_number p i.node.name.text) no_node ≡ i.node
-  instance_node _ is_main = numbered_node main (some_named p.nodes main known.declared)
-  instance_node _ (is_callee {i = i} c of there) = numbered_node c.name ((formed p main well is_named i of).known c there)
-
-  pub node_is : (m : ℕ) (i : Instance) → IsInstance p main i → IsNumberOf p instances m i → node_at p instances m ≡ i.node
-  node_is m i of number = ap (λ (x : Numbered). get_or p.nodes x.node no_node) number.1 ∙ instance_node i of
 
   -- the clock of a giver
   pub giver_clock : (q : Sites) (i : Instance) (k : Clock) (r : Right) → Gives p main q (Of i k r) → IsInstance p main i × IsTrueClock p i.node k
@@ -116,56 +74,45 @@ module _ (p : ProgramTree) (main : Identifier) (instances : List Numbered) (know
 
   -- it is one of few
   pub output_few : (o : OutputOf) → IsGiver p main instances (told.Output o) → o.output < most
-  output_few o (q, Given j, gives, stands) = absurd stands
-  output_few o (q, Of i k (Body e), gives, stands) = absurd stands
   output_few o (q, Of i k (Output c j), gives, stands) =
-      let r = output_given q i k c j gives in
-      let of = (giver_clock q i k (Output c j) gives).0 in
+      let r = output_given q i k c j gives in let of = (giver_clock q i k (Output c j) gives).0 in
       let few = known.bounded.node_flows (node_of p c.name) (node_in p main well is_named (callee p i c) (is_callee c of r.there)) in
-      let many = outputs_few (node_of p c.name) in
-      let lt = r.within in
-      let same = stands.3 in
-      omega (arith, few, many, lt, same)
+      omega (arith, few, outputs_few (node_of p c.name), r.within, stands.3)
     where
       outputs_few : (n : NodeTree) → length n.outputs ≤ length (flows_of n)
       outputs_few n = let many : length (flows_of n) ≡ length n.inputs + length n.outputs + length n.locals = simp (length-append, length-map) in
           omega (arith, many)
+  output_few o (q, _, gives, stands) = absurd stands
 
   -- the number of an instance that is told is one
   pub body_instance : (b : BodyOf) → IsGiver p main instances (told.Body b) → b.instance < length instances
-  body_instance b (q, Given j, gives, stands) = absurd stands
-  body_instance b (q, Of i k (Output c j), gives, stands) = absurd stands
   body_instance b (q, Of i k (Body e), gives, stands) = stands.0.0
+  body_instance b (q, _, gives, stands) = absurd stands
 
   pub output_instance : (o : OutputOf) → IsGiver p main instances (told.Output o) → o.instance < length instances
-  output_instance o (q, Given j, gives, stands) = absurd stands
-  output_instance o (q, Of i k (Body e), gives, stands) = absurd stands
   output_instance o (q, Of i k (Output c j), gives, stands) = stands.0.0
+  output_instance o (q, _, gives, stands) = absurd stands
 
   -- the number of the flow of a clock has 32 bits
   clock_within : (r : Reader) (n : NodeTree) (k : Clock) → IsReader r → node_read r ≡ n → IsTrueClock p n k → IsWithin (numbers_of r).offset k
   clock_within r n Base reads is t = tt
-  clock_within r n (On s) reads is t =
-      let lt = clock_known p n s t in
-      let room = reads.room in
-      let same = ap (λ m. length (flows_of m)) is in
-      omega (arith, lt, room, same)
+  clock_within r n (On s) reads is t = omega (arith, clock_known p n s t, reads.room, ap (λ m. length (flows_of m)) is)
 
   pub body_within : (r : Reader) (b : BodyOf) → IsReader r → node_read r ≡ node_at p instances b.instance → IsGiver p main instances (told.Body b)
       → IsWithin (numbers_of r).offset b.clock
-  body_within r b reads is (q, Given j, gives, stands) = absurd stands
-  body_within r b reads is (q, Of i k (Output c j), gives, stands) = absurd stands
   body_within r b reads is (q, Of i k (Body e), gives, stands) =
       let g = giver_clock q i k (Body e) gives in
-      subst (IsWithin (numbers_of r).offset) (sym stands.1) (clock_within r i.node k reads (is ∙ node_is b.instance i g.0 stands.0) g.1)
+      subst (IsWithin (numbers_of r).offset) (sym stands.1)
+      (clock_within r i.node k reads (is ∙ node_is p main instances known b.instance i g.0 stands.0.1) g.1)
+  body_within r b reads is (q, _, gives, stands) = absurd stands
 
   pub output_within : (r : Reader) (o : OutputOf) → IsReader r → node_read r ≡ node_at p instances o.instance → IsGiver p main instances (told.Output o)
       → IsWithin (numbers_of r).offset o.clock
-  output_within r o reads is (q, Given j, gives, stands) = absurd stands
-  output_within r o reads is (q, Of i k (Body e), gives, stands) = absurd stands
   output_within r o reads is (q, Of i k (Output c j), gives, stands) =
       let g = giver_clock q i k (Output c j) gives in
-      subst (IsWithin (numbers_of r).offset) (sym stands.1) (clock_within r i.node k reads (is ∙ node_is o.instance i g.0 stands.0) g.1)
+      subst (IsWithin (numbers_of r).offset) (sym stands.1)
+      (clock_within r i.node k reads (is ∙ node_is p main instances known o.instance i g.0 stands.0.1) g.1)
+  output_within r o reads is (q, _, gives, stands) = absurd stands
 
 -- A frame that is made of what is known.
 pub is_frame : (numbers : Numbers) (i : Instance) (x : Frame) → IsKnown x.expanded.now → AreLight (program_of x.expanded.now) (main_of x.expanded.now)
@@ -183,9 +130,9 @@ is_frame numbers i x known light of number reads node scope layout values number
   instance = of;
   number = number;
   reader = reads;
-  node = node ∙ node_is (program_of x.expanded.now) (main_of x.expanded.now) x.expanded.now.instances.now known.expanded x.reader.instance i of number;
+  node = node ∙ node_is (program_of x.expanded.now) (main_of x.expanded.now) x.expanded.now.instances.now known.expanded x.reader.instance i of number.1;
   scope = scope ∙ ap (node_scope (program_of x.expanded.now)) (node_is (program_of x.expanded.now) (main_of x.expanded.now) x.expanded.now.instances.now
-      known.expanded x.reader.instance i of number);
+      known.expanded x.reader.instance i of number.1);
   layout = layout;
   values = values;
   numbering = numbering;

@@ -1,5 +1,5 @@
 -- The tables of the flows of nodes, and those of instances.
-use Rattle.std.proofs.Common.{◌≡◌, ℕ, ◌<◌, List, map, length, get_or, sym, ◌∙◌, ap, subst, arith, slice_get, Some}
+use Rattle.std.proofs.Common.{◌≡◌, ℕ, ◌<◌, List, length, get_or, sym, ◌∙◌, ap, subst, arith, slice_get, Some}
 use Rattle.std.proofs.{lemmas.List.length-map, lemmas.List.get_or-map, lemmas.Option.get_or_from_slice_get}
 use Rattle.rv_tree.specs.Tree.{ProgramTree}
 use Rattle.rv_types.specs.{declared.reading.NodeTables.NodeTables, declared.reading.ProgramTables.ProgramTables, Instances.no_node, Scopes.node_scope}
@@ -21,17 +21,10 @@ module _ (x : Expanded) (known : IsKnown x) (tables : ProgramTables) (owns : Lis
 
   -- the node of an instance is one of those
   pub own_within : v.node < length owns
-  own_within =
-      let h = node_in in
-      let many = length-map owns (scope_by tables) in
-      let other = length-map p.nodes (node_scope p) in
-      let same = ap length are in
-      omega (arith, h, many, other, same)
+  own_within = omega (arith, node_in, length-map owns (scope_by tables), length-map p.nodes (node_scope p), ap length are)
 
   pub own_read : (n : NodeTables) → slice_get owns v.node ≡ Some n → scope_by tables n ≡ node_scope p (node_at p x.instances.now m)
   own_read n at =
-      ap (scope_by tables) (sym (get_or_from_slice_get owns v.node n n at))
-      ∙ sym (made_of (scope_by tables) owns v.node n)
-      ∙ ap (λ (l : List Scope). get_or l v.node (scope_by tables n)) are
-      ∙ get_or-map (node_scope p) p.nodes v.node no_node (scope_by tables n) node_in
+      ap (scope_by tables) (sym (get_or_from_slice_get owns v.node n n at)) ∙ sym (made_of (scope_by tables) owns v.node n)
+      ∙ ap (λ (l : List Scope). get_or l v.node (scope_by tables n)) are ∙ get_or-map (node_scope p) p.nodes v.node no_node (scope_by tables n) node_in
       ∙ ap (λ (i : Numbered). node_scope p (get_or p.nodes i.node no_node)) (sym (get_or_from_slice_get x.instances.now m v no_instance is))

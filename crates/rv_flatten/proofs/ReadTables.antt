@@ -3,7 +3,7 @@ use Rattle.std.proofs.Common.{◌≡◌, ℕ, suc, ◌+◌, ◌<◌, min, Bool, 
 use Rattle.std.proofs.Common.{unwrap_or, Option, Some, IsSome, None as Nothing}
 use Rattle.std.proofs.{lemmas.List.length-map, lemmas.Option.slice_get_within}
 use Rattle.std.specs.List.{Contains}
-use Rattle.rv_tree.specs.Tree.{Tree, Form, Trees, NodeTree, ProgramTree, tree_of, trees}
+use Rattle.rv_tree.specs.Tree.{Tree, Trees, NodeTree, ProgramTree, tree_of, trees}
 use Rattle.rv_tree.specs.Places.{Identifier, Sites, flows as flows_of, is_flow, site_of, index_of, memory_site}
 use Rattle.rv_tree.specs.{declared.tree.Op.Op, declared.tree.Expr.Expr, Delays.node_delays}
 use Rattle.rv_tree.specs.declared.tree.Op.TheVariants as op
@@ -11,29 +11,28 @@ use Rattle.rv_tree.specs.Tree as tree
 use Rattle.rv_types.specs.Instances.{CallTree, calls, Instance, place, absolute, clock_in, taken, output_place, node_of, IsNode, IsArgument, head, tail}
 use Rattle.rv_types.specs.{declared.typed.Kind.Kind, declared.typed.Clock.Clock, declared.typed.Clock.TheVariants.Base, declared.typed.Clock.TheVariants.On}
 use Rattle.rv_types.specs.{declared.weighing.Weighed.Weighed, declared.fault.Pace.Pace, Clocks.pace, ToldPaces.IsTimed, ToldPaces.told_pace, Kinds.decl_kinds}
-use Rattle.rv_types.specs.{Kinds.flow_kind, Kinds.flow_kinds, Kinds.kind_in_program, Types.kind_in, Types.kind_of, Types.both_are, Types.binary_rule}
+use Rattle.rv_types.specs.{Kinds.flow_kind, Kinds.flow_kinds, Kinds.kind_in_program, Types.kind_of}
 use Rattle.rv_types.specs.{Types.is_constant, Constants.whole_in, Constants.value_of, Constants.weight_of, ConstantParts.constant_part, Scopes.node_scope}
 use Rattle.rv_types.specs.{Scopes.constant_value, Lists.AreTicks, Variables.node_parts, Variables.is_arrow, WellFormed.AreWell}
 use Rattle.rv_types.specs.declared.typed.Kind.TheVariants as kind
-use Rattle.rv_types.proofs.{ToldPaces.told_is as told_pace_is, Members.index_there, ChainLaws.no_flag, NamePlaces.index_past, NamePlaces.output_within}
+use Rattle.rv_types.proofs.{ToldPaces.told_is as told_pace_is, Members.among_from, Members.index_there, ChainLaws.no_flag, NamePlaces.output_within}
 use Rattle.rv_base.specs.Limits.{too_heavy}
 use Rattle.rv_instances.specs.Layouts.{Here, IsPlaced, IsClockPlaced, IsHere, all_places}
 use Rattle.rv_instances.specs.NumberedNeeds.{flow_number, clock_number as number_of_clock, clock_of_expression, numbers_of}
 use Rattle.rv_instances.specs.{declared.answer.Instance.Instance as Numbered, Callees.callee_in, Expanded.program_of, Expanded.main_of}
-use Rattle.rv_flatten.specs.Readings.{unplaced, product, operator, flow_at, kept_number, named, raw_of, raw_form, raws_of}
+use Rattle.rv_flatten.specs.Readings.{unplaced, product, operator, flow_at, kept_number, named, raw_of, raws_of}
 use Rattle.rv_flatten.specs.Tables.{product_read, path_read, operator_place_read, flow_read, clock_read, tick_read, clock_of_read, told_clock_read, kept_read}
-use Rattle.rv_flatten.specs.Tables.{flow_named, named_read, constant_read, output_read, tree_read, form_read, trees_read}
+use Rattle.rv_flatten.specs.Tables.{flow_named, named_read, constant_read, output_read, tree_read, trees_read}
 use Rattle.rv_flatten.specs.{declared.frame.Frame.Frame, Compared.is_told_test, Frames.IsFrame}
 use Rattle.rv_flat.specs.RawTree.{RawTree, Node, RawForm, Constant, Flow, Memory, Ticked, Not, Binary, Scale, If, AtMostOne, When, Current, More, raw_trees}
 use Rattle.rv_agreement.specs.Programs.{spot, operator_place, coefficient}
 use Rattle.rv_agreement.specs.Translation.{Numbers, clock_number, tick_number}
 use Rattle.rv_flatten.proofs.Standing.{Stands, as_child, of_not, of_minus, of_when, of_left, of_right, of_condition, of_first, of_second, of_operand, own_delay}
 use Rattle.rv_flatten.proofs.Standing.{own_current, own_call, stands_in}
-use Rattle.rv_flatten.proofs.{PartsStand.standing, PartsStand.calling, PartsStand.part_is, TimedParts.stands_timed, ClockKinds.IsTrueClock}
-use Rattle.rv_flatten.proofs.{ClockKinds.clock_taken, ClockKinds.pace_is_true, FlowKinds.kinds_many, FlowKinds.signature_is, ToldTests.told_is}
-use Rattle.rv_flatten.proofs.{MainNames.is_node, NamedParts.scaled_product}
+use Rattle.rv_flatten.proofs.{Standing.standing, Standing.calling, Standing.part_is, TimedParts.stands_timed, ClockKinds.IsTrueClock, ClockKinds.clock_taken}
+use Rattle.rv_flatten.proofs.{ClockKinds.pace_is_true, FlowKinds.signature_is, ToldTests.told_is, KindNumbers.product_scaled, MainNames.is_node}
 use Rattle.rv_flat.proofs.TypedParts.{some_is, IsTyped, not_typed, minus_typed, when_typed, binary_typed, if_typed, most_typed, call_typed}
-use Rattle.rv_meaning.proofs.Acceptable.{formed, typed}
+use Rattle.rv_meaning.proofs.{Acceptable.formed, Acceptable.typed, FlowSites.flow_there, FlowSites.kinds_many}
 
 -- the expressions of a list, each made flat
 pub each_read : (x : Frame) (es : List Expr) → raw_trees (map (λ e. tree_read x (tree_of e)) es) ≡ trees_read x (trees (map tree_of es))
@@ -50,36 +49,18 @@ operator_is : (o : Op) (c d m n : RawForm) (f g u v : RawTree) → (o ≡ op.Arr
     → operator o c m f g ≡ operator o d n u v
 operator_is op.Arrow c d m n f g u v choice times p q = choice refl
 operator_is op.Times c d m n f g u v choice times p q = times refl
-operator_is op.Implies c d m n f g u v choice times p q = λ j. Binary op.Implies (p j) (q j)
-operator_is op.Or c d m n f g u v choice times p q = λ j. Binary op.Or (p j) (q j)
-operator_is op.Xor c d m n f g u v choice times p q = λ j. Binary op.Xor (p j) (q j)
-operator_is op.And c d m n f g u v choice times p q = λ j. Binary op.And (p j) (q j)
-operator_is op.Equal c d m n f g u v choice times p q = λ j. Binary op.Equal (p j) (q j)
-operator_is op.Differs c d m n f g u v choice times p q = λ j. Binary op.Differs (p j) (q j)
-operator_is op.Less c d m n f g u v choice times p q = λ j. Binary op.Less (p j) (q j)
-operator_is op.AtMost c d m n f g u v choice times p q = λ j. Binary op.AtMost (p j) (q j)
-operator_is op.Greater c d m n f g u v choice times p q = λ j. Binary op.Greater (p j) (q j)
-operator_is op.AtLeast c d m n f g u v choice times p q = λ j. Binary op.AtLeast (p j) (q j)
-operator_is op.Plus c d m n f g u v choice times p q = λ j. Binary op.Plus (p j) (q j)
-operator_is op.Minus c d m n f g u v choice times p q = λ j. Binary op.Minus (p j) (q j)
-operator_is op.Slash c d m n f g u v choice times p q = λ j. Binary op.Slash (p j) (q j)
-operator_is op.Div c d m n f g u v choice times p q = λ j. Binary op.Div (p j) (q j)
-operator_is op.Mod c d m n f g u v choice times p q = λ j. Binary op.Mod (p j) (q j)
+operator_is o c d m n f g u v choice times p q = λ j. Binary o (p j) (q j)
 
 at_place : (q r : Sites) (f g : RawForm) → q ≡ r → f ≡ g → Node q f ≡ Node r g
 at_place q r f g p e = λ j. Node (p j) (e j)
 
 -- a clock that is that of a flow is one of the node
 pub clock_known : (p : ProgramTree) (n : NodeTree) (s : ℕ) → IsTrueClock p n (On s) → s < length (flows_of n)
-clock_known p n s t = let lt = slice_get_within (flow_kinds p n) s kind.Bool t in let many = kinds_many p n in omega (arith, lt, many)
+clock_known p n s t = omega (arith, slice_get_within (flow_kinds p n) s kind.Bool t, kinds_many p n)
 
 -- a name with the type of a flow is a flow
 a_flow : (p : ProgramTree) (n : NodeTree) (y : Identifier) → flow_kind p n y ≡ Some kind.Bool → is_flow n y ≡ true
-a_flow p n y t = by (is_flow n y) refl
-  where
-    by : (b : Bool) → is_flow n y ≡ b → b ≡ true
-    by true e = refl
-    by false e = let lt = clock_known p n (site_of n y) t in let past = index_past (flows_of n) y e in absurd (omega (arith, lt, past))
+a_flow p n y t = among_from (flows_of n) y (flow_there p n y kind.Bool t)
 
 module _ (numbers : Numbers) (i : Instance) (x : Frame) (is : IsFrame numbers i x)
     (here : IsHere (program_of x.expanded.now) (all_places (program_of x.expanded.now) x.expanded.now.instances.now) i (numbers_of x.reader))
@@ -156,8 +137,7 @@ module _ (numbers : Numbers) (i : Instance) (x : Frame) (is : IsFrame numbers i 
     output_is c j w lt =
         let first = here.output c w in
         let same : h.callee c.site + (length (node_of program c.name).inputs + j) ≡ h.output c.site + j = omega (arith, first) in
-        ap (flow_read x) (sym same)
-        ∙ flow_is (h.callee c.site + (length (node_of program c.name).inputs + j)) (output_place program i c.site c.name j)
+        ap (flow_read x) (sym same) ∙ flow_is (h.callee c.site + (length (node_of program c.name).inputs + j)) (output_place program i c.site c.name j)
         (here.callee c (length (node_of program c.name).inputs + j) w (output_within (node_of program c.name) j lt))
 
     call_is : (at : ℕ) (site : Option ℕ) (f : Identifier) (args : Trees) (k : Kind)
@@ -175,8 +155,7 @@ module _ (numbers : Numbers) (i : Instance) (x : Frame) (is : IsFrame numbers i 
 
     name_is : (y : Identifier) → named_read x y ≡ named program numbers i y
     name_is y =
-        (λ j. cond (is_flow (is.node j) y) (Flow (flow_read x (h.offset + site_of (is.node j) y))) (Constant (is.values j y)))
-        ∙ by (is_flow i.node y) refl
+        (λ j. cond (is_flow (is.node j) y) (Flow (flow_read x (h.offset + site_of (is.node j) y))) (Constant (is.values j y))) ∙ by (is_flow i.node y) refl
       where
         by : (b : Bool) → is_flow i.node y ≡ b → cond b (Flow (flow_read x (h.offset + site_of i.node y))) (Constant (constant_value program y)) ≡ cond b
             (flow_at program numbers i (place i y)) (Constant (constant_value program y))
@@ -204,8 +183,7 @@ module _ (numbers : Numbers) (i : Instance) (x : Frame) (is : IsFrame numbers i 
     constant_is (tree.Node at site form) = λ j. constant_part (node_scope program (is.node j)) (is.values j) (tree.Node at site form)
 
     product_read_is : (a b : Tree) (f g u v : RawTree) → (is_constant (node_scope program i.node) a || is_constant (node_scope program i.node) b) ≡ true → f ≡ u
-        → g ≡ v
-        → product_read (constant_read x a) (constant_read x b) f g ≡ product (is_constant (node_scope program i.node) a) (coefficient program a)
+        → g ≡ v → product_read (constant_read x a) (constant_read x b) f g ≡ product (is_constant (node_scope program i.node) a) (coefficient program a)
         (coefficient program b) u v
     product_read_is a b f g u v e p q =
         (λ j. product_read (constant_is a j) (constant_is b j) (p j) (q j))
@@ -225,49 +203,34 @@ module _ (numbers : Numbers) (i : Instance) (x : Frame) (is : IsFrame numbers i 
       mutual
         -- an expression that stands in the instance and has a type
         pub expression_is : (e : Tree) (k : Kind) → Stands i.node e → IsTyped program i.node e k → tree_read x e ≡ raw_of program numbers i e
-        expression_is (tree.Node at site form) k s t = form_is at site form k s t
-
-        form_is : (at : ℕ) (site : Option ℕ) (form : Form) (k : Kind) → Stands i.node (tree.Node at site form)
-            → IsTyped program i.node (tree.Node at site form) k → form_read x site form ≡ raw_form program numbers i site form
-        form_is at site tree.True k s t = refl
-        form_is at site tree.False k s t = refl
-        form_is at site (tree.Number n) k s t = refl
-        form_is at site (tree.Named y) k s t = ap unplaced (name_is y)
-        form_is at site (tree.Not e) k s t =
-            ap (λ f. unplaced (Not f)) (expression_is e kind.Bool (as_child at site (tree.Not e) e s of_not) (not_typed program i.node at site e k t).0)
-        form_is at site (tree.Minus e) k s t =
-            ap (λ f. unplaced (Scale (negsuc 0) f)) (expression_is e kind.Int (as_child at site (tree.Minus e) e s of_minus)
-            (minus_typed program i.node at site e k t).0)
-        form_is at site (tree.Pre e) k s t = ap (λ m. unplaced (Memory m)) (kept_is site e (own_delay i.node at site e s))
-        form_is at site (tree.Current e) k s t = ap (λ m. unplaced (Current m)) (kept_is site e (own_current i.node at site e s))
-        form_is at site (tree.When e y) k s t =
-            let r = when_typed program i.node at site e y k t in
-            let clock = named_flow_is y.text r.1 in
-            let body = expression_is e k (as_child at site (tree.When e y) e s (of_when y)) r.0 in
+        expression_is (tree.Node at site (tree.Named y)) k s t = ap unplaced (name_is y)
+        expression_is (tree.Node at site (tree.Not e)) k s t =
+            ap (λ f. unplaced (Not f)) (expression_is e kind.Bool (as_child s of_not) (not_typed program i.node at site e k t).0)
+        expression_is (tree.Node at site (tree.Minus e)) k s t =
+            ap (λ f. unplaced (Scale (negsuc 0) f)) (expression_is e kind.Int (as_child s of_minus) (minus_typed program i.node at site e k t).0)
+        expression_is (tree.Node at site (tree.Pre e)) k s t = ap (λ m. unplaced (Memory m)) (kept_is site e (own_delay i.node at site e s))
+        expression_is (tree.Node at site (tree.Current e)) k s t = ap (λ m. unplaced (Current m)) (kept_is site e (own_current i.node at site e s))
+        expression_is (tree.Node at site (tree.When e y)) k s t =
+            let r = when_typed program i.node at site e y k t in let clock = named_flow_is y.text r.1 in
+            let body = expression_is e k (as_child s (of_when y)) r.0 in
             λ j. unplaced (When (clock j) (body j))
-        form_is at site (tree.Binary o a b) k s t =
+        expression_is (tree.Node at site (tree.Binary o a b)) k s t =
             let r = binary_typed program i.node at site o a b k t in
-            let left = expression_is a r.left (as_child at site (tree.Binary o a b) a s of_left) r.left_is in
-            let right = expression_is b r.right (as_child at site (tree.Binary o a b) b s of_right) r.right_is in
+            let left = expression_is a r.left (as_child s of_left) r.left_is in
+            let right = expression_is b r.right (as_child s of_right) r.right_is in
             at_place _ _ _ _ (place_is site o a r.left r.left_is) (operator_is o _ _ _ _ (tree_read x a) (tree_read x b) (raw_of program numbers i a)
-            (raw_of program numbers i b)
-            (λ arrow. let tick = arrow_is at site o a b k s t arrow in λ j. If (unplaced (Ticked (tick j))) (right j) (left j))
+            (raw_of program numbers i b) (λ arrow. let tick = arrow_is at site o a b k s t arrow in λ j. If (unplaced (Ticked (tick j))) (right j) (left j))
             (λ times. product_read_is a b (tree_read x a) (tree_read x b) (raw_of program numbers i a) (raw_of program numbers i b)
-            (scaled_product (both_are kind.Int r.left r.right) (is_constant (node_scope program i.node) a || is_constant (node_scope program i.node) b) k
-            (sym (ap (λ u. kind_in (binary_rule true (is_constant (node_scope program i.node) a || is_constant (node_scope program i.node) b) u r.left r.right))
-            times) ∙ r.rule))
-            left right)
-            left right)
-        form_is at site (tree.If a b c) k s t =
+            (product_scaled _ o r.left r.right k r.rule times) left right) left right)
+        expression_is (tree.Node at site (tree.If a b c)) k s t =
             let r = if_typed program i.node at site a b c k t in
-            let condition = expression_is a kind.Bool (as_child at site (tree.If a b c) a s of_condition) r.0 in
-            let first = expression_is b k (as_child at site (tree.If a b c) b s of_first) r.1 in
-            let second = expression_is c k (as_child at site (tree.If a b c) c s of_second) r.2 in
+            let condition = expression_is a kind.Bool (as_child s of_condition) r.0 in
+            let first = expression_is b k (as_child s of_first) r.1 in let second = expression_is c k (as_child s of_second) r.2 in
             λ j. unplaced (If (condition j) (first j) (second j))
-        form_is at site (tree.AtMostOne es) k s t =
-            ap (λ fs. unplaced (AtMostOne fs)) (all_are es (λ j e arg. as_child at site (tree.AtMostOne es) e s (of_operand j arg))
-            (most_typed program i.node at site es k t).0)
-        form_is at site (tree.Call f args) k s t = ap unplaced (call_is at site f args k (own_call i.node at site f args s) t)
+        expression_is (tree.Node at site (tree.AtMostOne es)) k s t =
+            ap (λ fs. unplaced (AtMostOne fs)) (all_are es (λ j e arg. as_child s (of_operand j arg)) (most_typed program i.node at site es k t).0)
+        expression_is (tree.Node at site (tree.Call f args)) k s t = ap unplaced (call_is at site f args k (own_call i.node at site f args s) t)
+        expression_is (tree.Node at site _) k s t = refl
 
         all_are : (es : Trees) → ((j : ℕ) (e : Tree) → IsArgument es j e → Stands i.node e)
             → ((j : ℕ) (e : Tree) → IsArgument es j e → IsTyped program i.node e kind.Bool) → trees_read x es ≡ raws_of program numbers i es
@@ -284,7 +247,7 @@ module _ (numbers : Numbers) (i : Instance) (x : Frame) (is : IsFrame numbers i 
           let t = some_is some in
           elim (part_is i.node e w) [
             | standing s ↦ expression_is e t.0 s t.1
-            | calling at site f args same there ↦
+            | calling at site f args same there inside ↦
                 subst (λ u. tree_read x u ≡ raw_of program numbers i u) (sym same)
                 (ap unplaced (call_is at site f args t.0 there (subst (λ u. IsTyped program i.node u t.0) same t.1)))
           ]

@@ -1,10 +1,10 @@
 -- What is read of a program has the weights of the program, so no part of it is above the limit.
-use Rattle.std.proofs.Common.{◌≡◌, ℕ, zero, suc, ◌+◌, ◌*◌, ◌<◌, ◌≤◌, max, Bool, true, false, ◌||◌, cond, nat_lt, nat_le, pos, negsuc, nat_abs, List, [], ◌∷◌}
+use Rattle.std.proofs.Common.{◌≡◌, ℕ, zero, suc, ◌+◌, ◌*◌, ◌<◌, ◌≤◌, max, Bool, true, false, cond, nat_lt, nat_le, negsuc, nat_abs, List, [], ◌∷◌}
 use Rattle.std.proofs.Common.{◌++◌, length, get_or, slice_get, refl, sym, ◌∙◌, ap, subst, arith, unwrap_or, Option, Some}
-use Rattle.std.proofs.lemmas.List.{length-map, get_or_default, get_or_append_left, get_or_push, length_push}
-use Rattle.std.proofs.{lemmas.Bool.Decides.nat_tests, lemmas.Int.ints, lemmas.List.Elements.Contains-append_left, lemmas.List.Elements.Contains-append_right}
-use Rattle.std.proofs.{lemmas.List.Elements.All-contains, lemmas.Option.slice_get_within, lemmas.Option.get_or_from_slice_get, lemmas.Bool.and_from}
-use Rattle.std.specs.List.{All, Contains}
+use Rattle.std.proofs.lemmas.List.{length-map, get_or_append_left, get_or_push, length_push}
+use Rattle.std.proofs.{lemmas.Bool.le-leb, lemmas.Bool.Decides.nat_tests, lemmas.Int.ints, lemmas.List.Elements.Contains-append_left}
+use Rattle.std.proofs.{lemmas.List.Elements.Contains-append_right, lemmas.Option.slice_get_within, lemmas.Option.get_or_from_slice_get, lemmas.Bool.and_from}
+use Rattle.std.specs.List.{Contains}
 use Rattle.rv_base.specs.declared.value.Value.TheVariants.{Flag, Label, Whole}
 use Rattle.rv_base.specs.{declared.value.Value.Value, Limits.heaviest}
 use Rattle.rv_tree.specs.Places.{Identifier, Sites, flows as flows_of, is_flow, index_of}
@@ -13,27 +13,23 @@ use Rattle.rv_tree.specs.declared.tree.Op.TheVariants as op
 use Rattle.rv_tree.specs.Tree as tree
 use Rattle.rv_types.specs.Instances.{CallTree, Body, Output, Instance, place, absolute, clock_of, clock_taken as taken_clock, clock_in, clock_of_arguments}
 use Rattle.rv_types.specs.Instances.{output_place, IsInstance, IsFlow, IsNode, IsArgument, head, tail}
-use Rattle.rv_types.specs.Needs.{flow_of, needs, form_needs, needs_of, Giver, Gives, given, by_equation, by_call, IsAmongFirst}
-use Rattle.rv_types.specs.{declared.typed.Kind.Kind, declared.typed.Clock.Clock, declared.typed.Clock.TheVariants.Base, Types.kind_in, Types.both_are}
-use Rattle.rv_types.specs.{Types.binary_rule, Types.is_constant, Constants.whole_in, Scopes.node_scope, Scopes.constant_value, WellFormed.AreWell}
+use Rattle.rv_types.specs.Needs.{flow_of, needs, form_needs, needs_of, Giver, Gives, given, by_equation, by_call}
+use Rattle.rv_types.specs.{declared.typed.Kind.Kind, declared.typed.Clock.Clock, declared.typed.Clock.TheVariants.Base}
+use Rattle.rv_types.specs.{Types.is_constant, Constants.whole_in, Scopes.node_scope, Scopes.constant_value, WellFormed.AreWell}
 use Rattle.rv_types.specs.declared.typed.Kind.TheVariants as kind
 use Rattle.rv_instances.specs.Weights.{constant_size, weight, form_weight, weight_of_giver, IsTooWide, AreWeights}
 use Rattle.rv_agreement.specs.Programs.{coefficient, operation}
 use Rattle.rv_agreement.specs.Translation.{Numbers, tick_number, unplaced, flat_of, flat_form, flats_of, giver_item, IsTranslated}
-use Rattle.rv_agreement.specs.Trees.{FlatTree, TreeForm, Constant, Flow, Ticked, Scale, If, Binary, Item, Kept, System, no_item, nth_item, memory_items}
+use Rattle.rv_agreement.specs.Trees.{FlatTree, TreeForm, Constant, Flow, Ticked, Scale, If, Binary, Item, Kept, System, no_item, memory_items}
 use Rattle.rv_flat.specs.Facts.{constant_weight, flat_weight, form_flat_weight, is_light, form_is_light, all_light, weights_after, flow_weights, items_light}
 use Rattle.rv_flatten.proofs.Standing.{Stands, as_child, of_not, of_minus, of_current, of_when, of_left, of_right, of_condition, of_first, of_second}
 use Rattle.rv_flatten.proofs.Standing.{of_operand, own_call, body_stands, argument_stands, operand_stands, as_assertion, output_call}
 use Rattle.rv_flatten.proofs.FlowKinds.{HasFlow, is_flow as flow_there, signature_is, output_flow}
-use Rattle.rv_flatten.proofs.{ItemClocks.number_at, ItemClocks.number_within, WellInstances.is_light as stands_light, ConstantOperands.weighs}
-use Rattle.rv_flatten.proofs.{ConstantSizes.value_size, NamedParts.other_constant, NamedParts.scaled_product}
+use Rattle.rv_flatten.proofs.{ApartComparisons.at_number, ItemClocks.among_first, ItemClocks.number_at, ItemClocks.number_within, ConstantOperands.weighs}
+use Rattle.rv_flatten.proofs.{KindNumbers.product_scaled, NamedParts.other_constant, WellInstances.is_light as stands_light}
+use Rattle.rv_types.proofs.{Members.among_contains, Members.at_head, Members.in_tail, ConstantValues.constants_small, ConstantValues.value_small}
 use Rattle.rv_flat.proofs.TypedParts.{some_is, IsTyped, not_typed, minus_typed, current_typed, when_typed, binary_typed, if_typed, most_typed, call_typed}
-use Rattle.rv_flat.proofs.PlaceNumbers.{its_number}
-use Rattle.rv_types.proofs.Members.{among_contains, at_head, in_tail}
 use Rattle.rv_meaning.proofs.Acceptable.{typed}
-
-within_told : (m n : ℕ) → m ≤ n → nat_le m n ≡ true
-within_told m n le = grind (arith, nat_tests, le)
 
 constant_weighs : (v : Value) → constant_weight v ≡ nat_abs (whole_in v)
 constant_weighs (Flag b) = refl
@@ -49,16 +45,6 @@ module _ (program : ProgramTree) (main : Identifier) (well : AreWell program) (n
 
     within : (q : Sites) → IsFlow program main q → number q < length s.flows
     within = number_within program main well named numbers s read
-
-    place_number : (k : ℕ) → k < length numbers.flows → number (get_or numbers.flows k []) ≡ k
-    place_number k lt = its_number numbers.flows read.sequence.once k lt
-
-    among_first : (k : ℕ) (qs : List Sites) → k < length numbers.flows → All (IsAmongFirst program main numbers.flows k) qs → (q : Sites) → Contains qs q
-        → IsFlow program main q → number q < k
-    among_first k qs lt all q w is =
-        let r = All-contains (IsAmongFirst program main numbers.flows k) qs q all w in
-        let same : number q ≡ r.0 = ap number (sym r.2) ∙ place_number r.0 (omega (arith, r.1, lt)) in
-        omega (arith, r.1, same)
 
     light : (i : Instance) (e : Tree) → IsInstance program main i → Stands i.node e → weight program wf i e ≤ heaviest
     light = stands_light program main wf none_wide
@@ -96,78 +82,50 @@ module _ (program : ProgramTree) (main : Identifier) (well : AreWell program) (n
       operator_weighs site op.Times a b tick f g p q = product_weighs (is_constant (node_scope program i.node) a) a b f g p q
       operator_weighs site op.Plus a b tick f g p q = λ j. p j + q j
       operator_weighs site op.Minus a b tick f g p q = λ j. p j + q j
-      operator_weighs site op.Implies a b tick f g p q = refl
-      operator_weighs site op.Or a b tick f g p q = refl
-      operator_weighs site op.Xor a b tick f g p q = refl
-      operator_weighs site op.And a b tick f g p q = refl
-      operator_weighs site op.Equal a b tick f g p q = refl
-      operator_weighs site op.Differs a b tick f g p q = refl
-      operator_weighs site op.Less a b tick f g p q = refl
-      operator_weighs site op.AtMost a b tick f g p q = refl
-      operator_weighs site op.Greater a b tick f g p q = refl
-      operator_weighs site op.AtLeast a b tick f g p q = refl
-      operator_weighs site op.Slash a b tick f g p q = refl
-      operator_weighs site op.Div a b tick f g p q = refl
-      operator_weighs site op.Mod a b tick f g p q = refl
+      operator_weighs site _ a b tick f g p q = refl
 
       mutual
         -- what is read of an expression weighs the same
         pub expression_weighs : (c : Clock) (e : Tree) (k : Kind) → Stands i.node e → IsTyped program i.node e k → IsEarly c e
             → flat_weight ws (flat_of program numbers i e) ≡ weight program wf i e
-        expression_weighs c (tree.Node at site form) k s t early = form_weighs_too c at site form k s t early
-
-        form_weighs_too : (c : Clock) (at : ℕ) (site : Option ℕ) (form : Form) (k : Kind) → Stands i.node (tree.Node at site form)
-            → IsTyped program i.node (tree.Node at site form) k → IsEarly c (tree.Node at site form)
-            → flat_weight ws (flat_form program numbers i site form) ≡ form_weight program wf i site form
-        form_weighs_too c at site tree.True k s t early = refl
-        form_weighs_too c at site tree.False k s t early = refl
-        form_weighs_too c at site (tree.Number n) k s t early = refl
-        form_weighs_too c at site (tree.Named x) k s t early = name_weighs c at site x (is_flow i.node x) refl early
-        form_weighs_too c at site (tree.Not e) k s t early = refl
-        form_weighs_too c at site (tree.Minus e) k s t early =
+        expression_weighs c (tree.Node at site (tree.Named x)) k s t early = name_weighs c at site x (is_flow i.node x) refl early
+        expression_weighs c (tree.Node at site (tree.Minus e)) k s t early =
             (let one : nat_abs (negsuc 0) * flat_weight ws (flat_of program numbers i e) ≡ flat_weight ws (flat_of program numbers i e) = omega (arith, ints) in
-            one)
-            ∙ expression_weighs c e kind.Int (as_child at site (tree.Minus e) e s of_minus) (minus_typed program i.node at site e k t).0
+            one) ∙ expression_weighs c e kind.Int (as_child s of_minus) (minus_typed program i.node at site e k t).0
             (λ q w. early q (Contains-append_right (flow_of (absolute i c)) (needs program i c e) q w))
-        form_weighs_too c at site (tree.Pre e) k s t early = refl
-        form_weighs_too c at site (tree.Current e) k s t early =
-            turned 1 (flat_weight ws (flat_of program numbers i e))
-            ∙ ap (max 1) (expression_weighs (taken_clock i Base e) e k (as_child at site (tree.Current e) e s of_current)
+        expression_weighs c (tree.Node at site (tree.Current e)) k s t early =
+            turned 1 (flat_weight ws (flat_of program numbers i e)) ∙ ap (max 1) (expression_weighs (taken_clock i Base e) e k (as_child s of_current)
             (current_typed program i.node at site e k t)
             (λ q w. early q (Contains-append_right (flow_of (absolute i c)) (needs program i (taken_clock i Base e) e) q w)))
-        form_weighs_too c at site (tree.When e x) k s t early =
-            expression_weighs (clock_of i.node x.text) e k (as_child at site (tree.When e x) e s (of_when x)) (when_typed program i.node at site e x k t).0
+        expression_weighs c (tree.Node at site (tree.When e x)) k s t early =
+            expression_weighs (clock_of i.node x.text) e k (as_child s (of_when x)) (when_typed program i.node at site e x k t).0
             (λ q w. early q (Contains-append_right (flow_of (absolute i c)) (needs program i (clock_of i.node x.text) e) q w))
-        form_weighs_too c at site (tree.Binary o a b) k s t early =
+        expression_weighs c (tree.Node at site (tree.Binary o a b)) k s t early =
             let r = binary_typed program i.node at site o a b k t in
             let inside = λ (q : Sites) (w : Contains (needs program i c a ++ needs program i c b) q). Contains-append_right (flow_of (absolute i c))
             (needs program i c a ++ needs program i c b) q w in
             operator_weighs site o a b (Ticked (tick_number numbers (clock_in i Base (tree.Node 0 site (tree.Binary o a b))))) (flat_of program numbers i a)
-            (flat_of program numbers i b)
-            (expression_weighs c a r.left (as_child at site (tree.Binary o a b) a s of_left) r.left_is
+            (flat_of program numbers i b) (expression_weighs c a r.left (as_child s of_left) r.left_is
             (λ q w. early q (inside q (Contains-append_left (needs program i c a) (needs program i c b) q w))))
-            (expression_weighs c b r.right (as_child at site (tree.Binary o a b) b s of_right) r.right_is
+            (expression_weighs c b r.right (as_child s of_right) r.right_is
             (λ q w. early q (inside q (Contains-append_right (needs program i c a) (needs program i c b) q w))))
-        form_weighs_too c at site (tree.If a b d) k s t early =
-            let r = if_typed program i.node at site a b d k t in
-            let last = needs program i c b ++ needs program i c d in
+        expression_weighs c (tree.Node at site (tree.If a b d)) k s t early =
+            let r = if_typed program i.node at site a b d k t in let last = needs program i c b ++ needs program i c d in
             let inside = λ (q : Sites) (w : Contains (needs program i c a ++ last) q). Contains-append_right (flow_of (absolute i c))
             (needs program i c a ++ last) q w in
-            let p = expression_weighs c b k (as_child at site (tree.If a b d) b s of_first) r.1
-            (λ q w. early q (inside q (Contains-append_right (needs program i c a) last q
+            let p = expression_weighs c b k (as_child s of_first) r.1 (λ q w. early q (inside q (Contains-append_right (needs program i c a) last q
             (Contains-append_left (needs program i c b) (needs program i c d) q w)))) in
-            let u = expression_weighs c d k (as_child at site (tree.If a b d) d s of_second) r.2
-            (λ q w. early q (inside q (Contains-append_right (needs program i c a) last q
+            let u = expression_weighs c d k (as_child s of_second) r.2 (λ q w. early q (inside q (Contains-append_right (needs program i c a) last q
             (Contains-append_right (needs program i c b) (needs program i c d) q w)))) in
             λ j. max (p j) (u j)
-        form_weighs_too c at site (tree.AtMostOne es) k s t early = refl
-        form_weighs_too c at site (tree.Call f args) k s t early =
+        expression_weighs c (tree.Node at site (tree.Call f args)) k s t early =
             let r = call_typed program i.node at site f args k t in
             let own : CallTree = record { at = at; site = unwrap_or site 0; name = f; args = args } in
             let q : Sites = output_place program i (unwrap_or site 0) f 0 in
             let h : HasFlow program main q k = output_flow program main well named i own 0 k of (own_call i.node at site f args s)
             (ap (λ l. slice_get l 0) (signature_is program f r.signature r.known ∙ r.gives)) in
             weighed q (flow_there h) (early q (Contains-append_right (flow_of (absolute i c)) (q ∷ []) q (at_head q [])) (flow_there h))
+        expression_weighs c (tree.Node at site _) k s t early = refl
 
     -- what gives a flow weighs what the flow does
     giver_weighs : (before : ℕ) (ws : List ℕ) → ((q : Sites) → IsFlow program main q → number q < before → get_or ws (number q) 0 ≡ wf q)
@@ -188,22 +146,17 @@ module _ (program : ProgramTree) (main : Identifier) (well : AreWell program) (n
 
     -- what gives the flow with a number
     giver_at : (k : ℕ) (x : Item) → slice_get s.flows k ≡ Some x → (g : Giver) × Gives program main (get_or numbers.flows k []) g
-        × (x ≡ giver_item program numbers g)
-        × ((q : Sites) → Contains (needs_of program g) q → IsFlow program main q → number q < k)
+        × (x ≡ giver_item program numbers g) × ((q : Sites) → Contains (needs_of program g) q → IsFlow program main q → number q < k)
     giver_at k x at =
         let lt : k < length s.flows = slice_get_within s.flows k x at in
         let less : k < length numbers.flows = omega (arith, lt, read.many) in
-        let r = read.flow k lt in (
-          r.0,
-          r.1,
-          sym (get_or_from_slice_get s.flows k x no_item at) ∙ r.2,
-          among_first k (needs_of program r.0) less (read.sequence.after k r.0 less r.1),
-        )
+        let r = read.flow k lt in
+        let early = among_first program main well named numbers s read k (needs_of program r.0) less (read.sequence.after k r.0 less r.1) in
+        (r.0, r.1, sym (get_or_from_slice_get s.flows k x no_item at) ∙ r.2, early)
 
     -- one flow more has its weight
     one_weighed : (k : ℕ) (ws : List ℕ) (f : Item) → length ws ≡ k → ((q : Sites) → IsFlow program main q → number q < k → get_or ws (number q) 0 ≡ wf q)
-        → slice_get s.flows k ≡ Some f
-        → (q : Sites) → IsFlow program main q → number q < k + 1 → get_or (ws ++ flat_weight ws f.body ∷ []) (number q) 0 ≡ wf q
+        → slice_get s.flows k ≡ Some f → (q : Sites) → IsFlow program main q → number q < k + 1 → get_or (ws ++ flat_weight ws f.body ∷ []) (number q) 0 ≡ wf q
     one_weighed k ws f long weighed at q is lt = by (nat_lt (number q) k) refl
       where
         by : (b : Bool) → nat_lt (number q) k ≡ b → get_or (ws ++ flat_weight ws f.body ∷ []) (number q) 0 ≡ wf q
@@ -218,11 +171,8 @@ module _ (program : ProgramTree) (main : Identifier) (well : AreWell program) (n
             let at_place : get_or numbers.flows k [] ≡ q = ap (λ n. get_or numbers.flows n []) (sym same)
             ∙ (number_at program main well named numbers s read q is).1 in
             let r = giver_at k f at in
-            get_or_push ws (flat_weight ws f.body) 0 (number q) (long ∙ sym same)
-            ∙ ap (λ item. flat_weight ws item.body) r.2
-            ∙ giver_weighs k ws weighed (get_or numbers.flows k []) r.0 r.1 r.3
-            ∙ sym (are_weights (get_or numbers.flows k []) r.0 r.1)
-            ∙ ap wf at_place
+            get_or_push ws (flat_weight ws f.body) 0 (number q) (long ∙ sym same) ∙ ap (λ item. flat_weight ws item.body) r.2
+            ∙ giver_weighs k ws weighed (get_or numbers.flows k []) r.0 r.1 r.3 ∙ sym (are_weights (get_or numbers.flows k []) r.0 r.1) ∙ ap wf at_place
           where
             equal : (m n : ℕ) → nat_lt m n ≡ false → m < n + 1 → m ≡ n
             equal m n e lt = grind (arith, nat_tests, e, lt)
@@ -237,8 +187,7 @@ module _ (program : ProgramTree) (main : Identifier) (well : AreWell program) (n
         let at : slice_get s.flows before ≡ Some f = ap (slice_get s.flows) (sym here) ∙ from 0 f refl in
         weighed_from (before + 1) (ws ++ flat_weight ws f.body ∷ []) fs (length_push ws (flat_weight ws f.body) ∙ ap (λ n. n + 1) long)
         (one_weighed before ws f long weighed at)
-        (λ j g e. let next : (before + 1) + j ≡ before + suc j = omega arith in ap (slice_get s.flows) next ∙ from (suc j) g e)
-        q is (omega (arith, lt))
+        (λ j g e. let next : (before + 1) + j ≡ before + suc j = omega arith in ap (slice_get s.flows) next ∙ from (suc j) g e) q is (omega (arith, lt))
 
     abbrev all_weights : List ℕ
     all_weights = flow_weights s.flows
@@ -247,8 +196,7 @@ module _ (program : ProgramTree) (main : Identifier) (well : AreWell program) (n
     pub flow_weighs : (q : Sites) → IsFlow program main q → get_or all_weights (number q) 0 ≡ wf q
     flow_weighs q is =
         weighed_from 0 [] s.flows refl (λ p w lt. absurd (omega (arith, lt))) (λ j f e. let same : 0 + j ≡ j = omega arith in ap (slice_get s.flows) same ∙ e) q
-        is
-        (let lt = within q is in omega (arith, lt))
+        is (omega (arith, within q is))
 
     -- No flow is above the limit.
     flow_light_below : (n : ℕ) (q : Sites) → IsFlow program main q → number q < n → wf q ≤ heaviest
@@ -257,9 +205,8 @@ module _ (program : ProgramTree) (main : Identifier) (well : AreWell program) (n
         let at = number_at program main well named numbers s read q is in
         let r = read.flow (number q) (within q is) in
         let gives : Gives program main q r.0 = subst (λ p. Gives program main p r.0) at.1 r.1 in
-        let early = among_first (number q) (needs_of program r.0) at.0 (read.sequence.after (number q) r.0 at.0 r.1) in
-        subst (λ w. w ≤ heaviest) (sym (are_weights q r.0 gives))
-        (by r.0 gives (λ p w there. flow_light_below n p there (let less = early p w there in omega (arith, less, lt))))
+        let early = among_first program main well named numbers s read (number q) (needs_of program r.0) at.0 (read.sequence.after (number q) r.0 at.0 r.1) in
+        subst (λ w. w ≤ heaviest) (sym (are_weights q r.0 gives)) (by r.0 gives (λ p w there. flow_light_below n p there (omega (arith, early p w there, lt))))
       where
         by : (g : Giver) → Gives program main q g → ((p : Sites) → Contains (needs_of program g) p → IsFlow program main p → wf p ≤ heaviest)
             → weight_of_giver program wf g ≤ heaviest
@@ -282,7 +229,7 @@ module _ (program : ProgramTree) (main : Identifier) (well : AreWell program) (n
       root_light : (e : Tree) (k : Kind) → Stands i.node e → IsTyped program i.node e k
           → nat_le (flat_weight all_weights (flat_of program numbers i e)) heaviest ≡ true
       root_light e k there t =
-          within_told _ heaviest (subst (λ w. w ≤ heaviest)
+          le-leb _ heaviest (subst (λ w. w ≤ heaviest)
           (sym (expression_weighs (length s.flows) all_weights (λ q is lt. flow_weighs q is) i of Base e k there t (λ q w is. within q is)))
           (light i e of there))
 
@@ -290,37 +237,20 @@ module _ (program : ProgramTree) (main : Identifier) (well : AreWell program) (n
       coefficient_light : (e : Tree) → Stands i.node e → is_constant (node_scope program i.node) e ≡ true
           → nat_le (nat_abs (coefficient program e)) heaviest ≡ true
       coefficient_light e s c =
-          let size = value_size (constant_value program) e in
-          let weight_is = weighs program wf i e c in
-          let le = light i e of s in
-          within_told (nat_abs (coefficient program e)) heaviest (omega (arith, size, weight_is, le))
+          let size = value_small (constant_value program) (constants_small program) e in let weight_is = weighs program wf i e c in let le = light i e of s in
+          le-leb (nat_abs (coefficient program e)) heaviest (omega (arith, size, weight_is, le))
 
       product_light : (left : Bool) (a b : Tree) (f g : FlatTree) → (left ≡ true → nat_le (nat_abs (coefficient program a)) heaviest ≡ true)
           → (left ≡ false → nat_le (nat_abs (coefficient program b)) heaviest ≡ true)
           → IsLightHere f → IsLightHere g → form_is_light all_weights (cond left (Scale (coefficient program a) g) (Scale (coefficient program b) f)) ≡ true
-      product_light true a b f g l r p q = and_from (nat_le (nat_abs (coefficient program a)) heaviest) (is_light all_weights g) (l refl) q
-      product_light false a b f g l r p q = and_from (nat_le (nat_abs (coefficient program b)) heaviest) (is_light all_weights f) (r refl) p
+      product_light true a b f g l r p q = and_from _ _ (l refl) q
+      product_light false a b f g l r p q = and_from _ _ (r refl) p
 
       operator_light : (o : Op) (t : ℕ) (times : TreeForm) (f g : FlatTree) → (o ≡ op.Times → form_is_light all_weights times ≡ true) → IsLightHere f
-          → IsLightHere g
-          → form_is_light all_weights (operation o (If (unplaced (Ticked t)) g f) times (Binary o f g)) ≡ true
-      operator_light op.Arrow t times f g h p q = and_from (is_light all_weights g) (is_light all_weights f) q p
+          → IsLightHere g → form_is_light all_weights (operation o (If (unplaced (Ticked t)) g f) times (Binary o f g)) ≡ true
+      operator_light op.Arrow t times f g h p q = and_from _ _ q p
       operator_light op.Times t times f g h p q = h refl
-      operator_light op.Implies t times f g h p q = and_from (is_light all_weights f) (is_light all_weights g) p q
-      operator_light op.Or t times f g h p q = and_from (is_light all_weights f) (is_light all_weights g) p q
-      operator_light op.Xor t times f g h p q = and_from (is_light all_weights f) (is_light all_weights g) p q
-      operator_light op.And t times f g h p q = and_from (is_light all_weights f) (is_light all_weights g) p q
-      operator_light op.Equal t times f g h p q = and_from (is_light all_weights f) (is_light all_weights g) p q
-      operator_light op.Differs t times f g h p q = and_from (is_light all_weights f) (is_light all_weights g) p q
-      operator_light op.Less t times f g h p q = and_from (is_light all_weights f) (is_light all_weights g) p q
-      operator_light op.AtMost t times f g h p q = and_from (is_light all_weights f) (is_light all_weights g) p q
-      operator_light op.Greater t times f g h p q = and_from (is_light all_weights f) (is_light all_weights g) p q
-      operator_light op.AtLeast t times f g h p q = and_from (is_light all_weights f) (is_light all_weights g) p q
-      operator_light op.Plus t times f g h p q = and_from (is_light all_weights f) (is_light all_weights g) p q
-      operator_light op.Minus t times f g h p q = and_from (is_light all_weights f) (is_light all_weights g) p q
-      operator_light op.Slash t times f g h p q = and_from (is_light all_weights f) (is_light all_weights g) p q
-      operator_light op.Div t times f g h p q = and_from (is_light all_weights f) (is_light all_weights g) p q
-      operator_light op.Mod t times f g h p q = and_from (is_light all_weights f) (is_light all_weights g) p q
+      operator_light _ t times f g h p q = and_from _ _ p q
 
       name_light : (x : Identifier) (b : Bool) → form_is_light all_weights (cond b (Flow (number (place i x))) (Constant (constant_value program x))) ≡ true
       name_light x true = refl
@@ -334,55 +264,44 @@ module _ (program : ProgramTree) (main : Identifier) (well : AreWell program) (n
         form_light : (at : ℕ) (site : Option ℕ) (form : Form) (k : Kind) → Stands i.node (tree.Node at site form)
             → IsTyped program i.node (tree.Node at site form) k
             → nat_le (flat_weight all_weights (flat_form program numbers i site form)) heaviest ≡ true → IsLightHere (flat_form program numbers i site form)
-        form_light at site tree.True k s t root = refl
-        form_light at site tree.False k s t root = refl
-        form_light at site (tree.Number n) k s t root = and_from (nat_le (nat_abs (pos n)) heaviest) true root refl
+        form_light at site (tree.Number n) k s t root = and_from _ true root refl
         form_light at site (tree.Named x) k s t root = and_from _ (form_is_light all_weights
             (cond (is_flow i.node x) (Flow (number (place i x))) (Constant (constant_value program x)))) root (name_light x (is_flow i.node x))
-        form_light at site (tree.Not e) k s t root = expression_light e kind.Bool (as_child at site (tree.Not e) e s of_not)
+        form_light at site (tree.Not e) k s t root = expression_light e kind.Bool (as_child s of_not)
             (not_typed program i.node at site e k t).0
         form_light at site (tree.Minus e) k s t root =
             and_from _ (is_light all_weights (flat_of program numbers i e)) root
-            (expression_light e kind.Int (as_child at site (tree.Minus e) e s of_minus) (minus_typed program i.node at site e k t).0)
-        form_light at site (tree.Pre e) k s t root = refl
+            (expression_light e kind.Int (as_child s of_minus) (minus_typed program i.node at site e k t).0)
         form_light at site (tree.Current e) k s t root =
             and_from _ (is_light all_weights (flat_of program numbers i e)) root
-            (expression_light e k (as_child at site (tree.Current e) e s of_current) (current_typed program i.node at site e k t))
+            (expression_light e k (as_child s of_current) (current_typed program i.node at site e k t))
         form_light at site (tree.When e x) k s t root =
             and_from _ (is_light all_weights (flat_of program numbers i e)) root
-            (expression_light e k (as_child at site (tree.When e x) e s (of_when x)) (when_typed program i.node at site e x k t).0)
+            (expression_light e k (as_child s (of_when x)) (when_typed program i.node at site e x k t).0)
         form_light at site (tree.Binary o a b) k s t root =
-            let r = binary_typed program i.node at site o a b k t in
-            let left = as_child at site (tree.Binary o a b) a s of_left in
-            let right = as_child at site (tree.Binary o a b) b s of_right in
-            let p = expression_light a r.left left r.left_is in
-            let q = expression_light b r.right right r.right_is in
+            let r = binary_typed program i.node at site o a b k t in let left = as_child s of_left in let right = as_child s of_right in
+            let p = expression_light a r.left left r.left_is in let q = expression_light b r.right right r.right_is in
             and_from _ _ root (operator_light o (tick_number numbers (clock_in i Base (tree.Node 0 site (tree.Binary o a b))))
             (cond (is_constant (node_scope program i.node) a) (Scale (coefficient program a) (flat_of program numbers i b))
-            (Scale (coefficient program b) (flat_of program numbers i a)))
-            (flat_of program numbers i a) (flat_of program numbers i b)
+            (Scale (coefficient program b) (flat_of program numbers i a))) (flat_of program numbers i a) (flat_of program numbers i b)
             (λ times. product_light (is_constant (node_scope program i.node) a) a b (flat_of program numbers i a) (flat_of program numbers i b)
             (λ c. coefficient_light a left c)
             (λ c. coefficient_light b right (other_constant (is_constant (node_scope program i.node) a) (is_constant (node_scope program i.node) b)
-            (scaled_product (both_are kind.Int r.left r.right) (is_constant (node_scope program i.node) a || is_constant (node_scope program i.node) b) k
-            (sym (ap (λ u. kind_in (binary_rule true (is_constant (node_scope program i.node) a || is_constant (node_scope program i.node) b) u r.left r.right))
-            times) ∙ r.rule)) c))
-            p q) p q)
+            (product_scaled _ o r.left r.right k r.rule times) c)) p q) p q)
         form_light at site (tree.If a b d) k s t root =
             let r = if_typed program i.node at site a b d k t in
-            and_from _ _ root
-            (and_from (is_light all_weights (flat_of program numbers i a)) _ (expression_light a kind.Bool (as_child at site (tree.If a b d) a s of_condition) r.0)
-            (and_from (is_light all_weights (flat_of program numbers i b)) _ (expression_light b k (as_child at site (tree.If a b d) b s of_first) r.1)
-            (expression_light d k (as_child at site (tree.If a b d) d s of_second) r.2)))
-        form_light at site (tree.AtMostOne es) k s t root = all_are_light es (λ j e arg. as_child at site (tree.AtMostOne es) e s (of_operand j arg))
+            and_from _ _ root (and_from _ _ (expression_light a kind.Bool (as_child s of_condition) r.0)
+            (and_from _ _ (expression_light b k (as_child s of_first) r.1) (expression_light d k (as_child s of_second) r.2)))
+        form_light at site (tree.AtMostOne es) k s t root = all_are_light es (λ j e arg. as_child s (of_operand j arg))
             (most_typed program i.node at site es k t).0
         form_light at site (tree.Call f args) k s t root = and_from _ true root refl
+        form_light at site _ k s t root = refl
 
         all_are_light : (es : Trees) → ((j : ℕ) (e : Tree) → IsArgument es j e → Stands i.node e)
             → ((j : ℕ) (e : Tree) → IsArgument es j e → IsTyped program i.node e kind.Bool) → all_light all_weights (flats_of program numbers i es) ≡ true
         all_are_light tree.None s t = refl
         all_are_light (tree.More e es) s t =
-            and_from (is_light all_weights (flat_of program numbers i e)) _ (expression_light e kind.Bool (s 0 e head) (t 0 e head))
+            and_from _ _ (expression_light e kind.Bool (s 0 e head) (t 0 e head))
             (all_are_light es (λ j a arg. s (suc j) a (tail arg)) (λ j a arg. t (suc j) a (tail arg)))
 
     -- what gives a flow
@@ -394,25 +313,19 @@ module _ (program : ProgramTree) (main : Identifier) (well : AreWell program) (n
         let t = (typed program main well named i of).output x c j right in
         let q : Sites = output_place program i c.site c.name j in
         let is = flow_there (output_flow program main well named i c j t.0 of (output_call i.node x c j right) t.1) in
-        and_from (nat_le (get_or all_weights (number q) 0) heaviest) true (within_told _ heaviest
-        (subst (λ w. w ≤ heaviest) (sym (flow_weighs q is)) (flow_light q is))) refl
+        and_from _ true (le-leb _ heaviest (subst (λ w. w ≤ heaviest) (sym (flow_weighs q is)) (flow_light q is))) refl
     giver_light p _ (by_call i c j e of called arg at) = let t = (typed program main well named i of).argument c j e called arg in
         expression_light i of e t.0 (argument_stands i.node c j e called arg) t.1
 
     items_light_from : (xs : List Item) → ((x : Item) → Contains xs x → is_light all_weights x.body ≡ true) → items_light all_weights xs ≡ true
     items_light_from [] each = refl
-    items_light_from (x ∷ xs) each = and_from (is_light all_weights x.body) (items_light all_weights xs) (each x (at_head x xs))
+    items_light_from (x ∷ xs) each = and_from _ _ (each x (at_head x xs))
         (items_light_from xs (λ y w. each y (in_tail x xs y w)))
-
-    -- what is in a list stands at a number
-    at_number : (xs : List Item) (x : Item) → Contains xs x → (k : ℕ) × (k < length xs) × (nth_item xs k ≡ x)
-    at_number xs x w = (w.0, w.1, get_or_default xs w.0 no_item x w.1 ∙ w.2)
 
     -- The flows are light.
     pub all_flows_light : items_light all_weights s.flows ≡ true
     all_flows_light = items_light_from s.flows (λ x w.
-        let a = at_number s.flows x w in
-        let r = read.flow a.0 a.1 in
+        let a = at_number s.flows x w in let r = read.flow a.0 a.1 in
         ap (λ (item : Item). is_light all_weights item.body) (sym a.2 ∙ r.2) ∙ giver_light (get_or numbers.flows a.0 []) r.0 r.1)
 
     -- The memories are light.
@@ -420,14 +333,13 @@ module _ (program : ProgramTree) (main : Identifier) (well : AreWell program) (n
     all_memories_light = items_light_from (memory_items s) (λ x w.
         let a = at_number (memory_items s) x w in
         let many = length-map s.memories (λ (m : Kept). m.item) in
-        let r = read.memory_only a.0 (let lt = a.1 in omega (arith, lt, many)) in
+        let r = read.memory_only a.0 (omega (arith, a.1, many)) in
         let t = some_is ((typed program main well named r.0 r.2).delay r.1 r.3) in
         ap (λ (item : Item). is_light all_weights item.body) (sym a.2 ∙ r.4) ∙ expression_light r.0 r.2 r.1.operand t.0 (operand_stands r.0.node r.1 r.3) t.1)
 
     -- The assertions are light.
     pub all_assertions_light : items_light all_weights s.assertions ≡ true
     all_assertions_light = items_light_from s.assertions (λ x w.
-        let a = at_number s.assertions x w in
-        let r = read.asserted a.0 a.1 in
+        let a = at_number s.assertions x w in let r = read.asserted a.0 a.1 in
         ap (λ (item : Item). is_light all_weights item.body) (sym a.2 ∙ r.4)
         ∙ expression_light r.0 r.2 r.1.body kind.Bool (as_assertion r.1 r.3) ((typed program main well named r.0 r.2).assertion r.1 r.3))

@@ -1,7 +1,7 @@
 -- Where numbers stand among some.
 use Rattle.std.proofs.Common.{◌≡◌, inl, inr, ℕ, zero, suc, ◌+◌, ◌-◌, ◌<◌, ◌≤◌, ◌^◌, List, [], ◌∷◌, map, length, get_or, replicate, set, refl, sym, ◌∙◌, ap}
 use Rattle.std.proofs.Common.{subst, arith, length-set, get_or-set_same, get_or-set_other}
-use Rattle.std.proofs.{lemmas.Bool.cases_order, lemmas.List.get_or_default, lemmas.List.get_or-map, lemmas.List.length-map, lemmas.List.length-replicate}
+use Rattle.std.proofs.{lemmas.Bool.cases_eq, lemmas.List.get_or_default, lemmas.List.get_or-map, lemmas.List.length-map, lemmas.List.length-replicate}
 use Rattle.std.specs.{Prelude.min, List.Contains}
 use Rattle.rv_tree.specs.Places.{Sites, index_of}
 use Rattle.rv_types.specs.{Needs.IsBefore, Lists.AreRising}
@@ -18,7 +18,7 @@ Apart (x ∷ xs) = (Contains xs x → ⊥) × Apart xs
 apart_of : {X : Type 0} (xs : List X) (d : X) → ((j k : ℕ) → j < k → k < length xs → get_or xs j d ≡ get_or xs k d → ⊥) → Apart xs
 apart_of [] d once = tt
 apart_of (x ∷ xs) d once = (
-  λ w. once 0 (suc w.0) (omega arith) (let lt = w.1 in omega (arith, lt)) (sym (get_or_default xs w.0 d x w.1 ∙ w.2)),
+  λ w. once 0 (suc w.0) (omega arith) (omega (arith, w.1)) (sym (get_or_default xs w.0 d x w.1 ∙ w.2)),
   apart_of xs d (λ j k lt less e. once (suc j) (suc k) (omega (arith, lt)) (omega (arith, less)) e),
 )
 
@@ -28,8 +28,7 @@ no_longer [] ys apart sub = omega arith
 no_longer (x ∷ xs) ys apart sub =
     let r = rest_of ys x (sub x (at_head x xs)) in
     let less = no_longer xs r.0 apart.1 (λ z w. r.2 z (sub z (in_tail x xs z w)) (λ e. apart.0 (subst (Contains xs) e w))) in
-    let size = r.1 in
-    omega (arith, less, size)
+    omega (arith, less, r.1)
 
 -- the numbers below a count
 abbrev below : ℕ → List ℕ
@@ -42,19 +41,13 @@ below_size (suc n) = ap suc (below_size n)
 
 below_all : (n k : ℕ) → k < n → Contains (below n) k
 below_all zero k lt = absurd (omega (arith, lt))
-below_all (suc n) k lt = elim (cases_order k n) [
+below_all (suc n) k lt = elim (cases_eq k n) [
   | inl same ↦ subst (λ j. Contains (n ∷ below n) j) (sym same) (at_head n (below n))
-  | inr other ↦ elim other [
-    | inl less ↦ in_tail n (below n) k (below_all n k less)
-    | inr more ↦ absurd (omega (arith, lt, more))
-  ]
+  | inr other ↦ in_tail n (below n) k (below_all n k (omega (arith, lt, other)))
 ]
 
 few_numbers : (ns : List ℕ) (count : ℕ) → Apart ns → ((k : ℕ) → Contains ns k → k < count) → length ns ≤ count
-few_numbers ns count apart within =
-    let h = no_longer ns (below count) apart (λ k w. below_all count k (within k w)) in
-    let size = below_size count in
-    omega (arith, h, size)
+few_numbers ns count apart within = omega (arith, no_longer ns (below count) apart (λ k w. below_all count k (within k w)), below_size count)
 
 -- What is told of other numbers changes nothing at one.
 told_other : (at : List ℕ) (j : ℕ) (ns : List ℕ) (k : ℕ) → (Contains ns k → ⊥) → get_or (told at j ns) k 0 ≡ get_or at k 0
@@ -83,10 +76,7 @@ module _ (ps : List Sites) (rising : AreRising ps) where
   once j k lt less e = not_itself (get_or ps k []) (subst (λ q. IsBefore q (get_or ps k [])) e (rising j k lt less))
 
   pub one_number : (j k : ℕ) → j < length ps → k < length ps → get_or ps j [] ≡ get_or ps k [] → j ≡ k
-  one_number j k lt less e = elim (cases_order j k) [
-    | inl same ↦ same
-    | inr other ↦ elim other [ inl before ↦ absurd (once j k before less e) | inr after ↦ absurd (once k j after lt (sym e)) ]
-  ]
+  one_number j k lt less e = sym (its_number ps once j lt) ∙ ap (index_of ps) e ∙ its_number ps once k less
 
 -- Where each number stands that is that of a place of a sequence of different places.
 module _ (places sequence : List Sites) (numbers : List ℕ) (rising : AreRising places) (few : length places < 2 ^ 32)
@@ -98,24 +88,21 @@ module _ (places sequence : List Sites) (numbers : List ℕ) (rising : AreRising
 
   as_few : length numbers ≤ length places
   as_few = few_numbers numbers (length places) apart (λ k w.
-      let h = (are.each w.0 w.1).0 in
       let e : get_or numbers w.0 0 ≡ k = get_or_default numbers w.0 0 k w.1 ∙ w.2 in
-      omega (arith, h, e))
+      omega (arith, (are.each w.0 w.1).0, e))
 
   pub stands_at : (first : ℕ) (at : List ℕ) → first ≤ 1 → at ≡ told (replicate (length places) 0) first numbers
       → (k : ℕ) → k < length places → Contains sequence (place_at places k) → get_or at k 0 ≡ first + index_of sequence (place_at places k)
   stands_at first at small is k lt w =
-      let j = w.0 in
-      let size = are.size in
-      let less : j < length numbers = (let h = w.1 in omega (arith, h, size)) in
+      let j = w.0 in let size = are.size in
+      let less : j < length numbers = (omega (arith, w.1, size)) in
       let there : get_or sequence j [] ≡ place_at places k = get_or_default sequence j [] (place_at places k) w.1 ∙ w.2 in
       let each = are.each j less in
       let same : get_or numbers j 0 ≡ k = one_number places rising (get_or numbers j 0) k each.0 lt (each.1 ∙ there) in
       let most = as_few in
       let long : length (replicate {A = ℕ} (length places) 0) ≡ length places = length-replicate (length places) 0 in
       let within = each.0 in
-      ap (λ l. get_or l k 0) is
-      ∙ ap (λ n. get_or (told (replicate (length places) 0) first numbers) n 0) (sym same)
+      ap (λ l. get_or l k 0) is ∙ ap (λ n. get_or (told (replicate (length places) 0) first numbers) n 0) (sym same)
       ∙ told_at (replicate (length places) 0) first numbers apart j less (omega (arith, within, long)) (omega (arith, most, few, small))
       ∙ ap (λ n. first + n) (sym (its_number sequence distinct j w.1) ∙ ap (index_of sequence) there)
 
@@ -125,8 +112,7 @@ pub ticks_stand : (places : List Sites) (ticks made : List ℕ) → AreRising pl
     → made ≡ told (replicate (length places) 0) 1 ticks → (k : ℕ) → k < length places → Contains (map (place_at places) ticks) (place_at places k)
     → get_or made k 0 ≡ index_of (map (place_at places) ticks) (place_at places k) + 1
 ticks_stand places ticks made rising few ordered within is k lt w =
-    let qs = map (place_at places) ticks in
-    let size = length-map ticks (place_at places) in
+    let qs = map (place_at places) ticks in let size = length-map ticks (place_at places) in
     let are : AreNumbersOf places qs ticks = record {
       size = sym size;
       each = λ j less. (

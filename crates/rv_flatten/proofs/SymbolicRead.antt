@@ -1,79 +1,27 @@
 -- A flat system that is read from its program has the program's symbolic instants, and its comparisons on their clocks.
-use Rattle.std.proofs.Common.{◌≡◌, inl, inr, ◌⊎◌, ℕ, suc, ◌+◌, ◌<◌, ◌↔◌, Bool, true, false, cond, List, [], ◌∷◌, map, length, get_or, refl, sym, ◌∙◌, ap, subst}
-use Rattle.std.proofs.Common.{arith, Option, Some, IsSome, None as Nothing}
-use Rattle.std.proofs.{lemmas.List.length-map, lemmas.Simd.map-map, Math.Nat.eq-or-lt_of_le, lemmas.Bool.cases_lt}
+use Rattle.std.proofs.Common.{◌≡◌, inl, inr, ◌⊎◌, ℕ, suc, ◌+◌, ◌<◌, Bool, true, false, List, [], ◌∷◌, map, length, get_or, refl, sym, ◌∙◌, ap, subst}
+use Rattle.std.proofs.Common.{arith, Option, Some, None as Nothing}
+use Rattle.std.proofs.{lemmas.List.length-map, lemmas.Simd.map-map}
 use Rattle.std.specs.List.{Contains}
-use Rattle.rv_base.specs.{declared.value.Value.Value, declared.value.Value.TheVariants.Flag}
-use Rattle.rv_tree.specs.Places.{Identifier, Sites, flows as flows_of, is_same, is_among, index_of}
+use Rattle.rv_tree.specs.Places.{Identifier, Sites, flows as flows_of, is_among, index_of}
 use Rattle.rv_tree.specs.{declared.tree.TypeDecl.TypeDecl, Tree.Tree, Tree.ProgramTree, Delays.Delay, Delays.node_delays}
-use Rattle.rv_types.specs.Instances.{Body, Output, Instance, place, absolute, clock_of, clock_in, clock_of_arguments, IsInstance, IsFlow, IsNode}
+use Rattle.rv_types.specs.Instances.{Instance, clock_in, IsInstance, IsFlow, IsNode}
 use Rattle.rv_types.specs.{declared.typed.Clock.TheVariants.Base, Names.labels_of, Names.texts, Values.label_count, Lists.MemoryAt, Lists.delay_place}
-use Rattle.rv_types.specs.{Lists.memory_at, Needs.Giver, Needs.Given, Needs.Of, Needs.Gives, Variables.node_parts, Variables.is_arrow, WellFormed.AreWell}
-use Rattle.rv_meaning.specs.{Runs.observer_place, Givers.AreDefined, Givers.expected, Meaning.Cells, Meaning.is_there}
+use Rattle.rv_types.specs.{Variables.node_parts, Variables.is_arrow, WellFormed.AreWell}
+use Rattle.rv_meaning.specs.{Runs.observer_place, Givers.AreDefined}
 use Rattle.rv_agreement.specs.Programs.{label_counts, kinds_of, columns_of, found_by, IsSymbolicOf, Compared, IsComparison}
-use Rattle.rv_agreement.specs.Translation.{Numbers, clock_number, tick_number, giver_item, flat_compared, IsTranslated, IsClockOf}
-use Rattle.rv_agreement.specs.Trees.{System, Item, memory_kinds, memory_places}
+use Rattle.rv_agreement.specs.Translation.{Numbers, tick_number, flat_compared, IsTranslated, IsClockOf}
 use Rattle.rv_agreement.specs.Valuations.{Valuation, Reading, Comparison, all_comparisons, IsSymbolic, whole_count, width, readings, found_at}
-use Rattle.rv_agreement.specs.{Agreement.IsWell, Evaluation.IsInstant, ProgramAgreement.IsSystemOf}
+use Rattle.rv_agreement.specs.{Agreement.IsWell, Evaluation.IsInstant, ProgramAgreement.IsSystemOf, Trees.System, Trees.memory_kinds, Trees.memory_places}
 use Rattle.rv_flat.specs.Systems.{places_of, memory_places_of, memory_of, kept_of, system_from}
 use Rattle.rv_flat.specs.{declared.parts.Bit.Bit, declared.parts.FlatExpr.FlatExpr, declared.parts.FlatFlow.FlatFlow, declared.parts.FlatInput.FlatInput}
 use Rattle.rv_flat.specs.{declared.parts.FlatMemory.FlatMemory, Lists.tick_places}
 use Rattle.rv_flatten.specs.Readings.{numbers_of, IsRead, AreKinds}
-use Rattle.rv_flatten.proofs.{AgreedLaws.Laws, AgreedLaws.AreAllFound, AgreedLaws.AreClocked, NamedParts.are_named}
-use Rattle.rv_flat.proofs.PlaceNumbers.{made_at, made_past}
+use Rattle.rv_flatten.proofs.{AgreedLaws.Laws, AgreedLaws.AreAllFound, AgreedLaws.AreClocked, NamedParts.are_named, Translated.memory_there as memory_placed}
+use Rattle.rv_flatten.proofs.ItemClocks.{clock_is}
+use Rattle.rv_flat.proofs.PlaceNumbers.{its_number, made_at, made_past}
 use Rattle.rv_agreement.proofs.Indexed.{indexed}
-use Rattle.rv_meaning.proofs.NameLemmas.{same_text}
-use Rattle.rv_types.proofs.{Members.among_from, Members.at_head, Members.in_map, Members.in_tail, Members.text_itself, ChainLaws.no_flag}
-
--- Clocks that are there at the same histories are one.
-
--- the history in which a clock alone is there
-abbrev there_alone : Option Sites → Cells
-there_alone Nothing t q = Nothing
-there_alone (Some p) t q = cond (is_same p q) (Some (Flag true)) Nothing
-
-itself_there : (k : Option Sites) → is_there (there_alone k) k 0 ≡ true
-itself_there Nothing = refl
-itself_there (Some p) = by (is_same p p) (text_itself p)
-  where
-    by : (b : Bool) → b ≡ true → is_there (λ t q. cond b (Some (Flag true)) Nothing) (Some p) 0 ≡ true
-    by true e = refl
-    by false e = no_flag e
-
-none_there : (p q : Sites) → is_there (there_alone (Some p)) (Some q) 0 ≡ true → p ≡ q
-none_there p q e = by (is_same p q) refl e
-  where
-    by : (b : Bool) → is_same p q ≡ b → is_there (λ t r. cond b (Some (Flag true)) Nothing) (Some q) 0 ≡ true → p ≡ q
-    by true is e = same_text p q is
-    by false is e = no_flag e
-
-one_clock : (a b : Option Sites) → ((h : Cells) → is_there h a 0 ≡ true → is_there h b 0 ≡ true) → ((h : Cells) → is_there h b 0 ≡ true → is_there h a 0 ≡ true)
-    → a ≡ b
-one_clock Nothing Nothing f g = refl
-one_clock Nothing (Some q) f g = no_flag (f (there_alone Nothing) refl)
-one_clock (Some p) Nothing f g = no_flag (g (there_alone Nothing) refl)
-one_clock (Some p) (Some q) f g = ap Some (none_there p q (f (there_alone (Some p)) (itself_there (Some p))))
-
--- the clock of what gives a flow
-abbrev giver_clock : Giver → Option Sites
-giver_clock (Given j) = Nothing
-giver_clock (Of i k (Body e)) = clock_in i k e
-giver_clock (Of i k (Output c j)) = absolute i (clock_of_arguments i c.args)
-
-clock_is : (program : ProgramTree) (numbers : Numbers) (g : Giver) → (giver_item program numbers g).clock ≡ clock_number numbers (giver_clock g)
-clock_is program numbers (Given j) = refl
-clock_is program numbers (Of i k (Body e)) = refl
-clock_is program numbers (Of i k (Output c j)) = refl
-
-masked : (b : Bool) (v : Value) → IsSome (cond b (Some v) Nothing) ↔ (b ≡ true)
-masked true v = (λ h. refl, λ h. refl)
-masked false v = (λ h. h, λ h. h)
-
-gives_there : (program : ProgramTree) (starts : Sites → Value) (inputs : ℕ → ℕ → Value) (g : Giver) (h : Cells)
-    → IsSome (expected program starts inputs g h 0) ↔ (is_there h (giver_clock g) 0 ≡ true)
-gives_there program starts inputs (Given j) h = (λ x. refl, λ x. refl)
-gives_there program starts inputs (Of i k (Body e)) h = masked (is_there h (clock_in i k e) 0) _
-gives_there program starts inputs (Of i k (Output c j)) h = masked (is_there h (absolute i (clock_of_arguments i c.args)) 0) _
+use Rattle.rv_types.proofs.{Members.among_from, Members.at_head, Members.in_map, Members.in_tail, ChainLaws.no_flag}
 
 -- the labels of an enumeration as they are counted
 labels_counted : (ds : List TypeDecl) → map (λ (ls : List (List ℕ)). length ls) (map (λ d. texts (labels_of d)) ds) ≡ map (λ d. label_count d) ds
@@ -96,19 +44,8 @@ module _ (laws : Laws) (program : ProgramTree) (main : Identifier) (well : AreWe
 
     module _ (translated : IsTranslated program main numbers s) where
       -- the flow of each clock is on its own
-      clock_agrees : (i : Instance) (x : Identifier) (g : Giver) → IsInstance program main i → Contains (flows_of i.node) x → Gives program main (place i x) g
-          → giver_clock g ≡ absolute i (clock_of i.node x)
-      clock_agrees i x g of w gives =
-          let own = λ (h : Cells). defined.clocked i x g (λ p. Flag false) (λ t j. Flag false) h 0 of w gives in
-          let there = λ (h : Cells). gives_there program (λ p. Flag false) (λ t j. Flag false) g h in
-          one_clock (giver_clock g) (absolute i (clock_of i.node x)) (λ h e. (own h).0 ((there h).1 e)) (λ h e. (there h).0 ((own h).1 e))
-
       is_clock : (i : Instance) (x : Identifier) → IsInstance program main i → Contains (flows_of i.node) x → IsClockOf numbers s i x
-      is_clock i x of w =
-          let at = indexed (places_of flows) (place i x) (read.sequence.flows (place i x) (i, x, of, w, refl)) in
-          let r = translated.flow (index_of (places_of flows) (place i x)) (let many = translated.many in omega (arith, at.0, many)) in
-          ap (λ (y : Item). y.clock) r.2 ∙ clock_is program numbers r.0
-          ∙ ap (clock_number numbers) (clock_agrees i x r.0 of w (subst (λ q. Gives program main q r.0) at.1 r.1))
+      is_clock = clock_is program main well named numbers s translated
 
       are_clocked : AreClocked program main numbers s
       are_clocked = are_named program main well named (λ q. Unit {0}) (λ t. Unit {0}) (IsClockOf numbers s) (λ i d of w. tt) (λ i e of w arrow. tt) is_clock
@@ -136,8 +73,7 @@ module _ (laws : Laws) (program : ProgramTree) (main : Identifier) (well : AreWe
 
       memory_there : (i : Instance) (d : Delay) → IsInstance program main i → Contains (node_delays i.node) d
           → Contains (memory_places_of memories) (delay_place i d)
-      memory_there i d of w = subst (λ l. Contains l (delay_place i d)) (sym places_same)
-          (in_map (λ m. m.place) kept (memory_at program i d) (read.list.all i d of tt w))
+      memory_there = memory_placed program main memories read.list
 
       module _ (v : Valuation) where
         given_same : (j : ℕ) → (found_at s v).given j ≡ (found_by program main kept v).given j
@@ -190,8 +126,7 @@ module _ (laws : Laws) (program : ProgramTree) (main : Identifier) (well : AreWe
             → IsSymbolicOf program main kept v (λ q. get_or row (index_of (places_of flows) q) Nothing)
         symbolic_back row is =
             laws.rows program main numbers s (columns_of program main kept) v.test (found_at s v) (found_by program main kept v) row translated given_same
-            all_found defined (indexed (places_of flows))
-            (subst (λ n. IsInstant Reading (readings n v.test) s (found_at s v) row) width_same is)
+            all_found defined (indexed (places_of flows)) (subst (λ n. IsInstant Reading (readings n v.test) s (found_at s v) row) width_same is)
 
       -- The ticks, and the observer, by their numbers.
       tick_there : (i : Instance) (e : Tree) → IsInstance program main i → Contains (node_parts i.node) e → is_arrow e ≡ true
@@ -205,23 +140,11 @@ module _ (laws : Laws) (program : ProgramTree) (main : Identifier) (well : AreWe
 
       number_is : (q : Sites) → IsFlow program main q → (k : ℕ) → k < length (places_of flows) → get_or (places_of flows) k [] ≡ q
           → k ≡ index_of (places_of flows) q
-      number_is q flow k lt is =
-          let at = indexed (places_of flows) q (read.sequence.flows q flow) in
-          one k (index_of (places_of flows) q) lt at.0 (is ∙ sym at.1)
-        where
-          one : (j k : ℕ) → j < length (places_of flows) → k < length (places_of flows) → get_or (places_of flows) j [] ≡ get_or (places_of flows) k [] → j ≡ k
-          one j k less lt same = elim (cases_lt j k) [
-            | inl below ↦ absurd (read.sequence.once j k below lt same)
-            | inr above ↦ elim (eq-or-lt_of_le {n = k} {m = j} (omega (arith, above))) [
-              | inl equal ↦ sym equal
-              | inr over ↦ absurd (read.sequence.once k j over less (sym same))
-            ]
-          ]
+      number_is q flow k lt is = sym (its_number (places_of flows) read.sequence.once k lt) ∙ ap (index_of (places_of flows)) is
 
       -- The system is read from the program, with all that it names.
       pub system_read : IsWell s → IsFlow program main (observer_place program main) → observer < length (places_of flows)
-          → get_or (places_of flows) observer [] ≡ observer_place program main
-          → IsSystemOf program main numbers s
+          → get_or (places_of flows) observer [] ≡ observer_place program main → IsSystemOf program main numbers s
       system_read is_well flow within at = record {
         translated = translated;
         well = is_well;

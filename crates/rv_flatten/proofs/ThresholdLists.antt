@@ -3,10 +3,9 @@ use Rattle.std.proofs.Common.{◌≡◌, ◌⊎◌, inl, inr, ℕ, ℤ, pos, ◌
 use Rattle.std.proofs.lemmas.List.Elements.{Contains-append_left, Contains-append_right, Contains-append_cases}
 use Rattle.std.proofs.{lemmas.Int.ints, lemmas.List.Sorted.Contains-permutation, lemmas.List.Sorted.IsPermutation-sym}
 use Rattle.std.specs.{List.Contains, List.Sorted.IsPermutation}
-use Rattle.rv_base.specs.declared.value.Value.{Value}
-use Rattle.rv_base.specs.declared.value.Value.TheVariants.{Flag, Label, Whole}
-use Rattle.rv_tree.specs.Tree.{Tree, Node, Form, True, False, Number, Named, Not, Minus, Pre, Current, When, Binary, If, AtMostOne, Call, Trees, None, More}
-use Rattle.rv_tree.specs.Tree.{EquationTree, AssertionTree, ConstantTree, NodeTree, ProgramTree}
+use Rattle.rv_base.specs.{declared.value.Value.Value, declared.value.Value.TheVariants.Whole}
+use Rattle.rv_tree.specs.Tree.{Tree, Node, Form, Number, Not, Minus, Pre, Current, When, Binary, If, AtMostOne, Call, Trees, None, More, EquationTree}
+use Rattle.rv_tree.specs.Tree.{AssertionTree, ConstantTree, NodeTree, ProgramTree}
 use Rattle.rv_types.specs.{Scopes.constant_values, Variables.parts, Variables.form_parts, Variables.parts_of_all, Variables.node_parts}
 use Rattle.rv_flat.specs.Thresholds.{IsNumberOf, in_node, in_constant, constant, beside, IsThreshold, AreThresholds}
 use Rattle.rv_flatten.specs.Literals.{literals, form_literals, literals_of_all, equation_literals, assertion_literals, node_literals, constant_literals}
@@ -24,27 +23,21 @@ wider into h = record { at = h.at; site = h.site; there = into _ h.there }
 
 mutual
   literal_part : (e : Tree) (v : ℕ) → Contains (literals e) v → HasLiteral (parts e) v
-  literal_part (Node at site form) v w = form_literal_part at site form v w
-
-  form_literal_part : (at : ℕ) (site : Option ℕ) (form : Form) (v : ℕ) → Contains (form_literals form) v → HasLiteral (Node at site form ∷ form_parts form) v
-  form_literal_part at site True v w = nothing_in v w
-  form_literal_part at site False v w = nothing_in v w
-  form_literal_part at site (Number n) v w = elim (cons_cases n [] v w) [
+  literal_part (Node at site (Number n)) v w = elim (cons_cases n [] v w) [
     | inl is ↦ subst (λ m. HasLiteral (Node at site (Number n) ∷ []) m) is (record { at = at; site = site; there = at_head (Node at site (Number n)) [] })
     | inr rest ↦ nothing_in v rest
   ]
-  form_literal_part at site (Named x) v w = nothing_in v w
-  form_literal_part at site (Not e) v w = wider (in_tail (Node at site (Not e)) (parts e)) (literal_part e v w)
-  form_literal_part at site (Minus e) v w = wider (in_tail (Node at site (Minus e)) (parts e)) (literal_part e v w)
-  form_literal_part at site (Pre e) v w = wider (in_tail (Node at site (Pre e)) (parts e)) (literal_part e v w)
-  form_literal_part at site (Current e) v w = wider (in_tail (Node at site (Current e)) (parts e)) (literal_part e v w)
-  form_literal_part at site (When e c) v w = wider (in_tail (Node at site (When e c)) (parts e)) (literal_part e v w)
-  form_literal_part at site (Binary o a b) v w = wider (in_tail (Node at site (Binary o a b)) (parts a ++ parts b))
+  literal_part (Node at site (Not e)) v w = wider (in_tail (Node at site (Not e)) (parts e)) (literal_part e v w)
+  literal_part (Node at site (Minus e)) v w = wider (in_tail (Node at site (Minus e)) (parts e)) (literal_part e v w)
+  literal_part (Node at site (Pre e)) v w = wider (in_tail (Node at site (Pre e)) (parts e)) (literal_part e v w)
+  literal_part (Node at site (Current e)) v w = wider (in_tail (Node at site (Current e)) (parts e)) (literal_part e v w)
+  literal_part (Node at site (When e c)) v w = wider (in_tail (Node at site (When e c)) (parts e)) (literal_part e v w)
+  literal_part (Node at site (Binary o a b)) v w = wider (in_tail (Node at site (Binary o a b)) (parts a ++ parts b))
       (elim (Contains-append_cases (literals a) (literals b) v w) [
         | inl u ↦ wider (Contains-append_left (parts a) (parts b)) (literal_part a v u)
         | inr u ↦ wider (Contains-append_right (parts a) (parts b)) (literal_part b v u)
       ])
-  form_literal_part at site (If a b c) v w = wider (in_tail (Node at site (If a b c)) (parts a ++ (parts b ++ parts c)))
+  literal_part (Node at site (If a b c)) v w = wider (in_tail (Node at site (If a b c)) (parts a ++ (parts b ++ parts c)))
       (elim (Contains-append_cases (literals a) (literals b ++ literals c) v w) [
         | inl u ↦ wider (Contains-append_left (parts a) (parts b ++ parts c)) (literal_part a v u)
         | inr u ↦ wider (Contains-append_right (parts a) (parts b ++ parts c)) (elim (Contains-append_cases (literals b) (literals c) v u) [
@@ -52,8 +45,9 @@ mutual
           | inr t ↦ wider (Contains-append_right (parts b) (parts c)) (literal_part c v t)
         ])
       ])
-  form_literal_part at site (AtMostOne es) v w = wider (in_tail (Node at site (AtMostOne es)) (parts_of_all es)) (literal_part_of_all es v w)
-  form_literal_part at site (Call f es) v w = wider (in_tail (Node at site (Call f es)) (parts_of_all es)) (literal_part_of_all es v w)
+  literal_part (Node at site (AtMostOne es)) v w = wider (in_tail (Node at site (AtMostOne es)) (parts_of_all es)) (literal_part_of_all es v w)
+  literal_part (Node at site (Call f es)) v w = wider (in_tail (Node at site (Call f es)) (parts_of_all es)) (literal_part_of_all es v w)
+  literal_part (Node at site _) v w = nothing_in v w
 
   literal_part_of_all : (es : Trees) (v : ℕ) → Contains (literals_of_all es) v → HasLiteral (parts_of_all es) v
   literal_part_of_all None v w = nothing_in v w
@@ -74,10 +68,6 @@ mutual
   ]
 
   form_part_literal : (form : Form) (a v : ℕ) (s : Option ℕ) → Contains (form_parts form) (Node a s (Number v)) → Contains (form_literals form) v
-  form_part_literal True a v s w = nothing_in _ w
-  form_part_literal False a v s w = nothing_in _ w
-  form_part_literal (Number n) a v s w = nothing_in _ w
-  form_part_literal (Named x) a v s w = nothing_in _ w
   form_part_literal (Not e) a v s w = part_literal e a v s w
   form_part_literal (Minus e) a v s w = part_literal e a v s w
   form_part_literal (Pre e) a v s w = part_literal e a v s w
@@ -96,6 +86,7 @@ mutual
   ]
   form_part_literal (AtMostOne es) a v s w = part_literal_of_all es a v s w
   form_part_literal (Call f es) a v s w = part_literal_of_all es a v s w
+  form_part_literal _ a v s w = nothing_in _ w
 
   part_literal_of_all : (es : Trees) (a v : ℕ) (s : Option ℕ) → Contains (parts_of_all es) (Node a s (Number v)) → Contains (literals_of_all es) v
   part_literal_of_all None a v s w = nothing_in _ w
@@ -157,14 +148,11 @@ module _ (p : ProgramTree) where
   number_gathered : (y z : ℤ) → IsNumberOf p z → Contains (around z) y → Contains (program_numbers p) y
   number_gathered y z (in_node n at v site is_node there is) w =
       Contains-append_left (flat_map around_literal (program_literals p)) (flat_map around_value (constant_values p)) y
-      (in_flat_map around_literal (program_literals p) v y
-      (Contains-append_right (constant_literals p.constants) (flat_map node_literals p.nodes) v
-      (in_flat_map node_literals p.nodes n v is_node (literal_of_node n at v site there)))
-      (subst (λ u. Contains (around u) y) (sym is) w))
+      (in_flat_map around_literal (program_literals p) v y (Contains-append_right (constant_literals p.constants) (flat_map node_literals p.nodes) v
+      (in_flat_map node_literals p.nodes n v is_node (literal_of_node n at v site there))) (subst (λ u. Contains (around u) y) (sym is) w))
   number_gathered y z (in_constant c at v site is_constant there is) w =
       Contains-append_left (flat_map around_literal (program_literals p)) (flat_map around_value (constant_values p)) y
-      (in_flat_map around_literal (program_literals p) v y
-      (Contains-append_left (constant_literals p.constants) (flat_map node_literals p.nodes) v
+      (in_flat_map around_literal (program_literals p) v y (Contains-append_left (constant_literals p.constants) (flat_map node_literals p.nodes) v
       (in_flat_map (λ (c : ConstantTree). literals c.body) p.constants c v is_constant (part_literal c.body at v site there)))
       (subst (λ u. Contains (around u) y) (sym is) w))
   number_gathered y z (constant there) w =
@@ -178,15 +166,13 @@ module _ (p : ProgramTree) where
         let h = literal_part r.0.body v r.2 in
         in_constant r.0 h.at v h.site r.1 h.there refl
     | inr u ↦
-        let r = of_flat_map node_literals p.nodes v u in
-        let h = node_literal r.0 v r.2 in
+        let r = of_flat_map node_literals p.nodes v u in let h = node_literal r.0 v r.2 in
         in_node r.0 h.at v h.site r.1 h.there refl
   ]
 
   of_value : (v : Value) (y : ℤ) → Contains (constant_values p) v → Contains (around_value v) y → IsThreshold p y
-  of_value (Flag b) y w u = nothing_in y u
-  of_value (Label l) y w u = nothing_in y u
   of_value (Whole z) y w u = (z, constant w, back_around y z u)
+  of_value _ y w u = nothing_in y u
 
   gathered_number : (y : ℤ) → Contains (program_numbers p) y → IsThreshold p y
   gathered_number y w = elim (Contains-append_cases (flat_map around_literal (program_literals p)) (flat_map around_value (constant_values p)) y w) [

@@ -4,23 +4,17 @@ use Rattle.std.proofs.lemmas.List.Elements.{Contains-append_left}
 use Rattle.std.specs.List.{Contains}
 use Rattle.rv_tree.specs.Tree.{Tree, Node, Form, Call, Trees, EquationTree, NodeTree, ProgramTree}
 use Rattle.rv_tree.specs.{declared.tree.Name.Name, Places.site_of}
-use Rattle.rv_types.specs.declared.fault.Pace.TheVariants.{Free, At, Mute, Differ}
-use Rattle.rv_types.specs.Clocks.{seen, meet, pace, pace_of_all}
 use Rattle.rv_types.specs.Instances.{CallTree, calls, calls_in, calls_in_all, calls_in_equations, calls_in_assertions, alone, IsArgument, head, tail, clock_of}
 use Rattle.rv_types.specs.Instances.{clock_of_args, taken}
-use Rattle.rv_types.specs.{declared.typed.Clock.Clock, declared.typed.Clock.TheVariants.Base, declared.fault.Pace.Pace, Names.texts, ToldPaces.IsTimed}
-use Rattle.rv_types.specs.{Variables.parts, Variables.parts_of_all, WellFormed.Suits, WellFormed.IsWellFormed}
+use Rattle.rv_types.specs.{Clocks.seen, Clocks.meet, Clocks.pace}
+use Rattle.rv_types.specs.{Clocks.pace_of_all, declared.typed.Clock.TheVariants.Base, Names.texts}
+use Rattle.rv_types.specs.{ToldPaces.IsTimed, Variables.parts, Variables.parts_of_all, WellFormed.IsWellFormed}
 use Rattle.rv_types.proofs.ToldPaces.{seen_is, grounded_is, current_is, joined, operands, when_is}
 use Rattle.rv_types.proofs.{Members.at_head, TypedParts.right_calls}
 use Rattle.rv_instances.specs.Weights.{weighed_of_several, weighed_under}
+use Rattle.rv_types.proofs.Suiting.{suits_timed}
 use Rattle.rv_flatten.proofs.Standing.{Stands, as_right, as_argument, as_assertion, as_child, IsChild, of_not, of_minus, of_pre, of_current, of_when, of_left}
 use Rattle.rv_flatten.proofs.Standing.{of_right, of_condition, of_first, of_second, of_operand, of_argument}
-
-suits_timed : (k : Clock) (p : Pace) → Suits k p → IsTimed p
-suits_timed k Free h = tt
-suits_timed k (At c) h = tt
-suits_timed k Mute h = h
-suits_timed k Differ h = h
 
 module _ (program : ProgramTree) (n : NodeTree) (formed : IsWellFormed program n) where
   argument_timed : (es : Trees) (j : ℕ) (e : Tree) → IsArgument es j e → IsTimed (pace_of_all n es) → IsTimed (pace n e)
@@ -53,13 +47,11 @@ module _ (program : ProgramTree) (n : NodeTree) (formed : IsWellFormed program n
           let call = formed.sides q w other in
           let same : parts_of_all call.3 ≡ Node call.0 call.1 (Call call.2 call.3) ∷ parts_of_all call.3 = subst (λ (e : Tree). weighed_of_several e ≡ parts e)
           call.4 whole in
-          let long = ap length same in
-          omega (arith, long)
+          omega (arith, ap length same)
 
       by : (ls : List Name) → q.lefts ≡ ls → weighed_under ls q.right ≡ parts q.right → IsTimed (pace n q.right)
-      by [] e whole = absurd (several (λ one. let m = ap length e in omega (arith, m, one)) whole)
       by (x ∷ []) e whole = suits_timed (clock_of n x.text) (pace n q.right) (formed.body_clock x.text q.right (alone q w (ap texts e)))
-      by (x ∷ y ∷ ls) e whole = absurd (several (λ one. let m = ap length e in omega (arith, m, one)) whole)
+      by _ e whole = absurd (several (λ one. omega (arith, ap length e, one)) whole)
 
   pub stands_timed : (e : Tree) → Stands n e → IsTimed (pace n e)
   stands_timed _ (as_right q w whole) = right_timed q w whole
@@ -70,4 +62,4 @@ module _ (program : ProgramTree) (n : NodeTree) (formed : IsWellFormed program n
       (right_calls n.equations q c w of_right_side) in
       suits_timed (clock_of_args n args) (pace n e) (formed.argument_clock c j e there arg)
   stands_timed _ (as_assertion a w) = suits_timed (taken Base (pace n a.body)) (pace n a.body) (formed.assertion_clock a w)
-  stands_timed _ (as_child at site form e s child) = child_timed at site form e child (stands_timed (Node at site form) s)
+  stands_timed _ (as_child {at = at} {site = site} {form = form} {e = e} s child) = child_timed at site form e child (stands_timed (Node at site form) s)

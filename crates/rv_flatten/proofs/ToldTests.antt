@@ -20,10 +20,10 @@ told_is s o a k typed =
 module _ (p : ProgramTree) where
   module _ (n : NodeTree) (formed : IsWellFormed p n) (typed : IsWellTyped p n) where
     own_told : (e : Tree) → Contains (node_parts n) e → own_of n (is_told_test (node_scope p n)) e ≡ own_of n (is_test (node_scope p n)) e
-    own_told (Node at Nothing (Binary o a b)) w = refl
     own_told (Node at (Some k) (Binary o a b)) w =
         let t = left_typed p n formed typed at (Some k) o a b w in
         ap (λ (c : Bool). cond c (record { site = k; operator = o } ∷ []) [] ++ []) (told_is (node_scope p n) o a t.0 t.1)
+    own_told (Node at Nothing (Binary o a b)) w = refl
     own_told (Node at site _) w = refl
 
     node_told : told_tests_in p n ≡ tests_in p n

@@ -4,16 +4,16 @@ use Rattle.std.proofs.Common.{subst, arith, Option, Some, None as Nothing}
 use Rattle.std.proofs.{lemmas.List.length-map, lemmas.Option.slice_get-map, lemmas.Option.get_or_from_slice_get, lemmas.Simd.map-map}
 use Rattle.std.specs.{List.Contains, Option.option_map}
 use Rattle.rv_base.specs.declared.value.Value.TheVariants.{Flag}
-use Rattle.rv_tree.specs.Tree.{Tree, Form, Trees, AssertionTree, ProgramTree}
+use Rattle.rv_tree.specs.Tree.{Tree, Trees, AssertionTree, ProgramTree}
 use Rattle.rv_tree.specs.{declared.tree.Op.Op, Places.Identifier, Places.Sites, Places.is_flow, Places.index_of, Delays.Delay, Delays.node_delays}
 use Rattle.rv_tree.specs.declared.tree.Op.TheVariants as op
 use Rattle.rv_tree.specs.Tree as tree
-use Rattle.rv_types.specs.Instances.{Body, Output, Instance, place, clock_of, clock_in, clock_of_arguments, IsInstance, IsArgument, head, tail}
-use Rattle.rv_types.specs.Needs.{Giver, Of, Gives, given, by_equation, by_call}
+use Rattle.rv_types.specs.Instances.{Body, Instance, place, clock_of, clock_in, clock_of_arguments, IsInstance, IsArgument, head, tail}
+use Rattle.rv_types.specs.Needs.{Giver, Of, Gives, by_equation, by_call}
 use Rattle.rv_types.specs.Lists.{AreMemories, IsAny, delay_place, memory_at}
 use Rattle.rv_types.specs.{declared.typed.Clock.Clock, declared.typed.Clock.TheVariants.Base, Types.is_constant, Scopes.node_scope, Scopes.constant_value}
 use Rattle.rv_agreement.specs.Programs.{operator_place, coefficient, operation}
-use Rattle.rv_agreement.specs.Translation.{Numbers, clock_number, tick_number, flat_of, flat_form, flats_of, giver_item, delay_item, IsTranslated}
+use Rattle.rv_agreement.specs.Translation.{Numbers, clock_number, tick_number, flat_of, flats_of, giver_item, delay_item, IsTranslated}
 use Rattle.rv_agreement.specs.Trees.{FlatTree, TreeForm, Item, System, no_item}
 use Rattle.rv_agreement.specs.Translation as translation
 use Rattle.rv_agreement.specs.Trees as flat
@@ -21,7 +21,7 @@ use Rattle.rv_flat.specs.RawTree.{RawTree, Node, RawForm, Constant, Flow, Ticked
 use Rattle.rv_flat.specs.Systems.{memory_places_of, memory_of, flow_item, memory_item, asserted, assertion_item, kept_of, system_from}
 use Rattle.rv_flat.specs.{declared.parts.Bit.Bit, declared.parts.FlatExpr.FlatExpr, declared.parts.FlatFlow.FlatFlow, declared.parts.FlatInput.FlatInput}
 use Rattle.rv_flat.specs.{declared.parts.FlatMemory.FlatMemory, Inlined.inlined, Inlined.form_inlined, Inlined.all_inlined, Inlined.table_of, Inlined.IsTable}
-use Rattle.rv_flatten.specs.Readings.{numbers_of, unplaced, presence, product, operator, raw_of, raw_form, raws_of, RawItem, raw_flow, raw_memory, no_raw}
+use Rattle.rv_flatten.specs.Readings.{numbers_of, unplaced, presence, product, operator, raw_of, raws_of, RawItem, raw_flow, raw_memory, no_raw}
 use Rattle.rv_flatten.specs.Readings.{raw_giver, raw_delay, assertion_of, no_assumption, IsRead}
 use Rattle.rv_flatten.proofs.Standing.{Stands, as_child, of_not, of_minus, of_current, of_when, of_left, of_right, of_condition, of_first, of_second}
 use Rattle.rv_flatten.proofs.Standing.{of_operand, own_current, body_stands, argument_stands, as_assertion, operand_stands}
@@ -98,22 +98,7 @@ module _ (program : ProgramTree) (main : Identifier) (flows : List FlatFlow) (me
     operator_shown : (o : Op) (choice times : RawForm) (f g : RawTree)
         → form_shown (operator o choice times f g) ≡ operation o (form_shown choice) (form_shown times) (flat.Binary o (shown f) (shown g))
     operator_shown op.Arrow choice times f g = refl
-    operator_shown op.Implies choice times f g = refl
-    operator_shown op.Or choice times f g = refl
-    operator_shown op.Xor choice times f g = refl
-    operator_shown op.And choice times f g = refl
-    operator_shown op.Equal choice times f g = refl
-    operator_shown op.Differs choice times f g = refl
-    operator_shown op.Less choice times f g = refl
-    operator_shown op.AtMost choice times f g = refl
-    operator_shown op.Greater choice times f g = refl
-    operator_shown op.AtLeast choice times f g = refl
-    operator_shown op.Plus choice times f g = refl
-    operator_shown op.Minus choice times f g = refl
-    operator_shown op.Times choice times f g = refl
-    operator_shown op.Slash choice times f g = refl
-    operator_shown op.Div choice times f g = refl
-    operator_shown op.Mod choice times f g = refl
+    operator_shown _ choice times f g = refl
 
     product_shown : (left : Bool) (y z : ℤ) (f g : RawTree) → form_shown (product left y z f g) ≡ cond left (flat.Scale y (shown g)) (flat.Scale z (shown f))
     product_shown true y z f g = refl
@@ -128,50 +113,39 @@ module _ (program : ProgramTree) (main : Identifier) (flows : List FlatFlow) (me
       mutual
         -- an expression that stands in the instance
         pub expression_shown : (e : Tree) → Stands i.node e → shown (raw_of program numbers i e) ≡ flat_of program numbers i e
-        expression_shown (tree.Node at site form) s = each_shown at site form s
-
-        each_shown : (at : ℕ) (site : Option ℕ) (form : Form) → Stands i.node (tree.Node at site form)
-            → shown (raw_form program numbers i site form) ≡ flat_form program numbers i site form
-        each_shown at site tree.True s = refl
-        each_shown at site tree.False s = refl
-        each_shown at site (tree.Number n) s = refl
-        each_shown at site (tree.Named x) s = ap (flat.Node []) (name_shown x (is_flow i.node x))
-        each_shown at site (tree.Not e) s = ap (λ t. flat.Node [] (flat.Not t)) (expression_shown e (as_child at site (tree.Not e) e s of_not))
-        each_shown at site (tree.Minus e) s = ap (λ t. flat.Node [] (flat.Scale (negsuc 0) t))
-            (expression_shown e (as_child at site (tree.Minus e) e s of_minus))
-        each_shown at site (tree.Pre e) s = refl
-        each_shown at site (tree.Current e) s =
+        expression_shown (tree.Node at site (tree.Named x)) s = ap (flat.Node []) (name_shown x (is_flow i.node x))
+        expression_shown (tree.Node at site (tree.Not e)) s = ap (λ t. flat.Node [] (flat.Not t)) (expression_shown e (as_child s of_not))
+        expression_shown (tree.Node at site (tree.Minus e)) s = ap (λ t. flat.Node [] (flat.Scale (negsuc 0) t))
+            (expression_shown e (as_child s of_minus))
+        expression_shown (tree.Node at site (tree.Current e)) s =
             let d : Delay = record { site = site; operand = e } in
             let w = own_current i.node at site e s in
             let m : ℕ = index_of (memory_places_of memories) (delay_place i d) in
-            let operand = expression_shown e (as_child at site (tree.Current e) e s of_current) in
+            let operand = expression_shown e (as_child s of_current) in
             let own : table_of memories m ≡ record { clock = clock_number numbers (clock_in i Base e); body = flat_of program numbers i e } =
             table_at m (number_within i d of w) ∙ ap item_shown (memory_raw i d of w)
             ∙ (λ j. record { clock = clock_number numbers (clock_in i Base e); body = operand j }) in
             ap (λ (x : Item). flat.Node [] (flat.Current m x.clock x.body)) own
-        each_shown at site (tree.When e c) s = ap (λ t. flat.Node [] (flat.When (index_of numbers.flows (place i c.text)) t))
-            (expression_shown e (as_child at site (tree.When e c) e s (of_when c)))
-        each_shown at site (tree.Binary o a b) s =
-            let p = expression_shown a (as_child at site (tree.Binary o a b) a s of_left) in
-            let q = expression_shown b (as_child at site (tree.Binary o a b) b s of_right) in
+        expression_shown (tree.Node at site (tree.When e c)) s = ap (λ t. flat.Node [] (flat.When (index_of numbers.flows (place i c.text)) t))
+            (expression_shown e (as_child s (of_when c)))
+        expression_shown (tree.Node at site (tree.Binary o a b)) s =
+            let p = expression_shown a (as_child s of_left) in let q = expression_shown b (as_child s of_right) in
             let f : RawTree = raw_of program numbers i a in
             let g : RawTree = raw_of program numbers i b in
             let left : Bool = is_constant (node_scope program i.node) a in
             let y : ℤ = coefficient program a in
             let z : ℤ = coefficient program b in
             let n : ℕ = tick_number numbers (clock_in i Base (tree.Node 0 site (tree.Binary o a b))) in
-            ap (flat.Node (operator_place program i site o a))
-            (operator_shown o (If (unplaced (Ticked n)) g f) (product left y z f g) f g
+            ap (flat.Node (operator_place program i site o a)) (operator_shown o (If (unplaced (Ticked n)) g f) (product left y z f g) f g
             ∙ (λ j. operation o (flat.If (flat.Node [] (flat.Ticked n)) (q j) (p j))
             ((product_shown left y z f g ∙ (λ k. cond left (flat.Scale y (q k)) (flat.Scale z (p k)))) j) (flat.Binary o (p j) (q j))))
-        each_shown at site (tree.If a b c) s =
-            let p = expression_shown a (as_child at site (tree.If a b c) a s of_condition) in
-            let q = expression_shown b (as_child at site (tree.If a b c) b s of_first) in
-            let r = expression_shown c (as_child at site (tree.If a b c) c s of_second) in
+        expression_shown (tree.Node at site (tree.If a b c)) s =
+            let p = expression_shown a (as_child s of_condition) in let q = expression_shown b (as_child s of_first) in
+            let r = expression_shown c (as_child s of_second) in
             λ j. flat.Node [] (flat.If (p j) (q j) (r j))
-        each_shown at site (tree.AtMostOne es) s = ap (λ t. flat.Node [] (flat.AtMostOne t))
-            (all_shown es (λ j e arg. as_child at site (tree.AtMostOne es) e s (of_operand j arg)))
-        each_shown at site (tree.Call f args) s = refl
+        expression_shown (tree.Node at site (tree.AtMostOne es)) s = ap (λ t. flat.Node [] (flat.AtMostOne t))
+            (all_shown es (λ j e arg. as_child s (of_operand j arg)))
+        expression_shown (tree.Node at site _) s = refl
 
         all_shown : (es : Trees) → ((j : ℕ) (e : Tree) → IsArgument es j e → Stands i.node e)
             → all_inlined (table_of memories) (raws_of program numbers i es) ≡ flats_of program numbers i es
@@ -199,8 +173,7 @@ module _ (program : ProgramTree) (main : Identifier) (flows : List FlatFlow) (me
           ap (λ (t : Option ℕ × RawTree). record { clock = t.0; body = shown t.1 }) (wrapped k (i.path ++ a.site ∷ []) (raw_of program numbers i a.body))
           ∙ (λ j. record { clock = k; body = p j })
 
-      pub whole_shown : (a : AssertionTree) → Contains i.node.assertions a
-          → shown (assertion_of program numbers i a)
+      pub whole_shown : (a : AssertionTree) → Contains i.node.assertions a → shown (assertion_of program numbers i a)
           ≡ flat.Node (i.path ++ a.site ∷ []) (flat.If (flat.Node [] (form_shown (presence (clock_number numbers (clock_in i Base a.body)))))
           (flat_of program numbers i a.body) (flat.Node [] (flat.Constant (Flag true))))
       whole_shown a w =
@@ -210,27 +183,23 @@ module _ (program : ProgramTree) (main : Identifier) (flows : List FlatFlow) (me
 
     -- what gives a flow
     giver_shown : (q : Sites) (g : Giver) → Gives program main q g → item_shown (raw_giver program numbers g) ≡ giver_item program numbers g
-    giver_shown q _ (given j lt at) = refl
     giver_shown q _ (by_equation i x (Body e) of right at) = body_shown i of (clock_of i.node x) e (body_stands i.node x e right)
-    giver_shown q _ (by_equation i x (Output c n) of right at) = refl
     giver_shown q _ (by_call i c j e of called arg at) = body_shown i of (clock_of_arguments i c.args) e (argument_stands i.node c j e called arg)
+    giver_shown q _ _ = refl
 
     -- the memory with a number
     memory_shown : (m : ℕ) → m < length memories → get_or (map (λ k. k.item) (map (kept_of memories) memories)) m no_item ≡ item_shown
         (get_or (map raw_memory memories) m no_raw)
     memory_shown m lt =
         let x = item_at memories m lt in
-        ap (λ l. get_or l m no_item) (map-map (λ k. k.item) (kept_of memories) memories)
-        ∙ mapped_at (memory_item memories) memories m x.0 no_item x.1
+        ap (λ l. get_or l m no_item) (map-map (λ k. k.item) (kept_of memories) memories) ∙ mapped_at (memory_item memories) memories m x.0 no_item x.1
         ∙ ap item_shown (sym (mapped_at raw_memory memories m x.0 no_raw x.1))
 
     pub memory_is : (m : ℕ) (lt : m < length memories) → get_or (map (memory_item memories) memories) m no_item ≡ delay_item program numbers
         (read.memory m lt).0 (read.memory m lt).1
     memory_is m lt =
-        let x = item_at memories m lt in
-        let r = read.memory m lt in
-        mapped_at (memory_item memories) memories m x.0 no_item x.1
-        ∙ ap item_shown (sym (mapped_at raw_memory memories m x.0 no_raw x.1) ∙ r.5)
+        let x = item_at memories m lt in let r = read.memory m lt in
+        mapped_at (memory_item memories) memories m x.0 no_item x.1 ∙ ap item_shown (sym (mapped_at raw_memory memories m x.0 no_raw x.1) ∙ r.5)
         ∙ delay_shown r.0 r.2 r.1 r.3
 
     module _ (labels : List (List (List ℕ))) (observer : ℕ) where
@@ -249,20 +218,16 @@ module _ (program : ProgramTree) (main : Identifier) (flows : List FlatFlow) (me
         tick_clocks = refl;
         many = length-map flows (flow_item memories) ∙ sym (length-map flows (λ x. x.place.sites));
         flow = λ k lt.
-            let less : k < length flows = let many = length-map flows (flow_item memories) in omega (arith, lt, many) in
+            let less : k < length flows = omega (arith, lt, length-map flows (flow_item memories)) in
             let x = item_at flows k less in
-            let r = read.flow k less in (
-              r.0,
-              r.1,
-              mapped_at (flow_item memories) flows k x.0 no_item x.1
-                  ∙ ap item_shown (sym (mapped_at raw_flow flows k x.0 no_raw x.1) ∙ r.2)
-                  ∙ giver_shown _ r.0 r.1,
-            );
+            let r = read.flow k less in
+            let item = mapped_at (flow_item memories) flows k x.0 no_item x.1 ∙ ap item_shown (sym (mapped_at raw_flow flows k x.0 no_raw x.1) ∙ r.2) in
+            (r.0, r.1, item ∙ giver_shown _ r.0 r.1);
         memory = λ i d of w. memory_shown (index_of (memory_places_of memories) (delay_place i d)) (number_within i d of w)
             ∙ ap item_shown (memory_raw i d of w) ∙ delay_shown i of d w;
-        memory_there = λ i d of w. let many = length-map memories (kept_of memories) in let lt = number_within i d of w in omega (arith, lt, many);
+        memory_there = λ i d of w. omega (arith, number_within i d of w, length-map memories (kept_of memories));
         memory_only = λ m lt.
-            let less : m < length memories = let many = length-map memories (kept_of memories) in omega (arith, lt, many) in
+            let less : m < length memories = omega (arith, lt, length-map memories (kept_of memories)) in
             let r = read.memory m less in
             (r.0, r.1, r.2, r.3, memory_shown m less ∙ ap item_shown r.5 ∙ delay_shown r.0 r.2 r.1 r.3);
         asserts = λ i a of w.
@@ -270,15 +235,10 @@ module _ (program : ProgramTree) (main : Identifier) (flows : List FlatFlow) (me
             (subst (Contains (map asserted_shown (map raw_tree assertions))) (assertion_shown i of a w)
             (in_map asserted_shown (map raw_tree assertions) (assertion_of program numbers i a) (read.asserts i a of w)));
         asserted = λ k lt.
-            let less : k < length assertions = let many = length-map assertions (assertion_item memories) in omega (arith, lt, many) in
+            let less : k < length assertions = omega (arith, lt, length-map assertions (assertion_item memories)) in
             let x = item_at assertions k less in
-            let r = read.asserted k less in (
-              r.0,
-              r.1,
-              r.2,
-              r.3,
-              mapped_at (assertion_item memories) assertions k x.0 no_item x.1
-                  ∙ ap asserted_shown (sym (mapped_at raw_tree assertions k x.0 no_assumption x.1) ∙ r.4)
-                  ∙ assertion_shown r.0 r.2 r.1 r.3,
-            );
+            let r = read.asserted k less in
+            let item = mapped_at (assertion_item memories) assertions k x.0 no_item x.1
+            ∙ ap asserted_shown (sym (mapped_at raw_tree assertions k x.0 no_assumption x.1) ∙ r.4) in
+            (r.0, r.1, r.2, r.3, item ∙ assertion_shown r.0 r.2 r.1 r.3);
       }

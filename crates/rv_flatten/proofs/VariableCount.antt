@@ -1,32 +1,30 @@
 -- A program has as many diagram variables as are counted, and no fewer.
 use Rattle.std.proofs.Common.{◌≡◌, inl, inr, ℕ, zero, suc, ◌+◌, ◌≤◌, Bool, true, false, ◌&&◌, cond, nat_eq, List, [], ◌∷◌, ◌++◌, map, flat_map, length, refl}
 use Rattle.std.proofs.Common.{sym, ◌∙◌, ap, subst, arith, unwrap_or, append_assoc, length-append, Option, Some, None as Nothing}
-use Rattle.std.proofs.{lemmas.Bool.Decides.nat_tests, lemmas.List.length-map, lemmas.List.Elements.Contains-append_cases, lemmas.Bool.or_parts}
+use Rattle.std.proofs.{lemmas.Bool.Decides.nat_tests, lemmas.Bool.eqb-true, lemmas.List.append-nil, lemmas.List.Elements.Contains-append_cases}
+use Rattle.std.proofs.{lemmas.Bool.or_parts}
 use Rattle.std.specs.List.{Contains}
 use Rattle.rv_tree.specs.{declared.tree.Op.Op, Delays.Delay, Delays.node_delays, Delays.IsNumbered, Places.Identifier, Places.Sites, Sites.is_comparison}
 use Rattle.rv_tree.specs.{SitedParts.part, Tree.Tree, Tree.Node, Tree.Binary, Tree.NodeTree, Tree.ProgramTree}
-use Rattle.rv_tree.specs.declared.tree.Op.TheVariants as op
 use Rattle.rv_types.specs.declared.typed.Kind.TheVariants as kind
 use Rattle.rv_types.specs.Instances.{CallTree, calls, Instance, callee, unrolled, main_instance, IsInstance, is_main, is_callee, all_instances, clock_in}
-use Rattle.rv_types.specs.Instances.{node_of}
-use Rattle.rv_types.specs.Lists.{AreTicks, AreMemories, AreComparisons, AreVariables, IsAny, MemoryAt, ComparisonAt, MainTick, Tick, with_copies}
-use Rattle.rv_types.specs.Lists.{memory_variables, input_variables, test_variables, sides_of, memory_at}
+use Rattle.rv_types.specs.Lists.{AreTicks, AreMemories, AreComparisons, AreVariables, IsAny, MemoryAt, ComparisonAt, sides_of, memory_at}
 use Rattle.rv_types.specs.Variables.{total, is_integer, is_in, memories, memories_beside, node_parts, kind_bits, memory_bits, tests_of, own_tests, order_tests}
 use Rattle.rv_types.specs.Variables.{is_arrow, arrow_clocks, same_place, is_place_in, different, over_instances, ticks, variable_count}
-use Rattle.rv_types.specs.{declared.typed.Clock.TheVariants.Base, Kinds.decl_kinds, Scopes.node_scope, Types.kind_of, Values.operand_kind, WellFormed.AreSited}
+use Rattle.rv_types.specs.{declared.typed.Clock.TheVariants.Base, Scopes.node_scope, Types.kind_of, Values.operand_kind, WellFormed.AreSited}
 use Rattle.rv_agreement.specs.Programs.{is_test}
 use Rattle.rv_flatten.specs.Compared as compared
 use Rattle.rv_flatten.specs.{declared.comparisons.Tested.Tested, Compared.tests_in}
 use Rattle.rv_flat.specs.{declared.parts.Bit.Bit, Lists.variable_of}
-use Rattle.rv_flatten.proofs.ComparedParts.{found_test, own_of, node_is, sited_count, own_count, counted_among, is_site, one_at, has_site}
-use Rattle.rv_flatten.proofs.CountedVariables.{total_same, around, still_there, length_memories, length_inputs, length_tests, ones, own_clocks, site, ticks_few}
+use Rattle.rv_flatten.proofs.ComparedParts.{found_test, own_of, node_is, sited_count, own_count, counted_among, is_site, one_at, has_site, sides_told}
+use Rattle.rv_flatten.proofs.CountedVariables.{total_less, around, still_there, length_variables, ones, own_clocks, sides_counted, site, tests, ticks_few}
 use Rattle.rv_flatten.proofs.CountedVariables.{memories_few, tests_few}
 use Rattle.rv_flatten.proofs.{Apart.IsApart, Apart.apart_told, Apart.apart_by, Apart.apart_map, Apart.apart_flat, ComparedPlaces.has_sides}
 use Rattle.rv_instances.proofs.FlowPlaces.{snoc_parts}
 use Rattle.rv_types.proofs.Members.{at_head, cons_cases, in_tail, nothing_in, of_flat_map}
-use Rattle.rv_types.proofs.DifferentPlaces.{of_different, total_append, total_map, total_same as total_same_in, total_flat_map}
-use Rattle.rv_types.proofs.{ChainLaws.no_flag, NamePlaces.length_copies}
-use Rattle.rv_base.proofs.Lists.{from_map, same_next}
+use Rattle.rv_types.proofs.DifferentPlaces.{of_different, total_append, total_map, total_same, total_flat_map, same_self}
+use Rattle.rv_types.proofs.{ChainLaws.no_flag}
+use Rattle.rv_base.proofs.{Lists.from_map, Lists.same_next, Truths.of_not_false}
 
 -- A sum over elements that are told apart, all of which are in a list, is no more than that over the list.
 sum_once : {X K : Type 0} (f : X → ℕ) (key : X → K) (xs ys : List X) → IsApart key xs → ((x : X) → Contains xs x → Contains ys x) → total f xs ≤ total f ys
@@ -35,10 +33,7 @@ sum_once f key (x ∷ xs) ys apart all =
     let s = around ys x (all x (at_head x xs)) in
     let fewer = sum_once f key xs (s.0 ++ s.1) apart.1
     (λ y v. still_there s.0 s.1 x y (subst (λ l. Contains l y) s.2 (all y (in_tail x xs y v))) (λ e. apart.0 y v (ap key e))) in
-    let a = ap (total f) s.2 in
-    let b = total_append f s.0 (x ∷ s.1) in
-    let c = total_append f s.0 s.1 in
-    omega (arith, fewer, a, b, c)
+    omega (arith, fewer, ap (total f) s.2, total_append f s.0 (x ∷ s.1), total_append f s.0 s.1)
 
 -- Instances.
 module _ (p : ProgramTree) (main : Identifier) (sited_calls : AreSited p) (node_in : (i : Instance) → IsInstance p main i → Contains p.nodes i.node) where
@@ -46,16 +41,12 @@ module _ (p : ProgramTree) (main : Identifier) (sited_calls : AreSited p) (node_
   below_path : (levels : ℕ) (i a : Instance) → Contains (unrolled p levels i) a → (q : Sites) × (a.path ≡ i.path ++ q)
   below_path zero i a w = nothing_in a w
   below_path (suc levels) i a w = elim (cons_cases i (flat_map (λ (c : CallTree). unrolled p levels (callee p i c)) (calls i.node)) a w) [
-    | inl same ↦ ([], ap (λ (x : Instance). x.path) (sym same) ∙ nothing_more i.path)
+    | inl same ↦ ([], ap (λ (x : Instance). x.path) (sym same) ∙ sym (append-nil i.path))
     | inr rest ↦
         let r = of_flat_map (λ (c : CallTree). unrolled p levels (callee p i c)) (calls i.node) a rest in
         let s = below_path levels (callee p i r.0) a r.2 in
         (r.0.site ∷ s.0, s.1 ∙ append_assoc i.path (r.0.site ∷ []) s.0)
   ]
-    where
-      nothing_more : (xs : List ℕ) → xs ≡ xs ++ []
-      nothing_more [] = refl
-      nothing_more (x ∷ xs) = ap (λ l. x ∷ l) (nothing_more xs)
 
   unrolled_apart : (levels : ℕ) (i : Instance) → IsInstance p main i → IsApart (λ (x : Instance). x.path) (unrolled p levels i)
   unrolled_apart zero i is = tt
@@ -67,8 +58,7 @@ module _ (p : ProgramTree) (main : Identifier) (sited_calls : AreSited p) (node_
   )
     where
       beside : (c d : CallTree) (a b : Instance) → Contains (calls i.node) c → Contains (calls i.node) d → Contains (unrolled p levels (callee p i c)) a
-          → Contains (unrolled p levels (callee p i d)) b
-          → a.path ≡ b.path → c.site ≡ d.site
+          → Contains (unrolled p levels (callee p i d)) b → a.path ≡ b.path → c.site ≡ d.site
       beside c d a b v w in_a in_b e =
           let s = below_path levels (callee p i c) a in_a in
           let t = below_path levels (callee p i d) b in_b in
@@ -78,8 +68,7 @@ module _ (p : ProgramTree) (main : Identifier) (sited_calls : AreSited p) (node_
       above y w e =
           let r = of_flat_map (λ (c : CallTree). unrolled p levels (callee p i c)) (calls i.node) y w in
           let s = below_path levels (callee p i r.0) y r.2 in
-          let long = ap length (e ∙ s.1) in
-          omega (arith, long, length-append (i.path ++ r.0.site ∷ []) s.0, length-append i.path (r.0.site ∷ []))
+          omega (arith, ap length (e ∙ s.1), length-append (i.path ++ r.0.site ∷ []) s.0, length-append i.path (r.0.site ∷ []))
 
   instances_apart : IsApart (λ (x : Instance). x.path) (all_instances p main)
   instances_apart = unrolled_apart (length p.nodes) (main_instance p main) is_main
@@ -130,13 +119,9 @@ out_of_places [] q e w = nothing_in q w
 out_of_places (r ∷ qs) q e w =
     let no = or_parts (same_place r q) (is_place_in qs q) e in
     elim (cons_cases r qs q w) [
-      | inl same ↦ no_flag (sym (subst (λ (x : Sites). same_place x q ≡ false) same no.0) ∙ itself q)
+      | inl same ↦ no_flag (sym (subst (λ (x : Sites). same_place x q ≡ false) same no.0) ∙ same_self q)
       | inr rest ↦ out_of_places qs q no.1 rest
     ]
-  where
-    itself : (q : Sites) → same_place q q ≡ true
-    itself [] = refl
-    itself (x ∷ xs) = let h = itself xs in let e : nat_eq x x ≡ true = grind (arith, nat_tests) in (λ i. e i && h i)
 
 different_apart : (qs : List Sites) → IsApart (λ (q : Sites). q) (different qs)
 different_apart [] = tt
@@ -156,8 +141,7 @@ from_arrow i (e ∷ es) q w = elim (Contains-append_cases (own_clocks i e) (arro
 ]
   where
     own : (b : Bool) → is_arrow e ≡ b → (o : Option Sites) → clock_in i Base e ≡ o
-        → Contains (cond b (elim o as (λ _. List Sites) [ Nothing ↦ [] | Some p ↦ p ∷ [] ]) []) q
-        → (is_arrow e ≡ true) × (clock_in i Base e ≡ Some q)
+        → Contains (cond b (elim o as (λ _. List Sites) [ Nothing ↦ [] | Some p ↦ p ∷ [] ]) []) q → (is_arrow e ≡ true) × (clock_in i Base e ≡ Some q)
     own true arrow Nothing at w = nothing_in q w
     own true arrow (Some p) at w = elim (cons_cases p [] q w) [
       | inl same ↦ (arrow, at ∙ ap Some same)
@@ -170,7 +154,7 @@ from_arrow i (e ∷ es) q w = elim (Contains-append_cases (own_clocks i e) (arro
 -- elements are told apart, where one at most has each key
 apart_once : {X : Type 0} (key : X → ℕ) (xs : List X) → ((k : ℕ) → total (λ x. cond (nat_eq (key x) k) 1 0) xs ≤ 1) → IsApart key xs
 apart_once key [] once = tt
-apart_once {X = X} key (x ∷ xs) once = (other, apart_once key xs (λ k. let h = once k in omega (arith, h)))
+apart_once {X = X} key (x ∷ xs) once = (other, apart_once key xs (λ k. omega (arith, once k)))
   where
     other : (y : X) → Contains xs y → key x ≡ key y → ⊥
     other y w e =
@@ -181,13 +165,6 @@ apart_once {X = X} key (x ∷ xs) once = (other, apart_once key xs (λ k. let h 
         let among = counted_among count xs y w in
         let all : count x + total count xs ≤ 1 = once (key x) in
         absurd (omega (arith, first, second, among, all))
-
-total_less_in : {X : Type 0} (f g : X → ℕ) (xs : List X) → ((x : X) → Contains xs x → f x ≤ g x) → total f xs ≤ total g xs
-total_less_in f g [] less = omega arith
-total_less_in f g (x ∷ xs) less =
-    let h = total_less_in f g xs (λ y w. less y (in_tail x xs y w)) in
-    let a = less x (at_head x xs) in
-    omega (arith, h, a)
 
 -- A node's comparisons of integers have sites of their own, and there are as many order tests of them as are counted.
 module _ (p : ProgramTree) (n : NodeTree) (numbered : IsNumbered n) where
@@ -209,30 +186,23 @@ module _ (p : ProgramTree) (n : NodeTree) (numbered : IsNumbered n) where
       once k =
           let count : Tested → ℕ = λ t. cond (nat_eq t.site k) 1 0 in
           let own = own_of n (is_test (node_scope p n)) in
-          let are = ap (total count) (node_is n (is_test (node_scope p n))) in
-          let each = total_flat_map count own (node_parts n) in
-          let less = total_less_in (λ (e : Tree). total count (own e)) (own_count (is_site k)) (node_parts n) (λ e w. own_once k e) in
-          let one = one_at n numbered k in
-          omega (arith, are, each, less, one)
+          let less = total_less (λ (e : Tree). total count (own e)) (own_count (is_site k)) (node_parts n) (λ e w. own_once k e) in
+          omega (arith, ap (total count) (node_is n (is_test (node_scope p n))), total_flat_map count own (node_parts n), less, one_at n numbered k)
 
   abbrev test_count : Tested → ℕ
-  test_count t = tests_of t.operator
+  test_count t = length (sides_of t.operator)
 
   no_tests : (o : Op) → is_comparison o ≡ false → tests_of o ≡ 0
-  no_tests op.Equal e = no_flag (sym e)
-  no_tests op.Differs e = no_flag (sym e)
-  no_tests op.Less e = no_flag (sym e)
-  no_tests op.AtMost e = no_flag (sym e)
-  no_tests op.Greater e = no_flag (sym e)
-  no_tests op.AtLeast e = no_flag (sym e)
-  no_tests _ e = refl
+  no_tests o e =
+      let none : nat_eq (length (sides_of o)) 0 ≡ true = of_not_false (nat_eq (length (sides_of o)) 0) (sym (sides_told o) ∙ e) in
+      sym (sides_counted o) ∙ eqb-true (length (sides_of o)) 0 none
 
   own_counted : (e : Tree) → Contains (node_parts n) e → total test_count (own_of n (is_test (node_scope p n)) e) ≡ own_tests p n e
   own_counted (Node at (Some k) (Binary o a b)) w = by (is_comparison o) refl (is_integer (operand_kind p n a))
     where
       by : (c : Bool) → is_comparison o ≡ c → (i : Bool)
           → total test_count (cond (c && i) (record { site = k; operator = o } ∷ []) [] ++ []) ≡ cond i (tests_of o) 0
-      by true e true = omega arith
+      by true e true = omega (arith, sides_counted o)
       by true e false = refl
       by false e true = sym (no_tests o e)
       by false e false = refl
@@ -247,9 +217,8 @@ module _ (p : ProgramTree) (n : NodeTree) (numbered : IsNumbered n) where
   order_tests_are : order_tests p n ≡ total test_count (tests_in p n)
   order_tests_are =
       let own = own_of n (is_test (node_scope p n)) in
-      sym (total_same_in (λ (e : Tree). total test_count (own e)) (own_tests p n) (node_parts n) own_counted)
-      ∙ sym (total_flat_map test_count own (node_parts n))
-      ∙ ap (total test_count) (sym (node_is n (is_test (node_scope p n))))
+      sym (total_same (λ (e : Tree). total test_count (own e)) (own_tests p n) (node_parts n) own_counted)
+      ∙ sym (total_flat_map test_count own (node_parts n)) ∙ ap (total test_count) (sym (node_is n (is_test (node_scope p n))))
 
 -- All together.
 module _ (p : ProgramTree) (main : Identifier) (sited_calls : AreSited p) (numbered : (n : NodeTree) → Contains p.nodes n → IsNumbered n)
@@ -270,9 +239,7 @@ module _ (p : ProgramTree) (main : Identifier) (sited_calls : AreSited p) (numbe
         (λ q w. let r = of_flat_map clocks instances q (of_different (flat_map clocks instances) q w) in
         let s = from_arrow r.0 (node_parts r.0.node) q r.2 in
         are.all r.0 s.0 q (only r.0 r.1) s.1 s.2 s.3) in
-        let a = ones qs in
-        let b = ones (ticks p main) in
-        omega (arith, few, a, b)
+        omega (arith, few, ones qs, ones (ticks p main))
 
     abbrev memories_of : Instance → List MemoryAt
     memories_of i = map (memory_at p i) (memories i.node)
@@ -288,77 +255,41 @@ module _ (p : ProgramTree) (main : Identifier) (sited_calls : AreSited p) (numbe
         (λ i j a b v w in_a in_b same.
         let x = from_map (memory_at p i) (memories i.node) a in_a in
         let y = from_map (memory_at p j) (memories j.node) b in_b in
-        (snoc_parts i.path j.path (site i.node x.0) (site j.node y.0) (ap (λ (m : MemoryAt). m.place) x.2 ∙ same ∙ sym (ap (λ (m : MemoryAt). m.place) y.2))).0) in
-        let few = sum_once f (λ (m : MemoryAt). m.place) (flat_map memories_of instances) ms each
-        (λ m w. let r = of_flat_map memories_of instances m w in
+        (snoc_parts i.path j.path (site i.node x.0) (site j.node y.0) (ap (λ (m : MemoryAt). m.place) x.2 ∙ same
+        ∙ sym (ap (λ (m : MemoryAt). m.place) y.2))).0) in
+        let few = sum_once f (λ (m : MemoryAt). m.place) (flat_map memories_of instances) ms each (λ m w. let r = of_flat_map memories_of instances m w in
         let x = from_map (memory_at p r.0) (memories r.0.node) m r.2 in
         subst (λ (m : MemoryAt). Contains ms m) x.2 (are.all r.0 x.0 (only r.0 r.1) tt (among r.0.node [] (node_delays r.0.node) x.0 x.1))) in
-        let a = total_flat_map f memories_of instances in
         let b = total_same (λ (i : Instance). total f (memories_of i)) (λ (i : Instance). memory_bits p i.node) instances
-        (λ i. total_map f (memory_at p i) (memories i.node)) in
-        omega (arith, few, a, b)
+        (λ i w. total_map f (memory_at p i) (memories i.node)) in
+        omega (arith, few, total_flat_map f memories_of instances, b)
 
     abbrev tests_at : Instance → List ComparisonAt
     tests_at i = map (compared.compared_at i.path) (tests_in p i.node)
 
-    abbrev sides : ComparisonAt → ℕ
-    sides c = length (sides_of c.operator)
-
-    sides_many : (o : Op) → tests_of o ≤ length (sides_of o)
-    sides_many op.Equal = omega arith
-    sides_many op.Differs = omega arith
-    sides_many op.Less = omega arith
-    sides_many op.AtMost = omega arith
-    sides_many op.Greater = omega arith
-    sides_many op.AtLeast = omega arith
-    sides_many _ = omega arith
-
-    tests_many : (cs : List ComparisonAt) → AreComparisons p main cs → over_instances p main (order_tests p) ≤ total sides cs
+    tests_many : (cs : List ComparisonAt) → AreComparisons p main cs → over_instances p main (order_tests p) ≤ total tests cs
     tests_many cs are =
         let each : IsApart (λ (c : ComparisonAt). c.place) (flat_map tests_at instances) =
         apart_flat (λ (x : Instance). x.path) (λ (c : ComparisonAt). c.place) tests_at instances apart
         (λ i w. apart_map (λ (c : ComparisonAt). c.place) (compared.compared_at i.path) (tests_in p i.node)
         (apart_by (λ (t : Tested). t.site) (λ (t : Tested). i.path ++ t.site ∷ []) (tests_in p i.node)
-        (λ t u v w same. (snoc_parts i.path i.path t.site u.site same).1)
-        (node_tests_apart p i.node (numbered i.node (node_in i (only i w))))))
+        (λ t u v w same. (snoc_parts i.path i.path t.site u.site same).1) (node_tests_apart p i.node (numbered i.node (node_in i (only i w))))))
         (λ i j a b v w in_a in_b same.
         let x = from_map (compared.compared_at i.path) (tests_in p i.node) a in_a in
         let y = from_map (compared.compared_at j.path) (tests_in p j.node) b in_b in
         (snoc_parts i.path j.path x.0.site y.0.site (ap (λ (c : ComparisonAt). c.place) x.2 ∙ same ∙ sym (ap (λ (c : ComparisonAt). c.place) y.2))).0) in
-        let few = sum_once sides (λ (c : ComparisonAt). c.place) (flat_map tests_at instances) cs each
-        (λ c w. let r = of_flat_map tests_at instances c w in
+        let few = sum_once tests (λ (c : ComparisonAt). c.place) (flat_map tests_at instances) cs each (λ c w. let r = of_flat_map tests_at instances c w in
         let x = from_map (compared.compared_at r.0.path) (tests_in p r.0.node) c r.2 in
-        let t = found_test p r.0.node x.0 x.1 in
-        let v = t.2 in
-        subst (λ (c : ComparisonAt). Contains cs c) x.2
-        (are.all r.0 t.0 (compared.compared_at r.0.path x.0) (only r.0 r.1) t.1
+        let t = found_test p r.0.node x.0 x.1 in let v = t.2 in
+        subst (λ (c : ComparisonAt). Contains cs c) x.2 (are.all r.0 t.0 (compared.compared_at r.0.path x.0) (only r.0 r.1) t.1
         (v.at, x.0.site, v.left, v.right, v.is, v.integer, has_sides x.0.operator v.compares, refl {a = r.0.path ++ x.0.site ∷ []}))) in
-        let a = total_flat_map sides tests_at instances in
-        let b = total_less_in (λ (i : Instance). order_tests p i.node) (λ (i : Instance). total sides (tests_at i)) instances
-        (λ i w. let c = order_tests_are p i.node (numbered i.node (node_in i (only i w))) in
-        let d = total_map sides (compared.compared_at i.path) (tests_in p i.node) in
-        let e = total_less_in (λ (t : Tested). tests_of t.operator) (λ (t : Tested). length (sides_of t.operator)) (tests_in p i.node)
-        (λ t v. sides_many t.operator) in
-        omega (arith, c, d, e)) in
-        omega (arith, few, a, b)
+        let b = total_same (λ (i : Instance). order_tests p i.node) (λ (i : Instance). total tests (tests_at i)) instances
+        (λ i w. order_tests_are p i.node (numbered i.node (node_in i (only i w))) ∙ sym (total_map tests (compared.compared_at i.path) (tests_in p i.node))) in
+        omega (arith, few, total_flat_map tests tests_at instances, b)
 
     pub counted_variables : (bs : List Bit) → AreVariables p main (map variable_of bs) → length bs ≡ variable_count p main
     counted_variables bs are =
-        let state = MainTick ∷ map Tick are.ticks ++ memory_variables p are.memories in
-        let given = input_variables p 0 (decl_kinds p (node_of p main).inputs) in
-        let a = sym (length-map bs variable_of) ∙ ap length are.list in
-        let b = length-append (with_copies state) (given ++ test_variables are.comparisons) in
-        let c = length-append given (test_variables are.comparisons) in
-        let d = length_copies state in
-        let e = length-append (map Tick are.ticks) (memory_variables p are.memories) in
-        let f = length-map are.ticks Tick in
-        let g = length_memories p are.memories in
-        let h = length_inputs p 0 (decl_kinds p (node_of p main).inputs) in
-        let i = length_tests are.comparisons in
-        let j = ticks_few p main all are.ticks are.are_ticks in
-        let k = memories_few p main all are.memories are.are_memories in
-        let l = tests_few p main all are.comparisons are.are_comparisons in
-        let x = ticks_many are.ticks are.are_ticks in
-        let y = memories_many are.memories are.are_memories in
-        let z = tests_many are.comparisons are.are_comparisons in
-        omega (arith, a, b, c, d, e, f, g, h, i, j, k, l, x, y, z)
+        let few_ticks = ticks_few p main all are.ticks are.are_ticks in let few_kept = memories_few p main all are.memories are.are_memories in
+        let few_tests = tests_few p main all are.comparisons are.are_comparisons in let many_tests = tests_many are.comparisons are.are_comparisons in
+        let many_kept = memories_many are.memories are.are_memories in
+        omega (arith, length_variables p main all bs are, few_ticks, few_kept, few_tests, ticks_many are.ticks are.are_ticks, many_kept, many_tests)

@@ -1,18 +1,16 @@
 -- Of all flows it is told what gives them their values.
-use Rattle.std.proofs.Common.{◌≡◌, ℕ, ◌+◌, ◌<◌, inl, inr, List, [], ◌∷◌, map, length, get_or, Option, Some, sym, ◌∙◌, ap, subst, arith, None as Nothing}
-use Rattle.std.proofs.{lemmas.Bool.cases_eq, lemmas.List.append_assoc}
+use Rattle.std.proofs.Common.{◌≡◌, ℕ, ◌+◌, ◌<◌, List, map, length, get_or, Option, Some, sym, ◌∙◌, ap, subst, arith, None as Nothing}
 use Rattle.std.specs.List.{Contains}
 use Rattle.rv_tree.specs.{Tree.Tree, Tree.NodeTree, Tree.ProgramTree, Places.Identifier, Places.site_of}
-use Rattle.rv_types.specs.Instances.{CallTree, calls, Right, IsRight, IsArgument, callee, node_of, main_instance, is_main, is_callee}
-use Rattle.rv_types.specs.Needs.{Giver, Gives, by_equation, by_call, IsBefore, given as by_input}
+use Rattle.rv_types.specs.Instances.{CallTree, calls, Right, IsRight, IsArgument, node_of, main_instance, is_main}
+use Rattle.rv_types.specs.Needs.{Giver, Gives, by_equation, by_call, given as by_input}
 use Rattle.rv_instances.specs.Giving.{AreGiven, IsGiven, first_of, number_at}
 use Rattle.rv_instances.specs.Layouts.{AreCallees, callee_or_main, node_at, all_places}
 use Rattle.rv_instances.specs.{declared.answer.Instance.Instance as Numbered, declared.givers.Giver.Giver as Told, declared.givers.Giver.TheVariants.Input}
 use Rattle.rv_instances.specs.{Expanded.IsExpanded, Flowing.AreFlowPlaces, Flowing.place_at, Givers.AreGivers, Givers.StandsFor}
 use Rattle.rv_instances.proofs.ExpandedLaws.{number_at as instance_number, main_at, node_in, node_is}
-use Rattle.rv_instances.proofs.{BaseClocks.callee_number, FlowPlaces.are_flow_places, GivenFlows.site_placed, GivenFlows.input_placed, GiverLaws.flow_giver}
-use Rattle.rv_instances.proofs.{GiverLaws.flow_site, GiverLaws.one_giver, Known.map_at, LaidFlows.inputs_among, Lists.length_map, Lists.nat_split}
-use Rattle.rv_types.proofs.PlaceOrders.{not_itself}
+use Rattle.rv_instances.proofs.{BaseClocks.site_placed, BaseClocks.argument_input_placed, FlowPlaces.are_flow_places, GivenFlows.input_placed}
+use Rattle.rv_instances.proofs.{Flowing.site_there, GiverLaws.flow_giver, GiverLaws.one_giver, Known.map_at, Lists.length_map, Lists.one_number}
 
 module _ (p : ProgramTree) (main : Identifier) (instances : List Numbered) (known : IsExpanded p main instances) where
   pub flow_places : AreFlowPlaces p main (all_places p instances)
@@ -21,15 +19,7 @@ module _ (p : ProgramTree) (main : Identifier) (instances : List Numbered) (know
   -- two numbers of one place are one
   pub one_place : (j k : ℕ) → j < length (all_places p instances) → k < length (all_places p instances)
       → place_at (all_places p instances) j ≡ place_at (all_places p instances) k → j ≡ k
-  one_place j k lt less e = elim (cases_eq j k) [
-    | inl same ↦ same
-    | inr other ↦ elim (nat_split j k) [
-      | inl before ↦ absurd (not_itself (place_at (all_places p instances) k)
-          (subst (λ q. IsBefore q (place_at (all_places p instances) k)) e (flow_places.rising j k before less)))
-      | inr ge ↦ absurd (not_itself (place_at (all_places p instances) j)
-          (subst (λ q. IsBefore q (place_at (all_places p instances) j)) (sym e) (flow_places.rising k j (omega (arith, ge, other)) lt)))
-    ]
-  ]
+  one_place = one_number (place_at (all_places p instances)) (length (all_places p instances)) flow_places.rising
 
   module _ (table : List ((ℕ × ℕ) × ℕ)) (callees : AreCallees instances table) (found : List (Option Told))
       (inputs : (j : ℕ) → j < length (node_of p main).inputs → IsGiven found j)
@@ -46,8 +36,7 @@ module _ (p : ProgramTree) (main : Identifier) (instances : List Numbered) (know
         let m = instance_number p main instances known i is in
         let node = node_is p main instances known m.0 i is m.2 in
         let flow = ((known.well.formed i.node (node_in p main instances known i is)).left x r right).0 in
-        let site = flow_site p main instances known i.node x (node_in p main instances known i is) flow in
-        let at = site_placed p main instances known m.0 i (site_of i.node x) m.1 is m.2 site in
+        let at = site_placed p main instances known m.0 i (site_of i.node x) m.1 is m.2 (site_there i.node x flow).0 in
         let number : number_at p instances m.0 x ≡ first_of p instances m.0 + site_of i.node x = ap (λ (n : NodeTree). first_of p instances m.0 + site_of n x)
         node in
         subst (IsGiven found) (number ∙ one_place (first_of p instances m.0 + site_of i.node x) k at.0 lt (at.1 ∙ e))
@@ -55,13 +44,8 @@ module _ (p : ProgramTree) (main : Identifier) (instances : List Numbered) (know
     given_at k _ lt (by_call i c j e is w arg at_place) =
         let m = instance_number p main instances known i is in
         let node = node_is p main instances known m.0 i is m.2 in
-        let to = callee_number p main instances known table callees m.0 i c m.1 is m.2 w in
-        let input = (known.well.formed i.node (node_in p main instances known i is)).no_more c j e w arg in
-        let among = inputs_among (node_of p c.name) in
-        let at = site_placed p main instances known (callee_or_main table m.0 c.site) (callee p i c) j to.0 (is_callee c is w) to.1
-        (omega (arith, input, among)) in
-        subst (IsGiven found) (one_place (first_of p instances (callee_or_main table m.0 c.site) + j) k at.0 lt
-        (at.1 ∙ append_assoc i.path (c.site ∷ []) (j ∷ []) ∙ at_place))
+        let at = argument_input_placed p main instances known table callees m.0 i c j e m.1 is m.2 w arg in
+        subst (IsGiven found) (one_place (first_of p instances (callee_or_main table m.0 c.site) + j) k at.0 lt (at.1 ∙ at_place))
         (arguments m.0 c j e m.1 (subst (λ (n : NodeTree). Contains (calls n) c) (sym node) w) arg)
 
     pub all_given : (k : ℕ) → k < length (all_places p instances) → IsGiven found k
@@ -83,4 +67,4 @@ module _ (p : ProgramTree) (main : Identifier) (instances : List Numbered) (know
       size = sym (length_map {X = Told} {Y = Option Told} Some givers) ∙ ap length is ∙ so_far.size
 
       within : (k : ℕ) → k < length givers → k < length (all_places p instances)
-      within k lt = let s = size in omega (arith, s, lt)
+      within k lt = omega (arith, size, lt)

@@ -1,17 +1,18 @@
 -- The numbers of the flows of base clocks.
-use Rattle.std.proofs.Common.{◌≡◌, ℕ, ◌+◌, ◌<◌, ◌≤◌, ◌^◌, ◌⊎◌, inl, inr, List, [], ◌∷◌, ◌++◌, length, get_or, replicate, set, zero, suc, Option, refl, sym, ◌∙◌}
+use Rattle.std.proofs.Common.{◌≡◌, ℕ, ◌+◌, ◌<◌, ◌≤◌, ◌^◌, ◌⊎◌, inl, inr, List, [], ◌∷◌, ◌++◌, length, get_or, set, Option, sym, ◌∙◌}
 use Rattle.std.proofs.Common.{ap, subst, arith, None as Nothing, unwrap_or}
-use Rattle.std.proofs.{lemmas.List.get_or-set_other, lemmas.List.get_or-set_same, lemmas.Bool.cases_eq}
+use Rattle.std.proofs.{lemmas.List.append_assoc, lemmas.List.get_or-set_other, lemmas.List.get_or-set_same, lemmas.Bool.cases_eq}
 use Rattle.std.specs.List.{Contains}
-use Rattle.rv_tree.specs.{Bounded.most, Tree.NodeTree, Tree.ProgramTree, Places.Identifier, Places.flows}
-use Rattle.rv_types.specs.Instances.{CallTree, calls, Instance, absolute, clock_of_args, callee, IsInstance, is_main, is_callee}
+use Rattle.rv_tree.specs.{Bounded.most, Tree.Tree, Tree.NodeTree, Tree.ProgramTree, Places.Identifier, Places.flows}
+use Rattle.rv_types.specs.Instances.{CallTree, calls, Instance, absolute, clock_of_args, node_of, callee, IsArgument, IsInstance, is_main, is_callee}
 use Rattle.rv_types.specs.{declared.typed.Clock.Clock, declared.typed.Clock.TheVariants.Base, declared.typed.Clock.TheVariants.On}
-use Rattle.rv_instances.specs.Layouts.{path_at, flows_before, number_of, IsWithin, IsClockPlaced, IsBaseOf, AreCallees, callee_or_main, all_places}
+use Rattle.rv_instances.specs.Layouts.{path_at, flows_before, number_of, IsWithin, IsPlaced, IsClockPlaced, IsBaseOf, AreCallees, callee_or_main, all_places}
 use Rattle.rv_instances.specs.{declared.answer.Instance.Instance as Numbered, AllInstances.numbered, Expanded.IsExpanded, Expanded.no_instance}
 use Rattle.rv_instances.specs.{Flowing.IsKnownClock, Flowing.flow_count}
 use Rattle.rv_instances.proofs.ExpandedLaws.{are_paths, instance_at, number_at, node_in, node_is, node_few, path_is, same, same_at}
 use Rattle.rv_instances.proofs.FlowPlaces.{not_empty, snoc_parts, snoc_view}
-use Rattle.rv_instances.proofs.{ArgumentClocks.arguments_clock_known, Chained.caller_before, LaidFlows.few_before, LaidFlows.flow_placed}
+use Rattle.rv_instances.proofs.LaidFlows.{few_before, flow_placed, inputs_among}
+use Rattle.rv_instances.proofs.{ArgumentClocks.arguments_clock_known, Chained.caller_before}
 
 module _ (p : ProgramTree) (main : Identifier) (instances : List Numbered) (known : IsExpanded p main instances) where
   -- how many flows an instance has
@@ -22,28 +23,27 @@ module _ (p : ProgramTree) (main : Identifier) (instances : List Numbered) (know
   pub first_few : (m : ℕ) → m < length instances → flows_before (flow_count p instances) m + most < 2 ^ 32
   first_few m lt =
       let h = few_before (flow_count p instances) most m (λ k less. node_few p main instances known k (omega (arith, less, lt))) in
-      let few = known.few in
-      omega (arith, h, few, lt)
+      omega (arith, h, known.few, lt)
 
   pub clock_within : (m : ℕ) (i : Instance) (k : Clock) → m < length instances → IsInstance p main i → get_or instances m no_instance ≡ numbered p i
       → IsKnownClock i.node k → IsWithin (flows_before (flow_count p instances) m) k
   clock_within m i Base lt is e within = tt
-  clock_within m i (On s) lt is e within =
-      let h = first_few m lt in
-      let few = node_few p main instances known m lt in
-      let size = count_is m i is e in
-      omega (arith, h, few, size, within)
+  clock_within m i (On s) lt is e within = omega (arith, first_few m lt, node_few p main instances known m lt, count_is m i is e, within)
 
-  -- the flow of a clock of an instance
-  pub clock_placed : (m : ℕ) (i : Instance) (b : Option ℕ) (k : Clock) → m < length instances → IsInstance p main i
+  -- a flow of an instance, by its number
+  pub site_placed : (m : ℕ) (i : Instance) (s : ℕ) → m < length instances → IsInstance p main i → get_or instances m no_instance ≡ numbered p i
+      → s < length (flows i.node) → IsPlaced (all_places p instances) (flows_before (flow_count p instances) m + s) (i.path ++ s ∷ [])
+  site_placed m i s lt is e less =
+      let at = flow_placed p instances m s lt (omega (arith, less, count_is m i is e)) in
+      (at.0, at.1 ∙ ap (λ q. q ++ s ∷ []) (path_is p main instances known m i e))
+
+  -- and the flow of a clock of it
+  clock_placed : (m : ℕ) (i : Instance) (b : Option ℕ) (k : Clock) → m < length instances → IsInstance p main i
       → get_or instances m no_instance ≡ numbered p i → IsKnownClock i.node k
       → IsClockPlaced (all_places p instances) b i.base → IsClockPlaced (all_places p instances) (number_of (flows_before (flow_count p instances) m) b k)
       (absolute i k)
   clock_placed m i b Base lt is e within placed = placed
-  clock_placed m i b (On s) lt is e within placed =
-      let size = count_is m i is e in
-      let at = flow_placed p instances m s lt (omega (arith, within, size)) in
-      (at.0, at.1 ∙ ap (λ q. q ++ s ∷ []) (path_is p main instances known m i e))
+  clock_placed m i b (On s) lt is e within placed = site_placed m i s lt is e within
 
   module _ (table : List ((ℕ × ℕ) × ℕ)) (callees : AreCallees instances table) where
     -- the number of what a call gives
@@ -55,8 +55,24 @@ module _ (p : ProgramTree) (main : Identifier) (instances : List Numbered) (know
         let told = callees.found m c.site k.0 lt k.1 (path_is p main instances known k.0 (callee p i c) k.2
         ∙ ap (λ q. q ++ c.site ∷ []) (sym (path_is p main instances known m i e))) in
         let is_k : callee_or_main table m c.site ≡ k.0 = ap (λ o. unwrap_or o 0) told in
-        let less = k.1 in
-        (omega (arith, is_k, less), ap (λ j. get_or instances j no_instance) is_k ∙ k.2)
+        (omega (arith, is_k, k.1), ap (λ j. get_or instances j no_instance) is_k ∙ k.2)
+
+    -- a flow of what a call gives, by its number
+    pub callee_placed : (m : ℕ) (i : Instance) (c : CallTree) (j : ℕ) → m < length instances → IsInstance p main i
+        → get_or instances m no_instance ≡ numbered p i → Contains (calls i.node) c → j < length (flows (node_of p c.name))
+        → IsPlaced (all_places p instances) (flows_before (flow_count p instances) (callee_or_main table m c.site) + j) (i.path ++ c.site ∷ j ∷ [])
+    callee_placed m i c j lt is e w less =
+        let to = callee_number m i c lt is e w in
+        let at = site_placed (callee_or_main table m c.site) (callee p i c) j to.0 (is_callee c is w) to.1 less in
+        (at.0, at.1 ∙ append_assoc i.path (c.site ∷ []) (j ∷ []))
+
+    -- and the input of an argument
+    pub argument_input_placed : (m : ℕ) (i : Instance) (c : CallTree) (j : ℕ) (a : Tree) → m < length instances → IsInstance p main i
+        → get_or instances m no_instance ≡ numbered p i → Contains (calls i.node) c → IsArgument c.args j a
+        → IsPlaced (all_places p instances) (flows_before (flow_count p instances) (callee_or_main table m c.site) + j) (i.path ++ c.site ∷ j ∷ [])
+    argument_input_placed m i c j a lt is e w arg =
+        let among = inputs_among (node_of p c.name) in
+        callee_placed m i c j lt is e w (omega (arith, (known.well.formed i.node (node_in p main instances known i is)).no_more c j a w arg, among))
 
     module _ (m : ℕ) (i : Instance) (b : Option ℕ) (lt : m < length instances) (is : IsInstance p main i) (e : get_or instances m no_instance ≡ numbered p i)
         (own : IsClockPlaced (all_places p instances) b i.base) where
@@ -64,31 +80,28 @@ module _ (p : ProgramTree) (main : Identifier) (instances : List Numbered) (know
       pub base_set : (bases new : List (Option ℕ)) (c : CallTree) (k : ℕ) → length bases ≡ length instances → Contains (calls i.node) c
           → new ≡ set bases (callee_or_main table m c.site) (number_of (flows_before (flow_count p instances) m) b (clock_of_args i.node c.args))
           → (k ≡ callee_or_main table m c.site) ⊎ IsBaseOf p main instances bases k → IsBaseOf p main instances new k
-      base_set bases new c k size w is_new which a js f = elim (cases_eq k (callee_or_main table m c.site)) [
-        | inl here ↦
-            let to = callee_number m i c lt is e w in
-            let less = to.0 in
-            let at : k < length bases = omega (arith, less, here, size) in
-            let same_one : callee p i c ≡ a = same_at p main instances known k (callee p i c) a (is_callee c is w) js
-            (ap (λ j. get_or instances j no_instance) here ∙ to.1) f in
-            let value : get_or new k Nothing ≡ number_of (flows_before (flow_count p instances) m) b (clock_of_args i.node c.args) =
-            ap (λ l. get_or l k Nothing) (is_new ∙ ap (λ j. set bases j (number_of (flows_before (flow_count p instances) m) b (clock_of_args i.node c.args)))
-            (sym here))
-            ∙ get_or-set_same bases k (number_of (flows_before (flow_count p instances) m) b (clock_of_args i.node c.args)) Nothing at in
-            subst (λ o. IsClockPlaced (all_places p instances) o a.base) (sym value)
-            (subst (λ (j : Instance). IsClockPlaced (all_places p instances)
-            (number_of (flows_before (flow_count p instances) m) b (clock_of_args i.node c.args)) j.base) same_one
-            (clock_placed m i b (clock_of_args i.node c.args) lt is e (arguments_clock_known p known.named i.node (node_in p main instances known i is) c w)
-            own))
-        | inr other ↦ elim which [
-          | inl here ↦ absurd (other here)
-          | inr before ↦
-              let value : get_or new k Nothing ≡ get_or bases k Nothing =
-              ap (λ l. get_or l k Nothing) is_new ∙ get_or-set_other bases (callee_or_main table m c.site) k
-              (number_of (flows_before (flow_count p instances) m) b (clock_of_args i.node c.args)) Nothing other in
-              subst (λ o. IsClockPlaced (all_places p instances) o a.base) (sym value) (before a js f)
-        ]
-      ]
+      base_set bases new c k size w is_new which a js f =
+          let number = number_of (flows_before (flow_count p instances) m) b (clock_of_args i.node c.args) in
+          elim (cases_eq k (callee_or_main table m c.site)) [
+            | inl here ↦
+                let to = callee_number m i c lt is e w in
+                let at : k < length bases = omega (arith, to.0, here, size) in
+                let same_one : callee p i c ≡ a = same_at p main instances known k (callee p i c) a (is_callee c is w) js
+                (ap (λ j. get_or instances j no_instance) here ∙ to.1) f in
+                let value : get_or new k Nothing ≡ number =
+                ap (λ l. get_or l k Nothing) (is_new ∙ ap (λ j. set bases j number) (sym here)) ∙ get_or-set_same bases k number Nothing at in
+                subst (λ o. IsClockPlaced (all_places p instances) o a.base) (sym value)
+                (subst (λ (j : Instance). IsClockPlaced (all_places p instances) number j.base) same_one
+                (clock_placed m i b (clock_of_args i.node c.args) lt is e
+                (arguments_clock_known p known.named i.node (node_in p main instances known i is) c w) own))
+            | inr other ↦ elim which [
+              | inl here ↦ absurd (other here)
+              | inr before ↦
+                  let value : get_or new k Nothing ≡ get_or bases k Nothing =
+                  ap (λ l. get_or l k Nothing) is_new ∙ get_or-set_other bases (callee_or_main table m c.site) k number Nothing other in
+                  subst (λ o. IsClockPlaced (all_places p instances) o a.base) (sym value) (before a js f)
+            ]
+          ]
 
   module _ (m : ℕ) (i : Instance) (is : IsInstance p main i) (e : get_or instances m no_instance ≡ numbered p i) where
     -- what has the path of the instance and one site more is called by it
@@ -121,11 +134,5 @@ module _ (p : ProgramTree) (main : Identifier) (instances : List Numbered) (know
     | inl empty ↦ none t empty
     | inr v ↦
         let j = caller_before instances (are_paths p main instances known) t v.1 v.0 lt v.2 in
-        let before = j.1 in
-        done j.0 v.1 t (omega (arith, before, le)) lt (v.2 ∙ ap (λ q. q ++ v.1 ∷ []) (sym j.2))
+        done j.0 v.1 t (omega (arith, j.1, le)) lt (v.2 ∙ ap (λ q. q ++ v.1 ∷ []) (sym j.2))
   ]
-
-pub all_nothing : (n k : ℕ) → get_or (replicate {A = Option ℕ} n Nothing) k Nothing ≡ Nothing
-all_nothing zero k = refl
-all_nothing (suc n) zero = refl
-all_nothing (suc n) (suc k) = all_nothing n k

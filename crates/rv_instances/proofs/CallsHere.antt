@@ -6,7 +6,8 @@ use Rattle.rv_tree.specs.{Tree.NodeTree, Tree.ProgramTree, Places.Identifier}
 use Rattle.rv_types.specs.Instances.{CallTree, calls, Instance, clock_of_args, IsInstance}
 use Rattle.rv_instances.specs.Expanded.{IsExpanded, IsCallOf, ToldCall, told, calls_told, no_instance}
 use Rattle.rv_instances.specs.{declared.answer.Instance.Instance as Numbered, declared.timed.ClockedCall.ClockedCall, declared.layout.Laid.Laid}
-use Rattle.rv_instances.specs.{AllInstances.numbered, Layouts.node_at, Layouts.laid_at, Layouts.all_laid}
+use Rattle.rv_instances.specs.{AllInstances.numbered, Layouts.node_at, Layouts.laid_at, Layouts.all_laid, Layouts.flows_before}
+use Rattle.rv_instances.specs.Flowing.{flow_count}
 use Rattle.rv_instances.proofs.{ExpandedLaws.instance_at, ExpandedLaws.node_is, LaidFlows.laid_is, ToldCalls.call_listed, ToldCalls.listed_call}
 
 module _ (p : ProgramTree) (main : Identifier) (instances : List Numbered) (known : IsExpanded p main instances) (m : ℕ) (lt : m < length instances)
@@ -36,7 +37,11 @@ module _ (p : ProgramTree) (main : Identifier) (instances : List Numbered) (know
       (v.0, v.1, λ x. ap (λ (t : ToldCall). t.site) (v.2 x))
 
 -- what the layout has of an instance
-pub laid_read : (p : ProgramTree) (instances : List Numbered) (laid : List Laid) (m : ℕ) (l : Laid) → m < length instances
+laid_read : (p : ProgramTree) (instances : List Numbered) (laid : List Laid) (m : ℕ) (l : Laid) → m < length instances
     → laid ≡ all_laid p instances (length instances) → slice_get laid m ≡ Some l → l ≡ laid_at p instances m
 laid_read p instances laid m l lt are is =
     sym (get_or_from_slice_get laid m l l is) ∙ ap (λ (ls : List Laid). get_or ls m l) are ∙ laid_is p instances (length instances) m l lt
+
+pub first_read : (p : ProgramTree) (instances : List Numbered) (laid : List Laid) (m : ℕ) (l : Laid) → m < length instances
+    → laid ≡ all_laid p instances (length instances) → slice_get laid m ≡ Some l → l.first ≡ flows_before (flow_count p instances) m
+first_read p instances laid m l lt are is = ap (λ (l : Laid). l.first) (laid_read p instances laid m l lt are is)

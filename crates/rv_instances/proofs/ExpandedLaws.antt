@@ -1,33 +1,15 @@
 -- What holds of a program of which all instances are known.
-use Rattle.std.proofs.Common.{◌≡◌, ℕ, ◌<◌, ◌≤◌, inl, inr, true, List, [], ◌∷◌, ◌++◌, length, get_or, refl, sym, ◌∙◌, ap, subst, arith}
-use Rattle.std.proofs.{lemmas.List.get_or_default, lemmas.List.Elements.Contains-get_or, lemmas.Bool.cases_eq}
+use Rattle.std.proofs.Common.{◌≡◌, ℕ, ◌<◌, ◌≤◌, inl, inr, List, [], ◌∷◌, ◌++◌, length, get_or, sym, ◌∙◌, ap, subst, arith}
+use Rattle.std.proofs.{lemmas.List.Elements.Contains-get_or, lemmas.Bool.cases_eq}
 use Rattle.std.specs.List.{Contains}
-use Rattle.rv_tree.specs.{Tree.NodeTree, Tree.ProgramTree, Bounded.most, Places.Identifier, Places.Sites, Places.flows, Places.is_among, Places.index_of}
-use Rattle.rv_types.specs.Instances.{calls, Instance, no_node, callee, main_instance, IsInstance, is_main, is_callee}
-use Rattle.rv_types.specs.{Names.name_faults, Needs.IsBefore, WellFormed.AreSited}
+use Rattle.rv_tree.specs.{Tree.NodeTree, Tree.ProgramTree, Bounded.most, Places.Identifier, Places.Sites, Places.flows, Places.index_of}
+use Rattle.rv_types.specs.Instances.{Instance, no_node, main_instance, IsInstance, is_main, is_callee}
+use Rattle.rv_types.specs.{Needs.IsBefore}
 use Rattle.rv_instances.specs.{declared.answer.Instance.Instance as Numbered, AllInstances.names_of, AllInstances.numbered, Expanded.IsExpanded}
 use Rattle.rv_instances.specs.{Expanded.no_instance, Flowing.AreOfNodes, Layouts.node_at, Layouts.path_at, Layouts.ArePaths}
-use Rattle.rv_instances.proofs.FlowPlaces.{not_empty, snoc_parts, numbered_node}
-use Rattle.rv_instances.proofs.{Lists.nat_split, Known.number_of_node, Flowing.instance_node}
-use Rattle.rv_types.proofs.{CallSites.one_call, PlaceOrders.not_itself}
-
--- a place stands before one that is longer by a site
-pub before_longer : (a : Sites) (s : ℕ) → IsBefore a (a ++ s ∷ [])
-before_longer [] s = tt
-before_longer (x ∷ xs) s = inr (refl, before_longer xs s)
-
-module _ (p : ProgramTree) (main : Identifier) (named : name_faults p ≡ []) (declared : is_among (names_of p) main ≡ true) (sited : AreSited p) where
-  -- the call sites from main to an instance tell it
-  pub same_instance : (i a : Instance) → IsInstance p main i → IsInstance p main a → i.path ≡ a.path → i ≡ a
-  same_instance _ _ is_main is_main e = refl
-  same_instance _ _ is_main (is_callee {i = b} c js v) e = absurd (not_empty b.path c.site [] e)
-  same_instance _ _ (is_callee {i = j} d is w) is_main e = absurd (not_empty j.path d.site [] (sym e))
-  same_instance _ _ (is_callee {i = j} d is w) (is_callee {i = b} c js v) e =
-      let s = snoc_parts j.path b.path d.site c.site e in
-      let caller = same_instance j b is js s.0 in
-      let call : d ≡ c = one_call b.node (sited b.node (instance_node p named main declared b js)) d c
-      (subst (λ (i : Instance). Contains (calls i.node) d) caller w) v s.1 in
-      λ t. callee p (caller t) (call t)
+use Rattle.rv_instances.proofs.FlowPlaces.{not_empty, snoc_parts, same_instance, numbered_node}
+use Rattle.rv_types.proofs.Members.{stands_at}
+use Rattle.rv_instances.proofs.{Lists.one_number, Known.number_of_node, Flowing.instance_node}
 
 module _ (p : ProgramTree) (main : Identifier) (instances : List Numbered) (known : IsExpanded p main instances) where
   -- the node of an instance is one of the program
@@ -40,7 +22,7 @@ module _ (p : ProgramTree) (main : Identifier) (instances : List Numbered) (know
 
   -- the number of an instance
   pub number_at : (i : Instance) → IsInstance p main i → (m : ℕ) × (m < length instances) × (get_or instances m no_instance ≡ numbered p i)
-  number_at i is = let w = known.all.all i is in (w.0, w.1, get_or_default instances w.0 no_instance (numbered p i) w.1 ∙ w.2)
+  number_at i is = let w = known.all.all i is in (w.0, w.1, stands_at instances (numbered p i) no_instance w)
 
   -- its node
   pub node_is : (m : ℕ) (i : Instance) → IsInstance p main i → get_or instances m no_instance ≡ numbered p i → node_at p instances m ≡ i.node
@@ -51,14 +33,7 @@ module _ (p : ProgramTree) (main : Identifier) (instances : List Numbered) (know
 
   -- two numbers of one path are one
   pub same_number : (m k : ℕ) → m < length instances → k < length instances → path_at instances m ≡ path_at instances k → m ≡ k
-  same_number m k lt less e = elim (cases_eq m k) [
-    | inl same ↦ same
-    | inr other ↦ elim (nat_split m k) [
-      | inl before ↦ absurd (not_itself (path_at instances k) (subst (λ q. IsBefore q (path_at instances k)) e (known.all.rising m k no_instance before less)))
-      | inr ge ↦ absurd (not_itself (path_at instances m) (subst (λ q. IsBefore q (path_at instances m)) (sym e)
-          (known.all.rising k m no_instance (omega (arith, ge, other)) lt)))
-    ]
-  ]
+  same_number = one_number (path_at instances) (length instances) (λ j k less lt. known.all.rising j k no_instance less lt)
 
   pub same : (i a : Instance) → IsInstance p main i → IsInstance p main a → i.path ≡ a.path → i ≡ a
   same = same_instance p main known.named known.declared known.sited
@@ -72,11 +47,10 @@ module _ (p : ProgramTree) (main : Identifier) (instances : List Numbered) (know
   of_nodes x w =
       let v = known.all.only x w in
       let n = node_in v.0 v.1 in
-      let there : get_or p.nodes n.0 no_node ≡ v.0.node = get_or_default p.nodes n.0 no_node v.0.node n.1 ∙ n.2 in
+      let there = stands_at p.nodes v.0.node no_node n in
       let is : x.node ≡ n.0 = ap (λ (y : Numbered). y.node) v.2 ∙ ap (λ (m : NodeTree). index_of (names_of p) m.name.text) (sym there)
       ∙ number_of_node p known.named n.0 n.1 in
-      let lt = n.1 in
-      omega (arith, is, lt)
+      omega (arith, is, n.1)
 
   -- the node of the instance with a number is one of the program
   pub node_there : (m : ℕ) → m < length instances → Contains p.nodes (node_at p instances m)
@@ -97,9 +71,7 @@ module _ (p : ProgramTree) (main : Identifier) (instances : List Numbered) (know
       caller : (i : Instance) → IsInstance p main i → (q : Sites) (s : ℕ) → i.path ≡ q ++ s ∷ [] → (j : ℕ) × (j < length instances) × (path_at instances j ≡ q)
       caller _ is_main q s e = absurd (not_empty q s [] e)
       caller _ (is_callee {i = j} d is w) q s e =
-          let parts = snoc_parts j.path q d.site s e in
-          let n = number_at j is in
-          (n.0, n.1, path_is n.0 j n.2 ∙ parts.0)
+          let parts = snoc_parts j.path q d.site s e in let n = number_at j is in (n.0, n.1, path_is n.0 j n.2 ∙ parts.0)
 
   -- the first instance is that of main
   pub main_at : (0 < length instances) × (get_or instances 0 no_instance ≡ numbered p (main_instance p main))

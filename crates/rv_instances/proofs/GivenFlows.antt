@@ -1,14 +1,14 @@
 -- What is told of the flows of instances.
 use Rattle.std.proofs.Common.{◌≡◌, ℕ, zero, suc, ◌+◌, ◌<◌, inl, inr, true, List, [], ◌∷◌, ◌++◌, map, length, get_or, set, replicate, Option, Some, slice_get}
 use Rattle.std.proofs.Common.{refl, sym, ◌∙◌, ap, subst, arith, zero-add, None as Nothing}
-use Rattle.std.proofs.lemmas.List.{get_or-set_other, get_or-set_same, length-set, append_assoc}
-use Rattle.std.proofs.{lemmas.List.Elements.Contains-get_or, lemmas.Bool.cases_eq, lemmas.Option.get_or_from_slice_get}
+use Rattle.std.proofs.lemmas.List.{get_or-set_other, get_or-set_same, length-set}
+use Rattle.std.proofs.{lemmas.List.Elements.Contains-get_or, lemmas.Bool.cases_eq, lemmas.Option.get_or_from_slice_get, lemmas.Option.same_Some}
 use Rattle.std.specs.List.{Contains}
 use Rattle.rv_base.specs.Limits.{source_limit}
 use Rattle.rv_tree.specs.{declared.tree.Equation.Equation, declared.tree.Expr.Expr, declared.tree.Name.Name, Tree.Tree, Tree.EquationTree, Tree.NodeTree}
 use Rattle.rv_tree.specs.{Tree.ProgramTree, Tree.equation_tree, Tree.tree_of, Tree.trees, Places.Identifier, Places.flows, Places.site_of, Places.is_flow}
-use Rattle.rv_types.specs.Instances.{Right, IsRight, alone, in_order, IsArgument, head, tail, Instance, place, clock_of, clock_of_arguments, callee}
-use Rattle.rv_types.specs.Instances.{main_instance, node_of, IsInstance, is_main, is_callee}
+use Rattle.rv_types.specs.Instances.{Right, IsRight, alone, in_order, IsArgument, head, tail, Instance, place, clock_of, clock_of_arguments}
+use Rattle.rv_types.specs.Instances.{main_instance, node_of, IsInstance, is_main}
 use Rattle.rv_types.specs.{Names.texts, Needs.Giver, Needs.Given, Needs.Of, Needs.Gives, Needs.given as by_input, Needs.by_equation, Needs.by_call}
 use Rattle.rv_types.specs.Instances as right
 use Rattle.rv_instances.specs.Giving.{AreGiven, IsGiven, KeepsGiven, IsGiving, IsBodyOf, IsRightOf, first_of, number_at}
@@ -16,18 +16,11 @@ use Rattle.rv_instances.specs.Layouts.{AreCallees, IsPlaced, IsNumberOf, callee_
 use Rattle.rv_instances.specs.{declared.answer.Instance.Instance as Numbered, declared.timed.ClockedCall.ClockedCall, declared.givers.Giver.Giver as Told}
 use Rattle.rv_instances.specs.{declared.givers.Giver.TheVariants.Input, declared.givers.Giver.TheVariants.Body, declared.givers.Giver.TheVariants.Output}
 use Rattle.rv_instances.specs.{AllInstances.numbered, Expanded.IsExpanded, Expanded.IsCallOf, Expanded.no_instance, Flowing.place_at, Givers.StandsFor}
-use Rattle.rv_instances.proofs.ExpandedLaws.{instance_at, main_at, node_in, node_is, node_few, path_is}
-use Rattle.rv_instances.proofs.{BaseClocks.count_is, BaseClocks.callee_number, Flowing.known_left, Known.map_at, LaidFlows.flow_placed, LaidFlows.inputs_among}
-use Rattle.rv_instances.proofs.{Lists.length_map, ToldCalls.element}
+use Rattle.rv_instances.proofs.ExpandedLaws.{instance_at, main_at, node_there, node_is, node_few}
+use Rattle.rv_instances.proofs.{BaseClocks.callee_number, BaseClocks.site_placed, BaseClocks.argument_input_placed, Flowing.known_left, Known.map_at}
+use Rattle.rv_instances.proofs.{LaidFlows.inputs_among, Lists.equal_at, Lists.length_map}
 use Rattle.rv_types.proofs.Members.{index_there}
-
-none_given : (n k : ℕ) (g : Told) → get_or (replicate {A = Option Told} n Nothing) k Nothing ≡ Some g → ⊥
-none_given zero k g e = cc
-none_given (suc n) zero g e = cc
-none_given (suc n) (suc k) g e = none_given n k g e
-
-some_injects : (g h : Told) → Some g ≡ Some h → g ≡ h
-some_injects g h e = cc
+use Rattle.rv_base.proofs.Lists.{from_map}
 
 one_text : (xs : List Name) (j : ℕ) → j < length xs → length xs ≡ 1 → texts xs ≡ get_or (texts xs) j [] ∷ []
 one_text [] j lt e = absurd (omega (arith, lt))
@@ -41,7 +34,9 @@ module _ (p : ProgramTree) (main : Identifier) (instances : List Numbered) where
       → AreGiven p main instances found
   nothing_given found n is size = record {
     size = size;
-    sound = λ k g e. absurd (none_given n k g (sym (ap (λ (l : List (Option Told)). get_or l k Nothing) is) ∙ e));
+    sound = λ k g e.
+        let none : get_or found k Nothing ≡ Nothing = ap (λ (l : List (Option Told)). get_or l k Nothing) is ∙ equal_at n k Nothing in
+        absurd (let no : ⊥ = cc in no);
   }
 
   -- and then of one flow more
@@ -51,45 +46,28 @@ module _ (p : ProgramTree) (main : Identifier) (instances : List Numbered) where
     pub told : IsGiven new k
 
   pub set_given : (found new : List (Option Told)) (k : ℕ) (g : Told) (f : Giver) → AreGiven p main instances found → new ≡ set found k (Some g)
-      → k < length (all_places p instances)
-      → Gives p main (place_at (all_places p instances) k) f → StandsFor p instances g f → IsMore found new k
+      → k < length (all_places p instances) → Gives p main (place_at (all_places p instances) k) f → StandsFor p instances g f → IsMore found new k
   set_given found new k g f given is lt gives stands = record {
     given = record {
       size = ap length is ∙ length-set found k (Some g) ∙ given.size;
       sound = λ j h e. elim (cases_eq j k) [
         | inl here ↦
-            let value : get_or new k Nothing ≡ Some g = ap (λ (l : List (Option Told)). get_or l k Nothing) is
-            ∙ get_or-set_same found k (Some g) Nothing within in
-            let same : g ≡ h = some_injects g h (sym value ∙ ap (λ n. get_or new n Nothing) (sym here) ∙ e) in
+            let same : g ≡ h = same_Some g h (sym now ∙ ap (λ n. get_or new n Nothing) (sym here) ∙ e) in
             (f, subst (λ n. Gives p main (place_at (all_places p instances) n) f) (sym here) gives, subst (λ (t : Told). StandsFor p instances t f) same stands)
-        | inr other ↦ given.sound j h (sym (get_or-set_other found k j (Some g) Nothing other) ∙ sym (ap (λ (l : List (Option Told)). get_or l j Nothing) is)
-            ∙ e)
+        | inr other ↦ given.sound j h (sym (still j other) ∙ e)
       ];
     };
-    kept = λ j v. elim (cases_eq j k) [
-      | inl here ↦ (
-        g,
-        ap (λ (l : List (Option Told)). get_or l j Nothing) is ∙ ap (λ n. get_or (set found k (Some g)) n Nothing) here
-            ∙ get_or-set_same found k (Some g) Nothing within,
-      )
-      | inr other ↦ (v.0, ap (λ (l : List (Option Told)). get_or l j Nothing) is ∙ get_or-set_other found k j (Some g) Nothing other ∙ v.1)
-    ];
-    told = (g, ap (λ (l : List (Option Told)). get_or l k Nothing) is ∙ get_or-set_same found k (Some g) Nothing within);
+    kept = λ j v. elim (cases_eq j k) [ inl here ↦ (g, ap (λ n. get_or new n Nothing) here ∙ now) | inr other ↦ (v.0, still j other ∙ v.1) ];
+    told = (g, now);
   }
     where
-      within : k < length found
-      within = let size = given.size in omega (arith, lt, size)
+      now : get_or new k Nothing ≡ Some g
+      now = ap (λ (l : List (Option Told)). get_or l k Nothing) is ∙ get_or-set_same found k (Some g) Nothing (omega (arith, lt, given.size))
+
+      still : (j : ℕ) → (j ≡ k → ⊥) → get_or new j Nothing ≡ get_or found j Nothing
+      still j other = ap (λ (l : List (Option Told)). get_or l j Nothing) is ∙ get_or-set_other found k j (Some g) Nothing other
 
 module _ (p : ProgramTree) (main : Identifier) (instances : List Numbered) (known : IsExpanded p main instances) where
-  -- a flow with a site, by its number
-  pub site_placed : (m : ℕ) (i : Instance) (s : ℕ) → m < length instances → IsInstance p main i → get_or instances m no_instance ≡ numbered p i
-      → s < length (flows i.node)
-      → IsPlaced (all_places p instances) (first_of p instances m + s) (i.path ++ s ∷ [])
-  site_placed m i s lt is e less =
-      let many = count_is p main instances known m i is e in
-      let at = flow_placed p instances m s lt (omega (arith, less, many)) in
-      (at.0, at.1 ∙ ap (λ q. q ++ s ∷ []) (path_is p main instances known m i e))
-
   module _ (m : ℕ) (lt : m < length instances) (q : Equation) (there : Contains (node_at p instances m).equations (equation_tree q)) (j : ℕ)
       (within : j < length q.lefts) where
     in_texts : Contains (texts q.lefts) (get_or (texts q.lefts) j [])
@@ -115,9 +93,7 @@ module _ (p : ProgramTree) (main : Identifier) (instances : List Numbered) (know
     -- a left side is a flow
     pub left_is_flow : is_flow (node_at p instances m) (get_or (texts q.lefts) j []) ≡ true
     left_is_flow =
-        subst (λ (n : NodeTree). is_flow n (get_or (texts q.lefts) j []) ≡ true) (sym node)
-        (known_left p known.named instance.node (equation_tree q) (get_or (texts q.lefts) j []) (node_in p main instances known instance is_instance) there_in
-        in_texts)
+        known_left p known.named (node_at p instances m) (equation_tree q) (get_or (texts q.lefts) j []) (node_there p main instances known m lt) there in_texts
 
     -- its number is that of its place
     pub left_placed : IsPlaced (all_places p instances) (number_at p instances m (get_or (texts q.lefts) j [])) (place instance (get_or (texts q.lefts) j []))
@@ -125,7 +101,7 @@ module _ (p : ProgramTree) (main : Identifier) (instances : List Numbered) (know
         let x = get_or (texts q.lefts) j [] in
         let flow : is_flow instance.node x ≡ true = subst (λ (n : NodeTree). is_flow n x ≡ true) node left_is_flow in
         subst (λ (n : NodeTree). IsPlaced (all_places p instances) (first_of p instances m + site_of n x) (place instance x)) (sym node)
-        (site_placed m instance (site_of instance.node x) lt is_instance number_is (index_there (flows instance.node) x flow).0)
+        (site_placed p main instances known m instance (site_of instance.node x) lt is_instance number_is (index_there (flows instance.node) x flow).0)
 
     -- what gives it its value
     pub left_stands : (g : Told) → IsGiving (equation_tree q) → IsRightOf m (clock_of (node_at p instances m) (get_or (texts q.lefts) j [])) q j g
@@ -136,20 +112,15 @@ module _ (p : ProgramTree) (main : Identifier) (instances : List Numbered) (know
         let sole : texts q.lefts ≡ x ∷ [] = one_text q.lefts j within told.0 in (
           Of instance (clock_of instance.node x) (right.Body (tree_of q.right)),
           by_equation instance x (right.Body (tree_of q.right)) is_instance (alone (equation_tree q) there_in sole) (sym left_placed.1),
-          (
-            subst (λ n. IsNumberOf p instances n instance) (sym told.1) (lt, number_is),
-            told.2 ∙ ap (λ (n : NodeTree). clock_of n x) node,
-            ap tree_of told.3,
-          ),
+          (subst (λ n. IsNumberOf p instances n instance) (sym told.1) (lt, number_is), told.2 ∙ ap (λ (n : NodeTree). clock_of n x) node, ap tree_of told.3),
         )
     left_stands (Output o) giving told = elim giving [
       | inl one ↦ absurd (told.0 one)
       | inr call ↦
           let x = get_or (texts q.lefts) j [] in
-          let many = told.0 in
           let body = right.Output (record { at = call.0; site = call.1; name = call.2; args = call.3 }) j in (
             Of instance (clock_of instance.node x) body,
-            by_equation instance x body is_instance (in_order (equation_tree q) call.0 call.1 call.2 call.3 j there_in call.4 (omega (arith, within, many))
+            by_equation instance x body is_instance (in_order (equation_tree q) call.0 call.1 call.2 call.3 j there_in call.4 (omega (arith, within, told.0))
                 within refl) (sym left_placed.1),
             (
               subst (λ n. IsNumberOf p instances n instance) (sym told.1) (lt, number_is),
@@ -166,8 +137,7 @@ name_there xs j x lt is = map_at (λ (y : Name). y.text) xs j [] x lt ∙ ap (λ
 
 -- the number of a flow, as it is reckoned
 pub number_found : (p : ProgramTree) (instances : List Numbered) (m first site : ℕ) (n : NodeTree) (x y : Identifier) → first ≡ first_of p instances m
-    → n ≡ node_at p instances m → x ≡ y → site ≡ site_of n y
-    → first + site ≡ number_at p instances m x
+    → n ≡ node_at p instances m → x ≡ y → site ≡ site_of n y → first + site ≡ number_at p instances m x
 number_found p instances m first site n x y first_is node name site_is =
     let same : site ≡ site_of (node_at p instances m) x = site_is ∙ ap (site_of n) (sym name) ∙ ap (λ (k : NodeTree). site_of k x) node in
     λ t. first_is t + same t
@@ -175,12 +145,8 @@ number_found p instances m first site n x y first_is node name site_is =
 listed_at : (items : List Equation) (qs : List EquationTree) → map equation_tree items ≡ qs → (q : EquationTree) → Contains qs q
     → (k : ℕ) × (d : Equation) × (k < length items) × (equation_tree (get_or items k d) ≡ q)
 listed_at items qs are q w =
-    let size = length_map equation_tree items in
-    let same = ap length are in
-    let lt = w.1 in
-    let within : w.0 < length items = omega (arith, size, same, lt) in
-    let d = element items w.0 within in
-    (w.0, d, within, sym (map_at equation_tree items w.0 q d within) ∙ ap (λ (l : List EquationTree). get_or l w.0 q) are ∙ w.2)
+    let v = from_map equation_tree items q (subst (λ (l : List EquationTree). Contains l q) (sym are) w) in
+    (v.1.0, v.0, v.1.1, ap equation_tree v.1.2 ∙ v.2)
 
 -- what gives a flow its value stands in one of the equations
 pub right_listed : (n : NodeTree) (items : List Equation) → map equation_tree items ≡ n.equations → (x : Identifier) (r : Right) → IsRight n x r
@@ -212,7 +178,7 @@ argument_at (x ∷ xs) (suc j) e lt = tail (argument_at xs j e (omega (arith, lt
 pub argument_there : (es : List Expr) (j : ℕ) (e : Tree) → IsArgument (trees (map tree_of es)) j e → j < length es
 argument_there [] j e a = elim a [ ]
 argument_there (x ∷ xs) _ e head = omega arith
-argument_there (x ∷ xs) _ e (tail {j = j} rest) = let h = argument_there xs j e rest in omega (arith, h)
+argument_there (x ∷ xs) _ e (tail {j = j} rest) = omega (arith, argument_there xs j e rest)
 
 module _ (p : ProgramTree) (main : Identifier) (instances : List Numbered) (known : IsExpanded p main instances) (table : List ((ℕ × ℕ) × ℕ))
     (callees : AreCallees instances table)
@@ -231,26 +197,19 @@ module _ (p : ProgramTree) (main : Identifier) (instances : List Numbered) (know
     -- the number of the input of an argument is that of its place
     pub argument_placed : IsPlaced (all_places p instances) (first_of p instances (callee_or_main table m x.site) + j) (here.i.path ++ here.call.site ∷ j ∷ [])
     argument_placed =
-        let k = callee_number p main instances known table callees m here.i here.call lt here.is here.at here.there in
-        let input = (known.well.formed here.i.node (node_in p main instances known here.i here.is)).no_more here.call j (tree_of body) here.there argument in
-        let among = inputs_among (node_of p here.call.name) in
-        let at = site_placed p main instances known (callee_or_main table m here.call.site) (callee p here.i here.call) j k.0
-        (is_callee here.call here.is here.there) k.1 (omega (arith, input, among)) in
         subst (λ s. IsPlaced (all_places p instances) (first_of p instances (callee_or_main table m s) + j) (here.i.path ++ here.call.site ∷ j ∷ []))
-        (sym here.site)
-        (at.0, at.1 ∙ append_assoc here.i.path (here.call.site ∷ []) (j ∷ []))
+        (sym here.site) (argument_input_placed p main instances known table callees m here.i here.call j (tree_of body) lt here.is here.at here.there argument)
 
     -- and gives it its value
     pub argument_stands : (g : Told) → IsBodyOf m x.clock body g
         → (f : Giver) × Gives p main (place_at (all_places p instances) (first_of p instances (callee_or_main table m x.site) + j)) f
         × StandsFor p instances g f
-    argument_stands (Input n) told = absurd told
-    argument_stands (Output o) told = absurd told
     argument_stands (Body b) told = (
       Of here.i (clock_of_arguments here.i here.call.args) (right.Body (tree_of body)),
       by_call here.i here.call j (tree_of body) here.is here.there argument (sym argument_placed.1),
       (subst (λ n. IsNumberOf p instances n here.i) (sym told.0) (lt, here.at), told.1 ∙ here.clock, ap tree_of told.2),
     )
+    argument_stands _ told = absurd told
 
 module _ (p : ProgramTree) (main : Identifier) (instances : List Numbered) (known : IsExpanded p main instances) (j : ℕ)
     (lt : j < length (node_at p instances 0).inputs) where
@@ -264,22 +223,16 @@ module _ (p : ProgramTree) (main : Identifier) (instances : List Numbered) (know
   pub input_placed : IsPlaced (all_places p instances) j (j ∷ [])
   input_placed =
       let at = main_at p main instances known in
-      let front = inputs_among (node_of p main) in
-      let less = within_main in
       subst (λ k. IsPlaced (all_places p instances) k (j ∷ [])) (zero-add j)
-      (site_placed p main instances known 0 (main_instance p main) j at.0 is_main at.1 (omega (arith, front, less)))
+      (site_placed p main instances known 0 (main_instance p main) j at.0 is_main at.1 (omega (arith, inputs_among (node_of p main), within_main)))
 
   pub input_few : j < source_limit
   input_few =
       let at = main_at p main instances known in
-      let few = node_few p main instances known 0 at.0 in
-      let front = inputs_among (node_at p instances 0) in
-      omega (arith, few, front, lt)
+      omega (arith, node_few p main instances known 0 at.0, inputs_among (node_at p instances 0), lt)
 
   pub input_stands : (f : Giver) × Gives p main (place_at (all_places p instances) j) f × StandsFor p instances (Input j) f
   input_stands = (Given j, by_input j within_main (sym input_placed.1), refl)
 
   pub input_more : (found new : List (Option Told)) → AreGiven p main instances found → new ≡ set found j (Some (Input j)) → IsMore p main instances found new j
-  input_more found new so_far is =
-      let f = input_stands in
-      set_given p main instances found new j (Input j) f.0 so_far is input_placed.0 f.1 f.2
+  input_more found new so_far is = let f = input_stands in set_given p main instances found new j (Input j) f.0 so_far is input_placed.0 f.1 f.2

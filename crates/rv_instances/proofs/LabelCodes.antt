@@ -41,7 +41,7 @@ labels_few : (ds : List TypeDecl) → ((d : TypeDecl) (xs : List Name) → Conta
 labels_few [] each k = omega arith
 labels_few (d ∷ ds) each zero = labels_of_body d d.body refl (λ xs is. each d xs (0, omega arith, refl) is)
 labels_few (d ∷ ds) each (suc k) = labels_few ds (λ e xs w is. each e xs
-    (w.0 + 1, (let lt = w.1 in omega (arith, lt)), ap (λ j. get_or (d ∷ ds) j e) (let h : w.0 + 1 ≡ suc w.0 = omega arith in h) ∙ w.2) is) k
+    (w.0 + 1, (omega (arith, w.1)), ap (λ j. get_or (d ∷ ds) j e) (let h : w.0 + 1 ≡ suc w.0 = omega arith in h) ∙ w.2) is) k
 
 -- no type has more labels than a source has bytes
 pub few_labels : (p : ProgramTree) → IsBounded p → (k : ℕ) → labels_at p.types k ≤ most

@@ -2,6 +2,7 @@ pub mod Known
 pub mod Flowing
 pub mod FlowTable
 pub mod FlowPlaces
+pub mod PaceRules
 pub mod ClockFlows
 pub mod CalleeTables
 pub mod ExpandedLaws
@@ -19,6 +20,7 @@ pub mod GivenFlows
 pub mod AllGiven
 pub mod ClockBounds
 pub mod Lists
+pub mod Ordered
 pub mod Placed
 pub mod PutCalls
 pub mod LabelCodes

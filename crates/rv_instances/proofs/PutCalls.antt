@@ -5,10 +5,7 @@ use Rattle.std.proofs.{lemmas.List.length-map, lemmas.List.length-append, lemmas
 -- what is put where a list goes on stands there
 pub put_listed : {X Y : Type 0} (f : X → Y) (xs : List X) (before after : List Y) (c : Y) (n : ℕ) (x : X) → n ≡ length before
     → map f xs ≡ before ++ c ∷ after → map f (slice_set xs n x) ≡ before ++ f x ∷ after
-put_listed f xs before after c n x at is =
-    map-set f xs n x
-    ∙ (λ i. slice_set (is i) (at i) (f x))
-    ∙ set-append_seam before c after (f x)
+put_listed f xs before after c n x at is = map-set f xs n x ∙ (λ i. slice_set (is i) (at i) (f x)) ∙ set-append_seam before c after (f x)
 
 -- that place is in the list
 pub within : {X Y : Type 0} (f : X → Y) (xs : List X) (before after : List Y) (c : Y) (n : ℕ) → n ≡ length before → map f xs ≡ before ++ c ∷ after

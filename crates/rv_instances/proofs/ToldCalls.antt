@@ -17,17 +17,12 @@ no_call = record { at = 0; site = 0; name = []; args = None }
 
 module _ (n : NodeTree) (listed : List ClockedCall) (are : map told listed ≡ calls_told n) where
   sizes : length listed ≡ length (calls n)
-  sizes =
-      let a = length_map told listed in
-      let b = length_map (call_told n) (calls n) in
-      let e = ap length are in
-      omega (arith, a, b, e)
+  sizes = omega (arith, length_map told listed, length_map (call_told n) (calls n), ap length are)
 
   -- what is listed is a call
   pub call_listed : (j : ℕ) (x : ClockedCall) → j < length listed → x ≡ get_or listed j x → (c : CallTree) × Contains (calls n) c × (told x ≡ call_told n c)
   call_listed j x lt is =
-      let size = sizes in
-      let within : j < length (calls n) = omega (arith, lt, size) in (
+      let within : j < length (calls n) = omega (arith, lt, sizes) in (
         get_or (calls n) j no_call,
         Contains-get_or (calls n) j no_call within,
         ap told is ∙ sym (map_at told listed j (told x) x lt) ∙ ap (λ (l : List ToldCall). get_or l j (told x)) are
@@ -37,13 +32,10 @@ module _ (n : NodeTree) (listed : List ClockedCall) (are : map told listed ≡ c
   -- and each call is listed
   pub listed_call : (c : CallTree) → Contains (calls n) c → (j : ℕ) × (j < length listed) × ((x : ClockedCall) → told (get_or listed j x) ≡ call_told n c)
   listed_call c w =
-      let size = sizes in
-      let at = w.1 in
-      let within : w.0 < length listed = omega (arith, at, size) in (
+      let within : w.0 < length listed = omega (arith, w.1, sizes) in (
         w.0,
         within,
         λ x.
             sym (map_at told listed w.0 (told x) x within) ∙ ap (λ (l : List ToldCall). get_or l w.0 (told x)) are
-            ∙ map_at (call_told n) (calls n) w.0 (told x) c w.1
-            ∙ ap (call_told n) w.2,
+            ∙ map_at (call_told n) (calls n) w.0 (told x) c w.1 ∙ ap (call_told n) w.2,
       )

@@ -20,9 +20,8 @@ site_weight (suc (suc zero)) = 0
 site_weight (suc (suc (suc i))) = 1
 
 abbrev pub flow_weight : Sites → ℕ
-flow_weight [] = 1
 flow_weight (s ∷ []) = site_weight s
-flow_weight (s ∷ j ∷ rest) = 1
+flow_weight _ = 1
 
 wide_append : (w : Tree → ℕ) (xs ys : List Tree) → too_wide w xs ≡ [] → too_wide w ys ≡ [] → too_wide w (xs ++ ys) ≡ []
 wide_append w [] ys first rest = rest

@@ -1,40 +1,26 @@
 -- Each instance of a well program is a copy of a node of it, which keeps the rules.
-use Rattle.std.proofs.Common.{◌≡◌, Bool, true, false, ◌||◌, cond, List, [], ◌∷◌, map, refl, Some, IsSome, IsTrue, unwrap_or}
+use Rattle.std.proofs.Common.{true, false, ◌||◌, cond, List, [], ◌∷◌, map, refl, Some, IsSome, IsTrue, unwrap_or}
 use Rattle.std.specs.List.{Contains}
 use Rattle.rv_tree.specs.{Tree.NodeTree, Tree.ProgramTree, Places.Identifier, Places.is_same, Places.is_among}
-use Rattle.rv_types.specs.declared.fault.Pace.TheVariants.{Free, At, Mute, Differ}
-use Rattle.rv_types.specs.Instances.{Instance, taken, no_node, node_of, IsInstance, is_main, is_callee, IsNode}
-use Rattle.rv_types.specs.WellFormed.{Suits, IsWellFormed, IsWellTyped, AreWell}
-use Rattle.rv_types.specs.{declared.typed.Clock.Clock, declared.fault.Pace.Pace, Kinds.node_among, Kinds.node_named}
+use Rattle.rv_types.specs.Instances.{Instance, no_node, node_of, IsInstance, is_main, is_callee, IsNode}
+use Rattle.rv_types.specs.{WellFormed.IsWellFormed}
+use Rattle.rv_types.specs.{WellFormed.IsWellTyped, WellFormed.AreWell, Kinds.node_among, Kinds.node_named}
 use Rattle.rv_meaning.proofs.Rows.{no_flag}
 use Rattle.rv_types.proofs.Members.{at_head, in_tail}
-
--- what stands on a clock, or takes it, is on it
-pub suits_taken : (k : Clock) (p : Pace) → Suits k p → taken k p ≡ k
-suits_taken k Free s = refl
-suits_taken k (At c) s = s
-suits_taken k Mute s = absurd s
-suits_taken k Differ s = absurd s
 
 -- the first node of a name that is there is one of the nodes
 pub named_among : (ns : List NodeTree) (f : Identifier) → IsSome (node_among ns f) → Contains ns (unwrap_or (node_among ns f) no_node)
 named_among [] f h = absurd (no_flag h)
-named_among (n ∷ ns) f h = tested (is_same n.name.text f) h (named_among ns f)
-  where
-    tested : (b : Bool) → IsSome (cond b (Some n) (node_among ns f)) → (IsSome (node_among ns f) → Contains ns (unwrap_or (node_among ns f) no_node))
-        → Contains (n ∷ ns) (unwrap_or (cond b (Some n) (node_among ns f)) no_node)
-    tested true h again = at_head n ns
-    tested false h again = in_tail n ns (unwrap_or (node_among ns f) no_node) (again h)
+named_among (n ∷ ns) f h = elim (is_same n.name.text f)
+    as (λ b. IsSome (cond b (Some n) (node_among ns f)) → Contains (n ∷ ns) (unwrap_or (cond b (Some n) (node_among ns f)) no_node))
+    [ true ↦ λ h. at_head n ns | false ↦ λ h. in_tail n ns (unwrap_or (node_among ns f) no_node) (named_among ns f h) ] h
 
 -- a name that some node has is there
 pub some_among : (ns : List NodeTree) (f : Identifier) → IsTrue (is_among (map (λ n. n.name.text) ns) f) → IsSome (node_among ns f)
 some_among [] f h = absurd (no_flag h)
-some_among (n ∷ ns) f h = tested (is_same n.name.text f) h (some_among ns f)
-  where
-    tested : (b : Bool) → IsTrue (b || is_among (map (λ n. n.name.text) ns) f) → (IsTrue (is_among (map (λ n. n.name.text) ns) f) → IsSome (node_among ns f))
-        → IsSome (cond b (Some n) (node_among ns f))
-    tested true h again = refl
-    tested false h again = again h
+some_among (n ∷ ns) f h = elim (is_same n.name.text f)
+    as (λ b. IsTrue (b || is_among (map (λ n. n.name.text) ns) f) → IsSome (cond b (Some n) (node_among ns f)))
+    [ true ↦ λ h. refl | false ↦ some_among ns f ] h
 
 -- the node of a name that is there is one of the nodes
 pub node_of_in : (program : ProgramTree) (f : Identifier) → IsSome (node_named program f) → Contains program.nodes (node_of program f)

@@ -29,10 +29,7 @@ module _ (program : ProgramTree) (starts : Sites → Value) (h : Cells) (t : ℕ
 
     -- is a state of it, where the sites are numbered
     pub is_state_at : ((n : NodeTree) → Contains program.nodes n → IsNumbered n) → IsStateAt program main starts h t state_at
-    is_state_at numbered = record {
-      ticks = λ k. refl;
-      memories = λ i d inst w. holds program held of_name is_of_name main well named numbered i d inst w;
-    }
+    is_state_at numbered = record { ticks = λ k. refl; memories = λ i d inst w. holds program held of_name is_of_name main well named numbered i d inst w }
 
 module _ (program : ProgramTree) (main : Identifier) (state : State) (row : Instant) where
   -- what a memory takes after the row
@@ -51,8 +48,7 @@ module _ (program : ProgramTree) (main : Identifier) (state : State) (row : Inst
   a_next well named = (
     record {
       ticked = λ k. state.ticked k || is_on_in row k;
-      kept = λ p. held_at program taken_after taken_of_name is_taken_of_name p
-          (main_instance program main);
+      kept = λ p. held_at program taken_after taken_of_name is_taken_of_name p (main_instance program main);
     },
     record {
       ticks = λ k. refl;

@@ -1,16 +1,17 @@
 -- In an accepted program each flow has exactly one source, on its own clock.
-use Rattle.std.proofs.Common.{◌≡◌, ℕ, ◌<◌, ◌≤◌, ◌↔◌, true, [], ◌∷◌, ◌++◌, length, refl, sym, ◌∙◌, ap, subst, arith, get_or, ◌⊎◌, inl, inr, IsSome}
+use Rattle.std.proofs.Common.{◌≡◌, ℕ, ◌<◌, ◌≤◌, ◌↔◌, true, [], ◌∷◌, ◌++◌, length, refl, sym, ◌∙◌, ap, subst, arith, get_or, ◌⊎◌, inl, inr, IsSome, subst₂}
 use Rattle.std.proofs.Common.{length-append}
 use Rattle.std.proofs.{lemmas.List.get_or_append_left, lemmas.List.get_or_default, lemmas.List.append_assoc, lemmas.List.length-map, lemmas.Bool.cases_order}
 use Rattle.std.specs.List.{Contains}
 use Rattle.rv_base.specs.declared.value.Value.{Value}
 use Rattle.rv_tree.specs.{Tree.ProgramTree, Places.Identifier, Places.Sites, Places.names, Places.flows, Places.site_of}
 use Rattle.rv_types.specs.Instances.{CallTree, calls, Right, Body, Output, IsRight, Instance, place, absolute, clock_of, clock_of_arguments, node_of}
-use Rattle.rv_types.specs.Instances.{main_instance, callee, IsInstance, is_main, is_callee, IsFlow, IsNode}
+use Rattle.rv_types.specs.Instances.{IsArgument, main_instance, callee, IsInstance, is_main, is_callee, IsFlow, IsNode}
 use Rattle.rv_types.specs.Needs.{Giver, Given, Of, Gives, given, by_equation, by_call}
 use Rattle.rv_types.specs.{Clocks.pace, WellFormed.IsWellFormed, WellFormed.AreWell}
 use Rattle.rv_meaning.specs.{Meaning.Cells, Meaning.is_there, Meaning.right_value, Givers.expected, Givers.AreDefined}
-use Rattle.rv_meaning.proofs.{Acceptable.suits_taken, Acceptable.formed, NameLemmas.snoc, NameLemmas.index_at, NameLemmas.arg_same, NameLemmas.masked}
+use Rattle.rv_types.proofs.Suiting.{suits_taken}
+use Rattle.rv_meaning.proofs.{Acceptable.formed, NameLemmas.snoc, NameLemmas.index_at, NameLemmas.arg_same, NameLemmas.masked}
 
 module _ (program : ProgramTree) (main : Identifier) (well : AreWell program) (is_node : IsNode program main) where
   -- each instance is well formed
@@ -20,9 +21,7 @@ module _ (program : ProgramTree) (main : Identifier) (well : AreWell program) (i
   -- the site of a name is its number
   pub site_is : (i : Instance) → IsInstance program main i → (x : Identifier) (j : ℕ) → j < length (flows i.node) → get_or (flows i.node) j [] ≡ x
       → site_of i.node x ≡ j
-  site_is i inst x j lt is =
-      let r = index_at (flows i.node) x (j, lt, get_or_default (flows i.node) j x [] lt ∙ is) in
-      ordered (site_of i.node x) r.0 r.1
+  site_is i inst x j lt is = let r = index_at (flows i.node) x (j, lt, get_or_default (flows i.node) j x [] lt ∙ is) in ordered (site_of i.node x) r.0 r.1
     where
       ordered : (k : ℕ) → k < length (flows i.node) → get_or (flows i.node) k [] ≡ x → k ≡ j
       ordered k less at = elim (cases_order k j) [
@@ -34,7 +33,7 @@ module _ (program : ProgramTree) (main : Identifier) (well : AreWell program) (i
       ]
 
   -- an input of an instance
-  input : Instance → ℕ → Identifier
+  abbrev input : Instance → ℕ → Identifier
   input i j = get_or (names i.node.inputs) j []
 
   -- there are as many names as inputs
@@ -43,17 +42,12 @@ module _ (program : ProgramTree) (main : Identifier) (well : AreWell program) (i
 
   -- it is among the names
   input_in : (i : Instance) (j : ℕ) → j < length i.node.inputs → Contains (names i.node.inputs) (input i j)
-  unfolding input
   input_in i j lt = let lt' : j < length (names i.node.inputs) = omega (arith, named i) in (j, lt', get_or_default (names i.node.inputs) j _ [] lt')
 
   -- there are no fewer flows than names of inputs
   longer : (i : Instance) → length (names i.node.inputs) ≤ length (flows i.node)
-  longer i = omega (
-    arith,
-    length-append (names i.node.inputs ++ names i.node.outputs) (names i.node.locals),
-    length-append (names i.node.inputs)
-        (names i.node.outputs),
-  )
+  longer i = let front = length-append (names i.node.inputs) (names i.node.outputs) in
+      omega (arith, front, length-append (names i.node.inputs ++ names i.node.outputs) (names i.node.locals))
 
   -- nor than inputs
   more : (i : Instance) → length i.node.inputs ≤ length (flows i.node)
@@ -67,7 +61,6 @@ module _ (program : ProgramTree) (main : Identifier) (well : AreWell program) (i
 
   -- so an input is the flow of its number
   flow_at : (i : Instance) (j : ℕ) → j < length i.node.inputs → get_or (flows i.node) j [] ≡ input i j
-  unfolding input
   flow_at i j lt = among_inputs i j (omega (arith, named i))
 
   -- it is a flow
@@ -86,8 +79,7 @@ module _ (program : ProgramTree) (main : Identifier) (well : AreWell program) (i
   same_instance _ _ (is_callee {i = i} c p at) (is_callee {i = j} d q at') e =
       let r = snoc i.path j.path c.site d.site e in
       let up = same_instance i j p q r.0 in
-      let one = (wf j q).sites c d (subst (λ i. Contains (calls i.node) c) up at) at' r.1 in
-      λ k. callee program (up k) (one k)
+      let one = (wf j q).sites c d (subst (λ i. Contains (calls i.node) c) up at) at' r.1 in λ k. callee program (up k) (one k)
 
   -- and a place determines a flow
   pub same_flow : (i j : Instance) (x y : Identifier) → IsInstance program main i → IsInstance program main j → Contains (flows i.node) x
@@ -97,13 +89,13 @@ module _ (program : ProgramTree) (main : Identifier) (well : AreWell program) (i
       let one = same_instance i j p q r.0 in
       (one, sym (index_at (flows i.node) x at).1 ∙ (λ k. get_or (flows (one k).node) (r.1 k) []) ∙ (index_at (flows j.node) y at').1)
 
-  -- a left side is no input
-  not_input : (i j : Instance) (x y : Identifier) (r : Right) → IsInstance program main i → IsInstance program main j → Contains (flows i.node) x
-      → Contains (names i.node.inputs) x → IsRight j.node y r → place i x ≡ place j y → ⊥
-  not_input i j x y r p q at inside right e =
-      let left = (wf j q).left y r right in
-      let f = same_flow i j x y p q at left.0 e in
-      left.1 (subst (λ z. Contains (names j.node.inputs) z) f.1 (subst (λ (i : Instance). Contains (names i.node.inputs) x) f.0 inside))
+  -- an input is no left side
+  not_input : (d i : Instance) (j : ℕ) (x : Identifier) (r : Right) → IsInstance program main d → IsInstance program main i → j < length d.node.inputs
+      → IsRight i.node x r → place d (input d j) ≡ place i x → ⊥
+  not_input d i j x r p q lt right e =
+      let left = (wf i q).left x r right in
+      let f = same_flow d i (input d j) x p q (input_flow d j lt) left.0 e in
+      left.1 (subst (λ z. Contains (names i.node.inputs) z) f.1 (subst (λ (i : Instance). Contains (names i.node.inputs) (input d j)) f.0 (input_in d j lt)))
 
   -- the place of an input of the main node
   given_place : (j : ℕ) → j < length (node_of program main).inputs → place (main_instance program main) (input (main_instance program main) j) ≡ j ∷ []
@@ -117,23 +109,13 @@ module _ (program : ProgramTree) (main : Identifier) (well : AreWell program) (i
 
   -- what has a giver is a flow
   pub flow_of_giver : (p : Sites) (g : Giver) → Gives program main p g → IsFlow program main p
-  flow_of_giver p _ (given j lt is) = (
-    main_instance program main,
-    input (main_instance program main) j,
-    is_main,
-    input_flow (main_instance program main) j lt,
-    sym is ∙ sym (given_place j lt),
-  )
+  flow_of_giver p _ (given j lt is) = let m : Instance = main_instance program main in
+      (m, input m j, is_main, input_flow m j lt, sym is ∙ sym (given_place j lt))
   flow_of_giver p _ (by_equation i x r inst right is) = (i, x, inst, ((wf i inst).left x r right).0, sym is)
   flow_of_giver p _ (by_call i c j e inst at arg is) =
-      let lt = (wf i inst).no_more c j e at arg in (
-        callee program i c,
-        input (callee program i c) j,
-        is_callee c inst at,
-        input_flow (callee program i c) j lt,
-        sym is
-            ∙ sym (called_place i c j inst at lt),
-      )
+      let lt = (wf i inst).no_more c j e at arg in
+      let d : Instance = callee program i c in
+      (d, input d j, is_callee c inst at, input_flow d j lt, sym is ∙ sym (called_place i c j inst at lt))
 
   -- each flow has a giver
   source : (p : Sites) → IsFlow program main p → (g : Giver) × Gives program main p g
@@ -142,8 +124,7 @@ module _ (program : ProgramTree) (main : Identifier) (well : AreWell program) (i
       of_input : (i : Instance) → IsInstance program main i → (j : ℕ) → j < length i.node.inputs → i.path ++ j ∷ [] ≡ p → (g : Giver) × Gives program main p g
       of_input _ is_main j lt is = (_, given j lt is)
       of_input _ (is_callee {i = i} c inst at) j lt is =
-          let a = (wf i inst).enough c j at lt in
-          (_, by_call i c j a.0 inst at a.1 (sym (append_assoc i.path (c.site ∷ []) (j ∷ [])) ∙ is))
+          let a = (wf i inst).enough c j at lt in (_, by_call i c j a.0 inst at a.1 (sym (append_assoc i.path (c.site ∷ []) (j ∷ [])) ∙ is))
 
       of_case : Contains (names i.node.inputs) x ⊎ ((r : Right) × IsRight i.node x r) → (g : Giver) × Gives program main p g
       of_case (inl w) =
@@ -157,36 +138,30 @@ module _ (program : ProgramTree) (main : Identifier) (well : AreWell program) (i
   pub one_giver : (p : Sites) (a b : Giver) → Gives program main p a → Gives program main p b → a ≡ b
   one_giver p _ _ (given j lt is) (given k lt' is') = ap Given (ap (λ l. get_or l 0 0) (is ∙ sym is'))
   one_giver p _ _ (given j lt is) (by_equation i x r inst right is') =
-      absurd (not_input (main_instance program main) i (input (main_instance program main) j) x r is_main inst (input_flow (main_instance program main) j lt)
-      (input_in (main_instance program main) j lt) right (given_place j lt ∙ is ∙ sym is'))
+      absurd (not_input (main_instance program main) i j x r is_main inst lt right (given_place j lt ∙ is ∙ sym is'))
   one_giver p _ _ (given j lt is) (by_call i c k e inst at arg is') = let long = ap length (is ∙ sym is') in
       absurd (omega (arith, long, length-append i.path (c.site ∷ k ∷ [])))
   one_giver p _ _ (by_equation i x r inst right is) (given j lt is') =
-      absurd (not_input (main_instance program main) i (input (main_instance program main) j) x r is_main inst (input_flow (main_instance program main) j lt)
-      (input_in (main_instance program main) j lt) right (given_place j lt ∙ is' ∙ sym is))
+      absurd (not_input (main_instance program main) i j x r is_main inst lt right (given_place j lt ∙ is' ∙ sym is))
   one_giver p _ _ (by_equation i x r inst right is) (by_equation i' x' r' inst' right' is') =
       let f = same_flow i i' x x' inst inst' ((wf i inst).left x r right).0 ((wf i' inst').left x' r' right').0 (is ∙ sym is') in
       let one = (wf i' inst').one_right x' r r' (subst (λ z. IsRight i'.node z r) f.1 (subst (λ (i : Instance). IsRight i.node x r) f.0 right)) right' in
       λ k. Of (f.0 k) (clock_of (f.0 k).node (f.1 k)) (one k)
   one_giver p _ _ (by_equation i x r inst right is) (by_call i' c j e inst' at arg is') =
       let lt = (wf i' inst').no_more c j e at arg in
-      let d : Instance = callee program i' c in
-      absurd (not_input d i (input d j) x r (is_callee c inst' at) inst (input_flow d j lt) (input_in d j lt) right
-      (called_place i' c j inst' at lt ∙ is' ∙ sym is))
+      absurd (not_input (callee program i' c) i j x r (is_callee c inst' at) inst lt right (called_place i' c j inst' at lt ∙ is' ∙ sym is))
   one_giver p _ _ (by_call i c k e inst at arg is) (given j lt is') = let long = ap length (is ∙ sym is') in
       absurd (omega (arith, long, length-append i.path (c.site ∷ k ∷ [])))
   one_giver p _ _ (by_call i' c j e inst' at arg is') (by_equation i x r inst right is) =
       let lt = (wf i' inst').no_more c j e at arg in
-      let d : Instance = callee program i' c in
-      absurd (not_input d i (input d j) x r (is_callee c inst' at) inst (input_flow d j lt) (input_in d j lt) right
-      (called_place i' c j inst' at lt ∙ is' ∙ sym is))
+      absurd (not_input (callee program i' c) i j x r (is_callee c inst' at) inst lt right (called_place i' c j inst' at lt ∙ is' ∙ sym is))
   one_giver p _ _ (by_call i c j e inst at arg is) (by_call i' c' j' e' inst' at' arg' is') =
       let r = snoc (i.path ++ c.site ∷ []) (i'.path ++ c'.site ∷ []) j j'
       (append_assoc i.path (c.site ∷ []) (j ∷ []) ∙ is ∙ sym is' ∙ sym (append_assoc i'.path (c'.site ∷ []) (j' ∷ []))) in
       let up = snoc i.path i'.path c.site c'.site r.0 in
       let one = same_instance i i' inst inst' up.0 in
       let call = (wf i' inst').sites c c' (subst (λ (i : Instance). Contains (calls i.node) c) one at) at' up.1 in
-      let same = arg_same c.args c'.args j j' e e' arg arg' (λ k. (call k).args) r.1 in
+      let same = arg_same c'.args j' e e' (subst₂ (λ es j. IsArgument es j e) (λ k. (call k).args) r.1 arg) arg' in
       λ k. Of (one k) (clock_of_arguments (one k) (call k).args) (Body (same k))
 
   module _ (starts : Sites → Value) (inputs : ℕ → ℕ → Value) (h : Cells) (t : ℕ) where
@@ -196,10 +171,8 @@ module _ (program : ProgramTree) (main : Identifier) (well : AreWell program) (i
     on_clock i x _ (given j lt is) inst at =
         let m : Instance = main_instance program main in
         let f = same_flow m i (input m j) x is_main inst (input_flow m j lt) at (given_place j lt ∙ is) in
-        let here : true ≡ is_there h (absolute i (clock_of i.node x)) t =
-        ap (λ k. is_there h (absolute m k) t) (sym ((wf m is_main).base (input m j) (input_in m j lt)))
-        ∙ (λ k. is_there h (absolute (f.0 k) (clock_of (f.0 k).node (f.1 k))) t) in
-        masked true _ (inputs t j) here
+        masked true _ (inputs t j) (ap (λ k. is_there h (absolute m k) t) (sym ((wf m is_main).base (input m j) (input_in m j lt)))
+        ∙ (λ k. is_there h (absolute (f.0 k) (clock_of (f.0 k).node (f.1 k))) t))
     on_clock i x _ (by_equation i' x' r inst' right is) inst at =
         let f = same_flow i' i x' x inst' inst ((wf i' inst').left x' r right).0 at is in
         of_right r right (λ k. is_there h (absolute (f.0 k) (clock_of (f.0 k).node (f.1 k))) t)

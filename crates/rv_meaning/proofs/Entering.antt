@@ -1,6 +1,6 @@
 -- What tables have once names and calls were entered in them.
-use Rattle.std.proofs.Common.{◌≡◌, ℕ, zero, suc, ◌+◌, ◌<◌, Bool, true, false, cond, nat_eq, unwrap_or, List, [], ◌∷◌, ◌++◌, length, refl, sym, ◌∙◌, ap, arith}
-use Rattle.std.proofs.Common.{Option, Some, slice_get, add-zero, zero-add, None as Nothing}
+use Rattle.std.proofs.Common.{◌≡◌, ℕ, zero, suc, ◌+◌, ◌<◌, true, false, cond, nat_eq, unwrap_or, List, [], ◌∷◌, ◌++◌, length, refl, sym, ◌∙◌, ap, arith, Option}
+use Rattle.std.proofs.Common.{Some, slice_get, add-zero, zero-add, None as Nothing}
 use Rattle.std.specs.HashMap as hash
 use Rattle.std.specs.{HashMap.HashMap, Option.option_map}
 use Rattle.rv_tree.specs.{Tree.NodeTree, Places.Identifier, Places.is_same, Places.index_of}
@@ -8,6 +8,7 @@ use Rattle.rv_types.specs.Instances.{CallTree, calls}
 use Rattle.rv_meaning.specs.{declared.numbers.Numbers.Numbers, Callings.callings, Callings.first_callee, Callings.callee_in, Leading.callee_in_node}
 use Rattle.rv_meaning.specs.{Leading.node_texts, Numbers.entered, Numbers.number_in, Numbers.AreNumbers}
 use Rattle.rv_meaning.proofs.{States.first_with, Calling.call_site, Calling.call_name, Calling.node_callee}
+use Rattle.rv_base.proofs.Lists.{get_push}
 
 -- names that are entered after others, before them in order
 pub entered_both : (k : ℕ) (xs ys : List Identifier) (before : Option ℕ) (x : Identifier)
@@ -20,15 +21,11 @@ entered_both k (y ∷ xs) ys before x =
 -- the number of a name is the first place where it stands
 pub entered_number : (k : ℕ) (xs : List Identifier) (x : Identifier) → unwrap_or (entered k xs Nothing x) (k + length xs) ≡ k + index_of xs x
 entered_number k [] x = refl
-entered_number k (y ∷ xs) x = tested (is_same y x) (entered_number (k + 1) xs x)
-  where
-    tested : (b : Bool) → unwrap_or (entered (k + 1) xs Nothing x) (k + 1 + length xs) ≡ k + 1 + index_of xs x
-        → unwrap_or (cond b (Some k) (entered (k + 1) xs Nothing x)) (k + length (y ∷ xs)) ≡ k + cond b 0 (index_of xs x + 1)
-    tested true e = sym (add-zero k)
-    tested false e =
-        let next : k + length (y ∷ xs) ≡ k + 1 + length xs = omega arith in
-        let last : k + 1 + index_of xs x ≡ k + (index_of xs x + 1) = omega arith in
-        ap (unwrap_or (entered (k + 1) xs Nothing x)) next ∙ e ∙ last
+entered_number k (y ∷ xs) x =
+    let next : k + length (y ∷ xs) ≡ k + 1 + length xs = omega arith in
+    let last : k + 1 + index_of xs x ≡ k + (index_of xs x + 1) = omega arith in
+    elim (is_same y x) as (λ b. unwrap_or (cond b (Some k) (entered (k + 1) xs Nothing x)) (k + length (y ∷ xs)) ≡ k + cond b 0 (index_of xs x + 1))
+    [ true ↦ sym (add-zero k) | false ↦ ap (unwrap_or (entered (k + 1) xs Nothing x)) next ∙ entered_number (k + 1) xs x ∙ last ]
 
 -- what all names were entered into are their numbers
 pub are_numbers : (xs : List Identifier) (m : Numbers) → m.count ≡ length xs → ((x : Identifier) → hash.get is_same m.numbers x ≡ entered 0 xs Nothing x)
@@ -44,13 +41,9 @@ are_numbers xs m many has = record {
 called : (m : Numbers) (cs : List CallTree) (s : ℕ) → first_callee (callings m cs) s ≡ option_map (number_in m)
     (option_map call_name (first_with call_site cs s))
 called m [] s = refl
-called m (c ∷ cs) s = tested (nat_eq c.site s) (called m cs s)
-  where
-    tested : (b : Bool) → first_callee (callings m cs) s ≡ option_map (number_in m) (option_map call_name (first_with call_site cs s))
-        → cond b (Some (number_in m c.name)) (first_callee (callings m cs) s) ≡ option_map (number_in m)
-        (option_map call_name (cond b (Some c) (first_with call_site cs s)))
-    tested true e = refl
-    tested false e = e
+called m (c ∷ cs) s = elim (nat_eq c.site s)
+    as (λ b. cond b (Some (number_in m c.name)) (first_callee (callings m cs) s)
+    ≡ option_map (number_in m) (option_map call_name (cond b (Some c) (first_with call_site cs s)))) [ true ↦ refl | false ↦ called m cs s ]
 
 -- numbers that are the same for each name are the same for one that may be there
 alike : (f g : Identifier → ℕ) → ((x : Identifier) → f x ≡ g x) → (o : Option Identifier) → option_map f o ≡ option_map g o
@@ -75,8 +68,4 @@ module _ {S : Type 0} (tables : List (HashMap ℕ ℕ S)) (table : HashMap ℕ �
 
   -- and is the last
   pub last_is : (s : ℕ) → callee_in (tables ++ table ∷ []) (length tables) s ≡ hash.get nat_eq table s
-  last_is s = ap (λ o. elim o as (λ _. Option ℕ) [ Nothing ↦ Nothing | Some table ↦ hash.get nat_eq table s ]) (back tables)
-    where
-      back : (ts : List (HashMap ℕ ℕ S)) → slice_get (ts ++ table ∷ []) (length ts) ≡ Some table
-      back [] = refl
-      back (t ∷ ts) = back ts
+  last_is s = ap (λ o. elim o as (λ _. Option ℕ) [ Nothing ↦ Nothing | Some table ↦ hash.get nat_eq table s ]) (get_push tables table)

@@ -62,8 +62,7 @@ module _ (program : ProgramTree) (main : Identifier) (made : Rule) (sequence : L
             places = λ q. elim (one_or_other q (nth m)) [
               | inl same ↦ (
                 λ _. (m, omega arith, sym same),
-                λ _. subst (λ r. IsSome (map.get more r)) (sym same)
-                    (subst IsSome (sym (get_same row (nth m) v)) refl),
+                λ _. subst (λ r. IsSome (map.get more r)) (sym same) (subst IsSome (sym (get_same row (nth m) v)) refl),
               )
               | inr n ↦ let e = get_other row (nth m) q v n in (
                 λ h. let w = (p.places q).0 (subst IsSome e h) in (w.0, omega (arith, w.1), w.2),

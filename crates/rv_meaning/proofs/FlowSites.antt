@@ -1,24 +1,20 @@
 -- Flows by their sites: their names, types and clocks.
-use Rattle.std.proofs.Common.{◌≡◌, ℕ, zero, suc, ◌+◌, ◌<◌, Bool, true, false, cond, List, [], ◌∷◌, ◌++◌, map, length, get_or, refl, sym, ◌∙◌, ap, arith, Some}
-use Rattle.std.proofs.Common.{slice_get, length-append, zero-add}
+use Rattle.std.proofs.Common.{◌≡◌, ℕ, zero, suc, ◌+◌, ◌<◌, true, false, List, [], ◌∷◌, ◌++◌, map, length, get_or, refl, sym, ◌∙◌, ap, arith, Some, slice_get}
+use Rattle.std.proofs.Common.{length-append, zero-add}
 use Rattle.std.proofs.lemmas.List.{length-map, get_or_append_left, get_or-append-add, get_or_default, append_assoc}
 use Rattle.std.proofs.lemmas.Option.{none-some, slice_get_within}
 use Rattle.std.specs.List.{Contains}
-use Rattle.rv_tree.specs.{Tree.NodeTree, Tree.ProgramTree, Places.Identifier, Places.names, Places.flows, Places.is_same, Places.index_of, Places.site_of}
+use Rattle.rv_tree.specs.{Tree.NodeTree, Tree.ProgramTree, Places.Identifier, Places.names, Places.flows, Places.is_among, Places.index_of, Places.site_of}
 use Rattle.rv_types.specs.Kinds.{kind_in_program, decl_kinds, flow_kinds, flow_kind}
 use Rattle.rv_types.specs.{declared.typed.Kind.Kind, declared.typed.Clock.TheVariants.Base, Clocks.base_clock, Clocks.declared_clock, Clocks.clock_at}
 use Rattle.rv_types.specs.{Instances.Instance, Instances.IsInstance, Instances.IsNode, WellFormed.AreWell}
-use Rattle.rv_meaning.proofs.{NameLemmas.same_text, Defined.site_is}
-use Rattle.rv_types.proofs.{Members.in_tail, WellNodes.base_at, WellNodes.index_front}
+use Rattle.rv_meaning.proofs.Defined.{site_is}
+use Rattle.rv_types.proofs.{Members.among_contains, NamePlaces.index_past, WellNodes.base_at, WellNodes.index_front}
 
 -- what is found within a list is there
-index_within : (xs : List Identifier) (x : Identifier) → index_of xs x < length xs → Contains xs x
-index_within [] x lt = absurd (omega arith)
-index_within (y ∷ xs) x lt = tested (is_same y x) refl lt (index_within xs x)
-  where
-    tested : (b : Bool) → is_same y x ≡ b → cond b 0 (index_of xs x + 1) < length (y ∷ xs) → (index_of xs x < length xs → Contains xs x) → Contains (y ∷ xs) x
-    tested true e less again = (0, omega arith, same_text y x e)
-    tested false e less again = in_tail y xs x (again (omega arith))
+pub index_within : (xs : List Identifier) (x : Identifier) → index_of xs x < length xs → Contains xs x
+index_within xs x lt = elim (is_among xs x) as (λ b. is_among xs x ≡ b → Contains xs x)
+    [ true ↦ among_contains xs x | false ↦ λ none. absurd (omega (arith, lt, index_past xs x none)) ] refl
 
 -- an element of the first part of a list, by a function
 kept_by : {A B : Type 0} (f : A → B) (xs ys : List A) (j : ℕ) (k : B) → slice_get (map f xs) j ≡ Some k → slice_get (map f (xs ++ ys)) j ≡ Some k
@@ -30,29 +26,24 @@ kept_by f (x ∷ xs) ys (suc j) k e = kept_by f xs ys j k e
 shifted_by : {A B : Type 0} (f : A → B) (xs ys : List A) (j : ℕ) → slice_get (map f (xs ++ ys)) (length xs + j) ≡ slice_get (map f ys) j
 shifted_by f [] ys j = ap (slice_get (map f ys)) (zero-add j)
 shifted_by f (x ∷ xs) ys j =
-    let next : length (x ∷ xs) + j ≡ suc (length xs + j) = omega arith in
-    ap (slice_get (map f (x ∷ xs ++ ys))) next ∙ shifted_by f xs ys j
+    let next : length (x ∷ xs) + j ≡ suc (length xs + j) = omega arith in ap (slice_get (map f (x ∷ xs ++ ys))) next ∙ shifted_by f xs ys j
 
 module _ (n : NodeTree) where
   -- an output is on the base clock
   pub output_base : (j : ℕ) → j < length n.outputs → clock_at n (length n.inputs + j) ≡ Base
   output_base j lt =
-      let ins : length (map base_clock n.inputs) ≡ length n.inputs = length-map n.inputs base_clock in
-      let outs : length (map base_clock n.outputs) ≡ length n.outputs = length-map n.outputs base_clock in
-      let long : length (map base_clock n.inputs ++ map base_clock n.outputs) ≡ length (map base_clock n.inputs) + length
-      (map base_clock n.outputs) = length-append (map base_clock n.inputs) (map base_clock n.outputs) in
-      let within : length n.inputs + j < length (map base_clock n.inputs ++ map base_clock n.outputs) = omega arith in
-      get_or_append_left (map base_clock n.inputs ++ map base_clock n.outputs) (map (λ d. declared_clock n d.clock) n.locals) Base (length n.inputs + j) within
-      ∙ ap (λ l. get_or (map base_clock n.inputs ++ map base_clock n.outputs) (l + j) Base) (sym ins)
-      ∙ get_or-append-add (map base_clock n.inputs) (map base_clock n.outputs) j Base
-      ∙ base_at n.outputs j
+      let ins = map base_clock n.inputs in
+      let outs = map base_clock n.outputs in
+      let many = length-map n.inputs base_clock in
+      get_or_append_left (ins ++ outs) (map (λ d. declared_clock n d.clock) n.locals) Base (length n.inputs + j)
+      (omega (arith, lt, many, length-map n.outputs base_clock, length-append ins outs))
+      ∙ ap (λ l. get_or (ins ++ outs) (l + j) Base) (sym many) ∙ get_or-append-add ins outs j Base ∙ base_at n.outputs j
 
   -- the site of an input is below their number
   pub input_within : (x : Identifier) → Contains (names n.inputs) x → site_of n x < length n.inputs
   input_within x w =
-      let whole : names n.inputs ++ names n.outputs ++ names n.locals ≡ names n.inputs ++ (names n.outputs ++ names n.locals) = append_assoc (names n.inputs)
-      (names n.outputs) (names n.locals) in
-      let found : site_of n x ≡ index_of (names n.inputs ++ (names n.outputs ++ names n.locals)) x = ap (λ xs. index_of xs x) whole in
+      let found : site_of n x ≡ index_of (names n.inputs ++ (names n.outputs ++ names n.locals)) x =
+      ap (λ xs. index_of xs x) (append_assoc (names n.inputs) (names n.outputs) (names n.locals)) in
       omega (arith, index_front (names n.inputs) (names n.outputs ++ names n.locals) x w, found, length-map n.inputs (λ d. d.name.text))
 
 module _ (program : ProgramTree) (n : NodeTree) where

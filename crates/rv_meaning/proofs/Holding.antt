@@ -1,35 +1,19 @@
 -- Values of all memories by their places, where it is given what each `pre` and `current` holds, and where those of one
 -- flow hold the same.
-use Rattle.std.proofs.Common.{◌≡◌, ℕ, false, [], ◌∷◌, ◌++◌, refl, sym, ◌∙◌, ap, inl, inr, Option, Some, None as Nothing}
+use Rattle.std.proofs.Common.{◌≡◌, ℕ, false, [], ◌∷◌, ◌++◌, refl, ◌∙◌, ap, Option, Some, None as Nothing}
 use Rattle.std.proofs.lemmas.List.{append_assoc}
 use Rattle.std.specs.List.{Contains}
 use Rattle.rv_base.specs.{declared.value.Value.Value, declared.value.Value.TheVariants.Flag}
 use Rattle.rv_tree.specs.{Tree.NodeTree, Tree.ProgramTree, Places.Identifier, Places.Sites, Places.memory_site, Delays.Delay, Delays.node_delays}
-use Rattle.rv_tree.specs.{Delays.IsNumbered}
+use Rattle.rv_tree.specs.Delays.{IsNumbered}
 use Rattle.rv_types.specs.Instances.{CallTree, calls, Instance, main_instance, callee, IsInstance, is_main, is_callee, IsNode}
 use Rattle.rv_types.specs.WellFormed.{AreWell}
 use Rattle.rv_meaning.specs.Meaning.{kept_place}
 use Rattle.rv_meaning.proofs.Acceptable.{node_in, formed}
-use Rattle.rv_meaning.proofs.States.{first_with, found, IsName, memory_of_either, same_flow_site, own_beyond, same_own}
+use Rattle.rv_meaning.proofs.States.{first_with, found, IsName, same_memory}
 
 module _ (program : ProgramTree) (held : Instance → Delay → Value) (of_name : Instance → Identifier → Sites → Value)
     (is_of_name : (i : Instance) (d : Delay) (x : Identifier) → IsName i.node d.operand x → held i d ≡ of_name i x (kept_place i d.site d.operand)) where
-  -- memories with one place hold the same
-  same_memory : (i : Instance) → IsNumbered i.node → (d e : Delay) → Contains (node_delays i.node) d → Contains (node_delays i.node) e
-      → memory_site i.node d.site d.operand ≡ memory_site i.node e.site e.operand → held i d ≡ held i e
-  same_memory i numbered d e w v is = elim (memory_of_either i.node d.site d.operand) [
-    | inl a ↦ elim (memory_of_either i.node e.site e.operand) [
-      | inl b ↦
-          let x : a.0 ≡ b.0 = same_flow_site i.node numbered a.0 b.0 a.1.3 b.1.3 (sym a.2 ∙ is ∙ b.2) in
-          is_of_name i d a.0 a.1 ∙ (λ j. of_name i (x j) (i.path ++ is j ∷ [])) ∙ sym (is_of_name i e b.0 b.1)
-      | inr b ↦ absurd (own_beyond i.node numbered e v a.0 a.1.3 (sym a.2 ∙ is ∙ b))
-    ]
-    | inr a ↦ elim (memory_of_either i.node e.site e.operand) [
-      | inl b ↦ absurd (own_beyond i.node numbered d w b.0 b.1.3 (sym b.2 ∙ sym is ∙ a))
-      | inr b ↦ ap (λ (d : Delay). held i d) (same_own i.node numbered d e w v (sym a ∙ is ∙ b))
-    ]
-  ]
-
   -- the site of a delay's memory
   abbrev site_in : Instance → Delay → ℕ
   site_in i d = memory_site i.node d.site d.operand
@@ -71,4 +55,5 @@ module _ (program : ProgramTree) (held : Instance → Delay → Value) (of_name 
         let f = found (site_in i) (node_delays i.node) d w in
         leads i inst (site_in i d) []
         ∙ ap (held_by i) f.1
-        ∙ same_memory i (numbered i.node (node_in program main well named i inst)) f.0 d f.2 w f.3
+        ∙ same_memory i.node (numbered i.node (node_in program main well named i inst)) (held i) (λ x s. of_name i x (i.path ++ s ∷ [])) (is_of_name i)
+        f.0 d f.2 w f.3

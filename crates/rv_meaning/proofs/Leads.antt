@@ -1,6 +1,6 @@
 -- Paths lead to instances: each to the node of the instance with the path, and to nothing else.
-use Rattle.std.proofs.Common.{◌≡◌, ℕ, ◌+◌, Bool, true, false, cond, unwrap_or, List, [], ◌∷◌, ◌++◌, map, refl, sym, ◌∙◌, ap, subst, Option, Some, IsTrue}
-use Rattle.std.proofs.Common.{get_or, add-one, None as Nothing}
+use Rattle.std.proofs.Common.{◌≡◌, ℕ, ◌+◌, true, false, cond, unwrap_or, List, [], ◌∷◌, ◌++◌, map, refl, sym, ◌∙◌, ap, subst, Option, Some, IsTrue, get_or}
+use Rattle.std.proofs.Common.{add-one, None as Nothing}
 use Rattle.std.proofs.{Math.ListN.get_or-map, lemmas.List.append_assoc, lemmas.List.append-nil, lemmas.Option.none-some, lemmas.Option.same_Some}
 use Rattle.std.specs.{List.Contains, Option.option_map}
 use Rattle.rv_tree.specs.{Tree.NodeTree, Tree.ProgramTree, Places.Identifier, Places.Sites, Places.is_same, Places.index_of, Places.is_among}
@@ -13,12 +13,9 @@ use Rattle.rv_types.proofs.Members.{among_contains}
 -- the node of a name is that of its number
 pub node_is : (ns : List NodeTree) (f : Identifier) → unwrap_or (node_among ns f) no_node ≡ numbered ns (index_of (node_texts ns) f)
 node_is [] f = refl
-node_is (n ∷ ns) f = tested (is_same n.name.text f) (node_is ns f)
-  where
-    tested : (b : Bool) → unwrap_or (node_among ns f) no_node ≡ numbered ns (index_of (node_texts ns) f)
-        → unwrap_or (cond b (Some n) (node_among ns f)) no_node ≡ numbered (n ∷ ns) (cond b 0 (index_of (node_texts ns) f + 1))
-    tested true e = refl
-    tested false e = e ∙ ap (numbered (n ∷ ns)) (sym (add-one (index_of (node_texts ns) f)))
+node_is (n ∷ ns) f = elim (is_same n.name.text f)
+    as (λ b. unwrap_or (cond b (Some n) (node_among ns f)) no_node ≡ numbered (n ∷ ns) (cond b 0 (index_of (node_texts ns) f + 1)))
+    [ true ↦ refl | false ↦ node_is ns f ∙ ap (numbered (n ∷ ns)) (sym (add-one (index_of (node_texts ns) f))) ]
 
 -- the names of the nodes
 pub names_are : (ns : List NodeTree) → texts (map (λ n. n.name) ns) ≡ node_texts ns
@@ -54,31 +51,21 @@ module _ (p : ProgramTree) (t : Typed) (answer : IsAnswer p t) where
   pub main_node : numbered p.nodes t.main ≡ node_of p (name_at p t.main)
   main_node = ap (numbered p.nodes) main_is ∙ sym (node_is p.nodes answer.0) ∙ ap (node_of p) (sym name_is)
 
+-- where a path leads from a node that may be there
+abbrev onward : (ℕ → ℕ → Option ℕ) → Sites → Option ℕ → Option ℕ
+onward next path o = elim o as (λ _. Option ℕ) [ Nothing ↦ Nothing | Some k ↦ led_by next k path ]
+
 -- where a path leads, one step more leads by that step
 one_more : (next : ℕ → ℕ → Option ℕ) (path : Sites) (k m s : ℕ) → led_by next k path ≡ Some m → led_by next k (path ++ s ∷ []) ≡ next m s
-one_more next [] k m s e = itself (next k s) ∙ ap (λ j. next j s) (same_Some k m e)
-  where
-    itself : (o : Option ℕ) → elim o as (λ _. Option ℕ) [ Nothing ↦ Nothing | Some j ↦ Some j ] ≡ o
-    itself Nothing = refl
-    itself (Some j) = refl
-one_more next (r ∷ rs) k m s e = tested (next k r) (λ j e. one_more next rs j m s e) e
-  where
-    tested : (o : Option ℕ) → ((j : ℕ) → led_by next j rs ≡ Some m → led_by next j (rs ++ s ∷ []) ≡ next m s)
-        → elim o as (λ _. Option ℕ) [ Nothing ↦ Nothing | Some j ↦ led_by next j rs ] ≡ Some m
-        → elim o as (λ _. Option ℕ) [ Nothing ↦ Nothing | Some j ↦ led_by next j (rs ++ s ∷ []) ] ≡ next m s
-    tested Nothing again e = absurd (none-some m e)
-    tested (Some j) again e = again j e
+one_more next [] k m s e = (elim (next k s) as (λ o. onward next [] o ≡ o) [ Nothing ↦ refl | Some j ↦ refl ]) ∙ ap (λ j. next j s) (same_Some k m e)
+one_more next (r ∷ rs) k m s e = elim (next k r) as (λ o. onward next rs o ≡ Some m → onward next (rs ++ s ∷ []) o ≡ next m s)
+    [ Nothing ↦ λ none. absurd (none-some m none) | Some j ↦ λ there. one_more next rs j m s there ] e
 
 -- steps that agree lead to the same
 pub led_alike : (f g : ℕ → ℕ → Option ℕ) → ((k s : ℕ) → f k s ≡ g k s) → (path : Sites) (k : ℕ) → led_by f k path ≡ led_by g k path
 led_alike f g same [] k = refl
 led_alike f g same (s ∷ ss) k =
-    ap (λ o. elim o as (λ _. Option ℕ) [ Nothing ↦ Nothing | Some j ↦ led_by f j ss ]) (same k s) ∙ after (g k s) (led_alike f g same ss)
-  where
-    after : (o : Option ℕ) → ((j : ℕ) → led_by f j ss ≡ led_by g j ss)
-        → elim o as (λ _. Option ℕ) [ Nothing ↦ Nothing | Some j ↦ led_by f j ss ] ≡ elim o as (λ _. Option ℕ) [ Nothing ↦ Nothing | Some j ↦ led_by g j ss ]
-    after Nothing again = refl
-    after (Some j) again = again j
+    ap (onward f ss) (same k s) ∙ (elim (g k s) as (λ o. onward f ss o ≡ onward g ss o) [ Nothing ↦ refl | Some j ↦ led_alike f g same ss j ])
 
 module _ (p : ProgramTree) (main : Identifier) where
   -- A path leads to the node with this number.
@@ -114,12 +101,8 @@ module _ (p : ProgramTree) (main : Identifier) where
   -- a path that leads to a node is that of an instance
   pub led_to : (path : Sites) (k m : ℕ) (j : Instance) → IsInstance p main j → numbered p.nodes k ≡ j.node → led_by (callee_at p.nodes) k path ≡ Some m
       → IsLed j path m
-  led_to [] k m j inst here e = record {
-    instance = j;
-    is = inst;
-    path_is = sym (append-nil j.path);
-    node_is = sym here ∙ ap (numbered p.nodes) (same_Some k m e);
-  }
+  led_to [] k m j inst here e =
+      record { instance = j; is = inst; path_is = sym (append-nil j.path); node_is = sym here ∙ ap (numbered p.nodes) (same_Some k m e) }
   led_to (s ∷ ss) k m j inst here e = tested (callee_in_node (numbered p.nodes k) s) refl (λ k j inst here e. led_to ss k m j inst here e) e
     where
       tested : (o : Option Identifier) → callee_in_node (numbered p.nodes k) s ≡ o

@@ -1,3 +1,4 @@
+pub mod Below
 pub mod Rows
 pub mod NameLemmas
 pub mod Acceptable
@@ -15,7 +16,6 @@ pub mod Steps
 pub mod States
 pub mod Holding
 pub mod Brought
-pub mod Suiting
 pub mod TypedOperators
 pub mod CallParts
 pub mod Standing

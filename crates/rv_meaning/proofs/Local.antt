@@ -3,8 +3,7 @@ use Rattle.std.proofs.Common.{◌≡◌, ℕ, zero, suc, ◌+◌, ◌<◌, ◌�
 use Rattle.std.proofs.Common.{Option, Some, nat_le, None as Nothing}
 use Rattle.std.specs.List.{All}
 use Rattle.rv_base.specs.{declared.value.Value.Value, declared.value.Value.TheVariants.Flag, declared.value.Value.TheVariants.Whole}
-use Rattle.rv_tree.specs.Tree.{Tree, Node, Form, True, False, Number, Named, Not, Minus, Pre, Current, When, Binary, If, AtMostOne, Call, Trees, None, More}
-use Rattle.rv_tree.specs.Tree.{ProgramTree}
+use Rattle.rv_tree.specs.Tree.{Tree, Node, Form, Named, Not, Minus, Pre, Current, When, Binary, If, AtMostOne, Call, Trees, None, More, ProgramTree}
 use Rattle.rv_tree.specs.Places.{Sites, is_flow}
 use Rattle.rv_types.specs.Instances.{Right, Body, Output, Instance, place, absolute, clock_in, clock_taken, clock_of_arguments, output_place}
 use Rattle.rv_types.specs.Needs.{flow_of, needs, form_needs, needs_all, needs_of_right}
@@ -53,48 +52,18 @@ module _ (g h : Cells) where
 
   module _ (program : ProgramTree) (starts : Sites → Value) (i : Instance) where
     mutual
-      -- an expression before u
-      pub before : (e : Tree) (u t : ℕ) → AreAlike u → t < u → content program starts g i e t ≡ content program starts h i e t
-      before (Node at site form) u t alike lt = form_before site form u t alike lt
-
-      -- by its form
-      form_before : (site : Option ℕ) (form : Form) (u t : ℕ) → AreAlike u → t < u
-          → form_content program starts g i site form t ≡ form_content program starts h i site form t
-      form_before site True u t alike lt = refl
-      form_before site False u t alike lt = refl
-      form_before site (Number n) u t alike lt = refl
-      form_before site (Named x) u t alike lt = ap (λ o. cond (is_flow i.node x) (held o) (constant_value program x)) (alike t _ lt)
-      form_before site (Not e) u t alike lt = ap (λ v. Flag (not (is_true v))) (before e u t alike lt)
-      form_before site (Minus e) u t alike lt = ap (λ v. Whole (pos 0 -ℤ number v)) (before e u t alike lt)
-      form_before site (Binary o a b) u t alike lt = λ j. operate o
-          (not (was_before u alike (clock_in i Base (Node 0 site (Binary o a b))) t (omega arith) j))
-          (before a u t alike lt j) (before b u t alike lt j)
-      form_before site (Pre e) u t alike lt = last_alike u alike (clock_in i Base e) _ _ (starts (kept_place i site e)) t (omega arith)
-          (λ s less. before e u s alike (omega arith))
-      form_before site (Current e) u t alike lt = last_alike u alike (clock_in i Base e) _ _ (starts (kept_place i site e)) (suc t) (omega arith)
-          (λ s less. before e u s alike (omega arith))
-      form_before site (When e c) u t alike lt = before e u t alike lt
-      form_before site (If a b c) u t alike lt = λ j. cond (is_true (before a u t alike lt j)) (before b u t alike lt j) (before c u t alike lt j)
-      form_before site (AtMostOne es) u t alike lt = ap (λ n. Flag (nat_le n 1)) (all_before es u t alike lt)
-      form_before site (Call f args) u t alike lt = ap held (alike t _ lt)
-
-      -- some expressions
-      all_before : (es : Trees) (u t : ℕ) → AreAlike u → t < u → trues program starts g i es t ≡ trues program starts h i es t
-      all_before None u t alike lt = refl
-      all_before (More e es) u t alike lt = λ j. cond (is_true (before e u t alike lt j)) 1 0 + all_before es u t alike lt j
-
-    mutual
       -- an expression at t, where what it needs is the same
       pub now : (k : Clock) (e : Tree) (t : ℕ) → AreAlike t → All (IsAlike t) (needs program i k e)
           → content program starts g i e t ≡ content program starts h i e t
       now k (Node at site form) t alike same = form_now k site form t alike (all_right (IsAlike t) (flow_of (absolute i k)) _ same)
 
+      -- before an instant up to which the histories are the same it needs nothing
+      before : (e : Tree) (u t : ℕ) → AreAlike u → t < u → content program starts g i e t ≡ content program starts h i e t
+      before (Node at site form) u t alike lt = form_now Base site form t (λ s p less. alike s p (omega arith)) (λ j d less. alike t _ lt)
+
       -- by its form
       form_now : (k : Clock) (site : Option ℕ) (form : Form) (t : ℕ) → AreAlike t → All (IsAlike t) (form_needs program i k site form)
           → form_content program starts g i site form t ≡ form_content program starts h i site form t
-      form_now k site True t alike same = refl
-      form_now k site False t alike same = refl
-      form_now k site (Number n) t alike same = refl
       form_now k site (Named x) t alike same = named_now (is_flow i.node x) (place i x) (constant_value program x) t same
       form_now k site (Not e) t alike same = ap (λ v. Flag (not (is_true v))) (now k e t alike same)
       form_now k site (Minus e) t alike same = ap (λ v. Whole (pos 0 -ℤ number v)) (now k e t alike same)
@@ -102,21 +71,21 @@ module _ (g h : Cells) where
           (not (was_before t alike (clock_in i Base (Node 0 site (Binary o a b))) t (omega arith) j))
           (now k a t alike (all_left (IsAlike t) (needs program i k a) _ same) j)
           (now k b t alike (all_right (IsAlike t) (needs program i k a) _ same) j)
-      form_now k site (Pre e) t alike same = last_alike t alike (clock_in i Base e) _ _ (starts (kept_place i site e)) t (omega arith)
-          (λ s less. before e t s alike less)
+      form_now k site (Pre e) t alike same = last_alike t alike (clock_in i Base e) _ _ _ t (omega arith) (λ s less. before e t s alike less)
       form_now k site (Current e) t alike same = λ j. cond
           (there_of (clock_taken i Base e) e t same j)
           (now (clock_taken i Base e) e t alike same j)
           (last_alike t alike (clock_in i Base e) (content program starts g i e) (content program starts h i e) (starts (kept_place i site e)) t (omega arith)
           (λ s less. before e t s alike less) j)
       form_now k site (When e c) t alike same = now _ e t alike same
-      form_now k site (If a b c) t alike same = let later : All (IsAlike t) (needs program i k b ++ needs program i k c) = all_right (IsAlike t)
-          (needs program i k a) _ same in λ j. cond
+      form_now k site (If a b c) t alike same =
+          let later : All (IsAlike t) (needs program i k b ++ needs program i k c) = all_right (IsAlike t) (needs program i k a) _ same in λ j. cond
           (is_true (now k a t alike (all_left (IsAlike t) (needs program i k a) _ same) j))
           (now k b t alike (all_left (IsAlike t) (needs program i k b) _ later) j)
           (now k c t alike (all_right (IsAlike t) (needs program i k b) _ later) j)
       form_now k site (AtMostOne es) t alike same = ap (λ n. Flag (nat_le n 1)) (all_now k es t alike same)
       form_now k site (Call f args) t alike same = ap held (same 0 (output_place program i (unwrap_or site 0) f 0) (omega arith))
+      form_now k site _ t alike same = refl
 
       -- some expressions
       all_now : (k : Clock) (es : Trees) (t : ℕ) → AreAlike t → All (IsAlike t) (needs_all program i k es)
@@ -139,7 +108,6 @@ module _ (g h : Cells) where
     pub right_now : (k : Clock) (r : Right) (t : ℕ) → AreAlike t → All (IsAlike t) (needs_of_right program i k r)
         → right_value program starts g i k r t ≡ right_value program starts h i k r t
     right_now k (Body e) t alike same = value_now k e t alike same
-    right_now k (Output c n) t alike same = λ j. cond
-        (there_now (absolute i (clock_of_arguments i c.args)) t (all_left (IsAlike t) (flow_of (absolute i (clock_of_arguments i c.args))) _ same) j)
-        (Some (held (all_right (IsAlike t) (flow_of (absolute i (clock_of_arguments i c.args))) _ same 0 (output_place program i c.site c.name n)
-        (omega arith) j))) Nothing
+    right_now k (Output c n) t alike same = let clock = absolute i (clock_of_arguments i c.args) in λ j. cond
+        (there_now clock t (all_left (IsAlike t) (flow_of clock) _ same) j)
+        (Some (held (all_right (IsAlike t) (flow_of clock) _ same 0 (output_place program i c.site c.name n) (omega arith) j))) Nothing

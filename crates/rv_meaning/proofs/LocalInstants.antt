@@ -3,8 +3,7 @@ use Rattle.std.proofs.Common.{◌≡◌, ℕ, pos, ◌-ℤ◌, ◌+◌, Bool, tr
 use Rattle.std.proofs.Common.{None as Nothing}
 use Rattle.std.specs.List.{All}
 use Rattle.rv_base.specs.{declared.value.Value.Value, declared.value.Value.TheVariants.Flag, declared.value.Value.TheVariants.Whole}
-use Rattle.rv_tree.specs.Tree.{Tree, Node, Form, True, False, Number, Named, Not, Minus, Pre, Current, When, Binary, If, AtMostOne, Call, Trees, None, More}
-use Rattle.rv_tree.specs.Tree.{ProgramTree}
+use Rattle.rv_tree.specs.Tree.{Tree, Node, Form, Named, Not, Minus, Current, When, Binary, If, AtMostOne, Call, Trees, None, More, ProgramTree}
 use Rattle.rv_tree.specs.Places.{Sites, is_flow}
 use Rattle.rv_types.specs.Instances.{Right, Body, Output, Instance, place, absolute, clock_in, clock_taken, clock_of_arguments, output_place}
 use Rattle.rv_types.specs.Needs.{flow_of, needs, form_needs, needs_all, needs_of_right}
@@ -37,9 +36,6 @@ module _ (g h : Instant) where
       -- by its form
       form_alike : (k : Clock) (site : Option ℕ) (form : Form) → All IsSameCell (form_needs program i k site form)
           → form_now program state g i site form ≡ form_now program state h i site form
-      form_alike k site True same = refl
-      form_alike k site False same = refl
-      form_alike k site (Number n) same = refl
       form_alike k site (Named x) same = named_alike (is_flow i.node x) (place i x) (constant_value program x) same
       form_alike k site (Not e) same = ap (λ v. Flag (not (is_true v))) (alike k e same)
       form_alike k site (Minus e) same = ap (λ v. Whole (pos 0 -ℤ number v)) (alike k e same)
@@ -47,7 +43,6 @@ module _ (g h : Instant) where
           (not (state.ticked (clock_in i Base (Node 0 site (Binary o a b)))))
           (alike k a (all_left IsSameCell (needs program i k a) _ same) j)
           (alike k b (all_right IsSameCell (needs program i k a) _ same) j)
-      form_alike k site (Pre e) same = refl
       form_alike k site (Current e) same = λ j. cond
           (on_of (clock_taken i Base e) e same j)
           (alike (clock_taken i Base e) e same j)
@@ -60,6 +55,7 @@ module _ (g h : Instant) where
           (alike k c (all_right IsSameCell (needs program i k b) _ later) j)
       form_alike k site (AtMostOne es) same = ap (λ n. Flag (nat_le n 1)) (all_alike k es same)
       form_alike k site (Call f args) same = ap held (same 0 (output_place program i (unwrap_or site 0) f 0) (omega arith))
+      form_alike k site _ same = refl
 
       -- some expressions
       all_alike : (k : Clock) (es : Trees) → All IsSameCell (needs_all program i k es) → trues_now program state g i es ≡ trues_now program state h i es
@@ -81,7 +77,6 @@ module _ (g h : Instant) where
     pub right_alike : (k : Clock) (r : Right) → All IsSameCell (needs_of_right program i k r)
         → right_now program state g i k r ≡ right_now program state h i k r
     right_alike k (Body e) same = value_alike k e same
-    right_alike k (Output c n) same = λ j. cond
-        (on_alike (absolute i (clock_of_arguments i c.args)) (all_left IsSameCell (flow_of (absolute i (clock_of_arguments i c.args))) _ same) j)
-        (Some (held (all_right IsSameCell (flow_of (absolute i (clock_of_arguments i c.args))) _ same 0 (output_place program i c.site c.name n)
-        (omega arith) j))) Nothing
+    right_alike k (Output c n) same = let clock = absolute i (clock_of_arguments i c.args) in λ j. cond
+        (on_alike clock (all_left IsSameCell (flow_of clock) _ same) j)
+        (Some (held (all_right IsSameCell (flow_of clock) _ same 0 (output_place program i c.site c.name n) (omega arith) j))) Nothing

@@ -1,42 +1,16 @@
 -- Places that are found along paths, and then sorted, are those of the memories of the instances with these paths.
 use Rattle.std.proofs.Common.{◌≡◌, ℕ, List, [], ◌∷◌, ◌++◌, refl, sym, ◌∙◌, ap, subst, Option, Some, get_or, inl, inr, None as Nothing}
 use Rattle.std.specs.List.{Contains, flat_map}
-use Rattle.rv_tree.specs.Tree.{Node, Named, NodeTree, ProgramTree}
-use Rattle.rv_tree.specs.{Places.Identifier, Places.Sites, Places.memory_site, Delays.Delay, Delays.node_delays, Delays.IsNumbered}
-use Rattle.rv_types.specs.{declared.typed.Kind.Kind, Instances.Instance, Instances.node_of, Instances.IsInstance, Instances.IsNode, Lists.AreRising}
-use Rattle.rv_types.specs.{Lists.delay_place, Lists.MemoryAt, Lists.memory_at, Lists.memory_places, Values.operand_kind, WellFormed.AreWell}
+use Rattle.rv_tree.specs.Tree.{Node, Named, ProgramTree}
+use Rattle.rv_tree.specs.{Places.Identifier, Places.Sites, Places.memory_site, Delays.Delay, Delays.node_delays}
+use Rattle.rv_types.specs.{Instances.Instance, Instances.node_of, Instances.IsInstance, Instances.IsNode, Lists.AreRising, Lists.delay_place, Lists.MemoryAt}
+use Rattle.rv_types.specs.{Lists.memory_at, Lists.memory_places, Values.operand_kind, WellFormed.AreWell}
 use Rattle.rv_meaning.specs.{Accessors.ArePaths, Accessors.IsOnePath, Accessors.AreMemoryPlaces, Leading.numbered, Leading.callee_at, Leading.led_by}
 use Rattle.rv_meaning.specs.{Remembered.AreSites, Remembered.sites_at, Remembered.places_at}
-use Rattle.rv_meaning.proofs.States.{IsName, memory_of_either, same_flow_site, own_beyond, same_own}
+use Rattle.rv_meaning.proofs.States.{same_memory}
 use Rattle.rv_meaning.proofs.{Acceptable.node_in, NameLemmas.snoc, NameLemmas.none_in, Defined.same_instance, Leads.leads_to, Leads.led_alike}
 use Rattle.rv_types.proofs.Members.{at_head, cons_cases, in_flat_map, in_map, in_tail, of_flat_map}
 use Rattle.rv_base.proofs.Lists.{from_map}
-
--- the type of a flow's name
-named_kind : ProgramTree → NodeTree → Identifier → Kind
-named_kind p n x = operand_kind p n (Node 0 Nothing (Named x))
-
-module _ (p : ProgramTree) (n : NodeTree) (is_numbered : IsNumbered n) where
-  -- an operand that is a flow has the type of its name
-  is_named : (d : Delay) (x : Identifier) → IsName n d.operand x → operand_kind p n d.operand ≡ named_kind p n x
-  unfolding named_kind
-  is_named d x w = ap (operand_kind p n) w.2
-
-  -- what one memory remembers has one type
-  same_kind : (d e : Delay) → Contains (node_delays n) d → Contains (node_delays n) e → memory_site n d.site d.operand ≡ memory_site n e.site e.operand
-      → operand_kind p n d.operand ≡ operand_kind p n e.operand
-  same_kind d e w v is = elim (memory_of_either n d.site d.operand) [
-    | inl a ↦ elim (memory_of_either n e.site e.operand) [
-      | inl b ↦
-          let x : a.0 ≡ b.0 = same_flow_site n is_numbered a.0 b.0 a.1.3 b.1.3 (sym a.2 ∙ is ∙ b.2) in
-          is_named d a.0 a.1 ∙ ap (named_kind p n) x ∙ sym (is_named e b.0 b.1)
-      | inr b ↦ absurd (own_beyond n is_numbered e v a.0 a.1.3 (sym a.2 ∙ is ∙ b))
-    ]
-    | inr a ↦ elim (memory_of_either n e.site e.operand) [
-      | inl b ↦ absurd (own_beyond n is_numbered d w b.0 b.1.3 (sym b.2 ∙ sym is ∙ a))
-      | inr b ↦ ap (λ (d : Delay). operand_kind p n d.operand) (same_own n is_numbered d e w v (sym a ∙ is ∙ b))
-    ]
-  ]
 
 module _ (p : ProgramTree) (main : Identifier) (well : AreWell p) (is_node : IsNode p main) (start : ℕ) (start_is : numbered p.nodes start ≡ node_of p main)
     (paths : List Sites) (are_paths : ArePaths p main paths) (next : ℕ → ℕ → Option ℕ) (alike : (k s : ℕ) → next k s ≡ callee_at p.nodes k s)
@@ -92,9 +66,7 @@ module _ (p : ProgramTree) (main : Identifier) (well : AreWell p) (is_node : IsN
   -- the memories at some places
   listed : (qs : List Sites) → ((q : Sites) → Contains qs q → IsAt q) → List MemoryAt
   listed [] at = []
-  listed (q ∷ qs) at =
-      let here = at q (at_head q qs) in
-      memory_at p here.instance here.delay ∷ listed qs (λ r w. at r (in_tail q qs r w))
+  listed (q ∷ qs) at = let here = at q (at_head q qs) in memory_at p here.instance here.delay ∷ listed qs (λ r w. at r (in_tail q qs r w))
 
   -- have these places
   listed_places : (qs : List Sites) (at : (q : Sites) → Contains qs q → IsAt q) → memory_places (listed qs at) ≡ qs
@@ -125,7 +97,8 @@ module _ (p : ProgramTree) (main : Identifier) (well : AreWell p) (is_node : IsN
       let within : Contains (node_delays j.node) d = subst (λ (i : Instance). Contains (node_delays i.node) d) one w in
       let site : memory_site j.node d.site d.operand ≡ memory_site j.node e.site e.operand = ap (λ (i : Instance). memory_site i.node d.site d.operand)
       (sym one) ∙ r.1 in
-      let kind = same_kind p j.node (well.numbered j.node (node_in p main well is_node j b)) d e within v site in
+      let kind = same_memory j.node (well.numbered j.node (node_in p main well is_node j b)) (λ d. operand_kind p j.node d.operand)
+      (λ x s. operand_kind p j.node (Node 0 Nothing (Named x))) (λ d x is. ap (operand_kind p j.node) is.2) d e within v site in
       ap (λ (i : Instance). memory_at p i d) one ∙ (λ k. record { place = j.path ++ site k ∷ []; kind = kind k })
 
   -- so places in order, which are those that are found, are those of the memories

@@ -1,6 +1,5 @@
 -- An instant at a state is a solution of one instant.
-use Rattle.std.proofs.Common.{◌≡◌, ℕ, ◌<◌, ◌↔◌, Bool, true, false, cond, [], ◌∷◌, refl, sym, ◌∙◌, ap, subst, arith, get_or, Option, Some, IsSome}
-use Rattle.std.proofs.Common.{None as Nothing}
+use Rattle.std.proofs.Common.{◌≡◌, ℕ, ◌<◌, ◌↔◌, Bool, false, cond, [], ◌∷◌, refl, sym, ◌∙◌, ap, subst, arith, get_or, Option, Some, IsSome, None as Nothing}
 use Rattle.std.specs.FinMap as map
 use Rattle.rv_base.specs.{declared.value.Value.Value, declared.value.Value.TheVariants.Flag}
 use Rattle.rv_tree.specs.{Tree.ProgramTree, Places.Identifier, Places.Sites}
@@ -8,7 +7,7 @@ use Rattle.rv_types.specs.Instances.{Body, Output, absolute, clock_in, clock_of,
 use Rattle.rv_types.specs.Needs.{Giver, Given, Of, Gives, given, by_equation, by_call}
 use Rattle.rv_meaning.specs.{Meaning.is_there, Runs.Instant, Runs.History, Runs.cells, Runs.cell, Givers.expected, Givers.AreDefined, Instants.State}
 use Rattle.rv_meaning.specs.{Instants.is_on_in, Instants.right_now, Instants.IsInstant}
-use Rattle.rv_meaning.proofs.{LocalInstants.right_alike, Solutions.Rule, Solutions.IsLocal, Solutions.IsSolution}
+use Rattle.rv_meaning.proofs.{NameLemmas.masked, LocalInstants.right_alike, Solutions.Rule, Solutions.IsLocal, Solutions.IsSolution}
 
 -- a clock is there in a history of an instant where it is in the row
 pub on_there : (h : History) (t : ℕ) (k : Option Sites) → is_there (cells h) k t ≡ is_on_in (get_or h t map.empty) k
@@ -17,10 +16,7 @@ on_there h t (Some p) = refl
 
 -- two values that are masked alike are there alike
 same_mask : (b c : Bool) (x y : Value) → b ≡ c → IsSome (cond b (Some x) Nothing) ↔ IsSome (cond c (Some y) Nothing)
-same_mask true true x y e = (λ s. refl, λ s. refl)
-same_mask true false x y e = (λ s. sym e, λ s. refl)
-same_mask false true x y e = (λ s. refl, λ s. e)
-same_mask false false x y e = (λ s. s, λ s. s)
+same_mask b c x y e = let p = masked b c x e in let q = masked c c y refl in (λ s. q.1 (p.0 s), λ s. p.1 (q.0 s))
 
 module _ (program : ProgramTree) (main : Identifier) (state : State) (inputs : ℕ → Value) where
   -- the rule of instants
@@ -40,23 +36,20 @@ module _ (program : ProgramTree) (main : Identifier) (state : State) (inputs : �
   -- an instant is a solution
   pub solution_of_instant : (row : Instant) → IsInstant program main state inputs row → IsSolution program main at_state 1 (alone row)
   solution_of_instant row s = record {
-    history = record { instants = refl; places = λ t p lt. at_first t lt p };
-    has = λ t p w lt g. has t lt p w g;
+    history = record {
+      instants = refl;
+      places = λ t p lt. subst (λ u. IsSome (map.get (get_or (alone row) u map.empty) p) ↔ IsFlow program main p) (is_first t lt) (s.places p);
+    };
+    has = λ t p w lt g. subst (λ u. cells (alone row) u p ≡ at_state w (alone row) u) (is_first t lt) (here p w g);
   }
     where
       is_first : (t : ℕ) → t < 1 → 0 ≡ t
       is_first t lt = omega arith
 
-      at_first : (t : ℕ) → t < 1 → (p : Sites) → IsSome (map.get (get_or (alone row) t map.empty) p) ↔ IsFlow program main p
-      at_first t lt p = subst (λ u. IsSome (map.get (get_or (alone row) u map.empty) p) ↔ IsFlow program main p) (is_first t lt) (s.places p)
-
       here : (p : Sites) (w : Giver) → Gives program main p w → cell row p ≡ at_state w (alone row) 0
       here p _ (given j lt is) = ap (cell row) (sym is) ∙ s.given j lt
       here p _ (by_equation i x e inst at is) = ap (cell row) (sym is) ∙ s.equations i x e inst at
       here p _ (by_call i c j e inst at arg is) = ap (cell row) (sym is) ∙ s.arguments i c j e inst at arg
-
-      has : (t : ℕ) → t < 1 → (p : Sites) (w : Giver) → Gives program main p w → cells (alone row) t p ≡ at_state w (alone row) t
-      has t lt p w g = subst (λ u. cells (alone row) u p ≡ at_state w (alone row) u) (is_first t lt) (here p w g)
 
   -- what an instant has of a giver is there where a run's would be
   present : (starts : Sites → Value) (others : ℕ → ℕ → Value) (h : History) (t : ℕ) (w : Giver)

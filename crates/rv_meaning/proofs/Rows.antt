@@ -1,6 +1,6 @@
 -- Places as keys of a row, and what a row has after one more place is written.
-use Rattle.std.proofs.Common.{◌≡◌, Bool, true, false, cond, refl, sym, ◌∙◌, ap, arith, ◌⊎◌, inl, inr, Option, Some, Ordering, Less, Equal, Greater}
-use Rattle.std.proofs.lemmas.Cmp.{nat_list_cmp_total, tied_itself}
+use Rattle.std.proofs.Common.{◌≡◌, Bool, true, false, cond, refl, sym, ◌∙◌, ap, arith, ◌⊎◌, inl, inr, Option, Some, Ordering, Equal}
+use Rattle.std.proofs.{lemmas.Bool.false_from_ne_true, lemmas.Cmp.nat_list_cmp_total, lemmas.Cmp.tied_itself}
 use Rattle.std.specs.{Ordering.is_eq, Ordering.eq_by_cmp, Ordering.nat_cmp, Cmp.Lexicographic.slice_cmp, FinMap.slice_cmp-IsAntisymmetric}
 use Rattle.std.specs.{FinMap.nat_cmp-IsAntisymmetric, FinMap.get-insert}
 use Rattle.std.specs.FinMap as map
@@ -10,9 +10,8 @@ use Rattle.rv_meaning.specs.Runs.{Instant}
 
 -- places in a map
 pub only_equal : (r : Ordering) → is_eq r ≡ true → r ≡ Equal
-only_equal Less e = grind arith
 only_equal Equal e = refl
-only_equal Greater e = grind arith
+only_equal _ e = grind arith
 
 -- the order of places cannot tell them apart
 abbrev pub ties : Sites → Sites → Bool
@@ -26,18 +25,14 @@ same_place q p e = slice_cmp-IsAntisymmetric nat_cmp-IsAntisymmetric q p (only_e
 pub ties_itself : (p : Sites) → ties p p ≡ true
 ties_itself p = ap is_eq (tied_itself nat_list_cmp_total p)
 
--- and no other
-other_place : (q p : Sites) (b : Bool) → ties q p ≡ b → (q ≡ p → ⊥) → b ≡ false
-other_place q p true e n = absurd (n (same_place q p e))
-other_place q p false e n = refl
-
 -- what is written is read
 pub get_same : (m : Instant) (p : Sites) (v : Option Value) → map.get (map.insert m p v) p ≡ Some v
 get_same m p v = get-insert nat_list_cmp_total m p v p ∙ ap (λ b. cond b (Some v) (map.get m p)) (ties_itself p)
 
 -- and nothing else is changed
 pub get_other : (m : Instant) (p q : Sites) (v : Option Value) → (q ≡ p → ⊥) → map.get (map.insert m p v) q ≡ map.get m q
-get_other m p q v n = get-insert nat_list_cmp_total m p v q ∙ ap (λ b. cond b (Some v) (map.get m q)) (other_place q p _ refl n)
+get_other m p q v n = get-insert nat_list_cmp_total m p v q
+    ∙ ap (λ b. cond b (Some v) (map.get m q)) (false_from_ne_true (ties q p) (λ e. n (same_place q p e)))
 
 -- false is not true
 pub no_flag : false ≡ true → ⊥
@@ -45,8 +40,5 @@ no_flag e = grind arith
 
 -- two places are equal or not
 pub one_or_other : (q p : Sites) → (q ≡ p) ⊎ (q ≡ p → ⊥)
-one_or_other q p = decided (ties q p) refl
-  where
-    decided : (b : Bool) → ties q p ≡ b → (q ≡ p) ⊎ (q ≡ p → ⊥)
-    decided true e = inl (same_place q p e)
-    decided false e = inr (λ is. let bad : false ≡ true = sym e ∙ ap (λ r. ties r p) is ∙ ties_itself p in no_flag bad)
+one_or_other q p = elim (ties q p) as (λ b. ties q p ≡ b → (q ≡ p) ⊎ (q ≡ p → ⊥))
+    [ true ↦ λ e. inl (same_place q p e) | false ↦ λ e. inr (λ is. no_flag (sym e ∙ ap (λ r. ties r p) is ∙ ties_itself p)) ] refl

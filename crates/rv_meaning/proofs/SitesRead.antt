@@ -1,5 +1,5 @@
 -- The sites that are read by numbers of names are those of the memories.
-use Rattle.std.proofs.Common.{◌≡◌, ℕ, ◌+◌, Bool, true, false, cond, ◌||◌, nat_lt, unwrap_or, List, [], ◌∷◌, length, refl, sym, ◌∙◌, ap, Option, arith}
+use Rattle.std.proofs.Common.{◌≡◌, ℕ, ◌+◌, true, false, cond, ◌||◌, nat_lt, unwrap_or, List, [], ◌∷◌, length, refl, sym, ◌∙◌, ap, Option, arith}
 use Rattle.std.proofs.lemmas.Bool.Decides.{nat_tests}
 use Rattle.rv_tree.specs.Places.{Identifier, flows, is_same, is_among, index_of, memory_site}
 use Rattle.rv_tree.specs.{Tree.Tree, Tree.Node, Tree.Named, Tree.NodeTree, Delays.Delay, Delays.delay_sites}
@@ -8,11 +8,9 @@ use Rattle.rv_meaning.specs.{declared.numbers.Numbers.Numbers, Numbers.AreNumber
 -- a name is among some where its number is one of theirs
 among_by_number : (xs : List Identifier) (x : Identifier) → is_among xs x ≡ nat_lt (index_of xs x) (length xs)
 among_by_number [] x = refl
-among_by_number (y ∷ ys) x = tested (is_same y x) (among_by_number ys x)
-  where
-    tested : (b : Bool) → is_among ys x ≡ nat_lt (index_of ys x) (length ys) → b || is_among ys x ≡ nat_lt (cond b 0 (index_of ys x + 1)) (length (y ∷ ys))
-    tested true e = grind (arith, nat_tests)
-    tested false e = grind (arith, nat_tests)
+among_by_number (y ∷ ys) x = let e = among_by_number ys x in
+    elim (is_same y x) as (λ b. b || is_among ys x ≡ nat_lt (cond b 0 (index_of ys x + 1)) (length (y ∷ ys)))
+    [ true ↦ grind (arith, nat_tests) | false ↦ grind (arith, nat_tests) ]
 
 module _ (n : NodeTree) (m : Numbers) (are : AreNumbers (flows n) m) where
   -- the site of one memory

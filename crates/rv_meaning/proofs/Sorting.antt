@@ -66,10 +66,7 @@ same_places q r e = ap (λ (s : Sites). record { sites = s }) (same_text q.sites
 place_equivalence : IsEquivalence same
 place_equivalence = on_equiv (λ (q : Place). q.sites) nat_list_eq_equiv
 
--- what is in a list has its sites among those of the list, and nothing else
-sites_in : (qs : List Place) (r : Sites) → Contains (sites_of qs) r → (q : Place) × Contains qs q × (q.sites ≡ r)
-sites_in qs r w = from_map (λ (q : Place). q.sites) qs r w
-
+-- what is in a list has its sites among those of the list
 in_sites : (qs : List Place) (q : Place) (r : Sites) → Contains qs q → q.sites ≡ r → Contains (sites_of qs) r
 in_sites qs q r w e = subst (λ (s : Sites). Contains (sites_of qs) s) e (in_map (λ (q : Place). q.sites) qs q w)
 
@@ -79,11 +76,11 @@ pub are_sorted : (places given up kept : List Place) → given ≡ places → Is
 are_sorted places given up kept is moved rises once = record {
   rising = subst (λ (l : List Place). AreRising (sites_of l)) (sym once) (rising (dedup same up) (IsStrictlySortedBy-dedup order_total place_ties up rises));
   all = λ r w.
-      let v = sites_in places r w in
+      let v = from_map (λ (q : Place). q.sites) places r w in
       let there = Contains-permutation given up v.0 moved (subst (λ (l : List Place). Contains l v.0) (sym is) v.1) in
       in_sites kept v.0 r (subst (λ (l : List Place). Contains l v.0) (sym once) (Contains-dedup place_equivalence same_places up v.0 there)) v.2;
   only = λ r w.
-      let v = sites_in kept r w in
+      let v = from_map (λ (q : Place). q.sites) kept r w in
       let there = Contains-from_dedup same up v.0 (subst (λ (l : List Place). Contains l v.0) once v.1) in
       in_sites places v.0 r (subst (λ (l : List Place). Contains l v.0) is (Contains-permutation up given v.0 (IsPermutation-sym given up moved) there)) v.2;
 }

@@ -8,15 +8,12 @@ use Rattle.rv_types.specs.{declared.typed.Clock.TheVariants.Base, Instances.abso
 use Rattle.rv_meaning.specs.{Meaning.is_there, Meaning.was_there, Runs.History, Runs.cells, Runs.AreStarts, Runs.AreInputs, Runs.IsRun, Instants.State}
 use Rattle.rv_meaning.specs.{Instants.IsInstant, Instants.IsNext, Instants.IsStart, Following.IsStateAt, Following.AreSteps}
 use Rattle.rv_meaning.proofs.Following.{followed, value_followed, right_followed}
-use Rattle.rv_meaning.proofs.{OneInstant.on_there, DelayParts.of_argument, DelayParts.of_delay}
+use Rattle.rv_meaning.proofs.{OneInstant.on_there, Standing.argument_stands, Standing.operand_stands}
 
 module _ (program : ProgramTree) (main : Identifier) (starts : Sites → Value) (h : History) where
   -- the state at the first instant is the start
   pub start_state : (state : State) → IsStateAt program main starts (cells h) 0 state ↔ IsStart program main starts state
-  start_state state = (
-    λ f. record { ticks = f.ticks; memories = f.memories },
-    λ s. record { ticks = s.ticks; memories = s.memories },
-  )
+  start_state state = (λ f. record { ticks = f.ticks; memories = f.memories }, λ s. record { ticks = s.ticks; memories = s.memories })
 
   module _ (t : ℕ) (state next : State) where
     -- of the states at an instant and at the one after it, the second is the next of the first
@@ -26,7 +23,7 @@ module _ (program : ProgramTree) (main : Identifier) (starts : Sites → Value) 
       ticks = λ k. g.ticks k ∙ or_comm (is_there (cells h) k t) (was_there (cells h) k t) ∙ (λ j. sym (f.ticks k) j || on_there h t k j);
       memories = λ i d inst at.
           let mine = sym (f.memories i d inst at) in
-          let is = followed program starts state h t f.ticks i d.operand (λ e inner. f.memories i e inst (of_delay d e inner i.node at)) in
+          let is = followed program starts state h t f.ticks i d.operand (λ e inner. f.memories i e inst ((operand_stands i.node d at).delays e inner)) in
           g.memories i d inst at ∙ (λ j. cond (on_there h t (clock_in i Base d.operand) j) (is j) (mine j));
     }
 
@@ -41,7 +38,7 @@ module _ (program : ProgramTree) (main : Identifier) (starts : Sites → Value) 
     state_after f g = record {
       ticks = λ k. g.ticks k ∙ (λ j. f.ticks k j || sym (on_there h t k) j) ∙ or_comm (was_there (cells h) k t) (is_there (cells h) k t);
       memories = λ i d inst at.
-          let is = followed program starts state h t f.ticks i d.operand (λ e inner. f.memories i e inst (of_delay d e inner i.node at)) in
+          let is = followed program starts state h t f.ticks i d.operand (λ e inner. f.memories i e inst ((operand_stands i.node d at).delays e inner)) in
           g.memories i d inst at ∙ (λ j. cond (sym (on_there h t (clock_in i Base d.operand)) j) (sym is j) (f.memories i d inst at j));
     }
 
@@ -62,11 +59,10 @@ module _ (program : ProgramTree) (main : Identifier) (starts : Sites → Value) 
     arguments = λ t i c j e lt inst at arg. let f = at_states t lt in
         (at_rows t lt).arguments i c j e inst at arg
         ∙ sym (value_followed program starts (states t) rows t f.ticks i (clock_of_arguments i c.args) e
-        (λ d inner. f.memories i d inst (of_argument c j e d arg inner i.node at)));
+        (λ d inner. f.memories i d inst ((argument_stands i.node c j e at arg).delays d inner)));
     clocks = λ t i x lt inst at.
         let there = (at_rows t lt).clocks i x inst at in
-        let on = on_there rows t (absolute i (clock_of i.node x)) in
-        (λ some. on ∙ there.0 some, λ yes. there.1 (sym on ∙ yes));
+        let on = on_there rows t (absolute i (clock_of i.node x)) in (λ some. on ∙ there.0 some, λ yes. there.1 (sym on ∙ yes));
   }
 
   -- steps have the states of their history, that after the last row too

@@ -1,9 +1,9 @@
 -- Where the memories and inputs of an instant have values of their types, so have its flows, and so have the memories after
 -- it.
-use Rattle.std.proofs.Common.{◌≡◌, ℕ, zero, suc, ◌<◌, ◌≤◌, ◌⊎◌, Bool, unwrap_or, List, [], ◌∷◌, length, get_or, refl, sym, ◌∙◌, ap, subst, inl, inr, arith}
-use Rattle.std.proofs.Common.{Option, Some, IsSome, slice_get, None as Nothing}
-use Rattle.std.proofs.{lemmas.Bool.cases_lt, lemmas.List.append_assoc, lemmas.List.length-map, lemmas.List.get_or_default, lemmas.List.Elements.All-weaker}
-use Rattle.std.proofs.{lemmas.Option.same_Some, lemmas.Option.cond_some, lemmas.Option.slice_get-get_or}
+use Rattle.std.proofs.Common.{◌≡◌, ℕ, ◌<◌, Bool, unwrap_or, List, [], ◌∷◌, length, get_or, refl, sym, ◌∙◌, ap, subst, inl, inr, arith, Option, Some, IsSome}
+use Rattle.std.proofs.Common.{slice_get, None as Nothing}
+use Rattle.std.proofs.{lemmas.List.append_assoc, lemmas.List.length-map, lemmas.List.get_or_default, lemmas.List.Elements.All-weaker, lemmas.Option.same_Some}
+use Rattle.std.proofs.{lemmas.Option.cond_some, lemmas.Option.slice_get-get_or}
 use Rattle.std.specs.List.{All, Contains}
 use Rattle.rv_base.specs.declared.value.Value.{Value}
 use Rattle.rv_tree.specs.{Tree.ProgramTree, Places.Identifier, Places.Sites, Places.flows, Places.site_of, Delays.Delay, Delays.node_delays}
@@ -14,14 +14,15 @@ use Rattle.rv_types.specs.{declared.typed.Kind.Kind, declared.typed.Clock.TheVar
 use Rattle.rv_types.specs.{Kinds.flow_kind, Types.kind_of, Scopes.node_scope, Values.HasKind, Values.operand_kind, WellFormed.Suits, WellFormed.AreWell}
 use Rattle.rv_types.specs.declared.typed.Kind.TheVariants as kind
 use Rattle.rv_meaning.specs.Instants.{State, is_on_in, now, IsInstant, IsNext, AreGiven}
-use Rattle.rv_meaning.specs.{Meaning.held, Meaning.kept_place, Runs.Instant, Runs.cell, Runs.AreStarts, Following.IsTypedInstant}
+use Rattle.rv_meaning.specs.{Meaning.kept_place, Runs.Instant, Runs.cell, Runs.AreStarts, Following.IsTypedInstant}
 use Rattle.rv_meaning.proofs.Standing.{body_stands, output_call, argument_stands, operand_stands}
-use Rattle.rv_meaning.proofs.TypedTrees.{TypedAt, output_typed, current_typed, tree_typed, value_typed}
-use Rattle.rv_meaning.proofs.{Rows.no_flag, Acceptable.formed, Acceptable.typed, FlowSites.input_within, FlowSites.input_kind}
+use Rattle.rv_meaning.proofs.TypedTrees.{TypedAt, output_typed, tree_typed, value_typed}
+use Rattle.rv_meaning.proofs.{Below.each_below, TypedOperators.chosen, Rows.no_flag, Acceptable.formed, Acceptable.typed, FlowSites.input_within}
+use Rattle.rv_meaning.proofs.FlowSites.{input_kind}
 use Rattle.rv_base.proofs.Lists.{all_right}
 
 -- a type that is there
-some_kind : (o : Option Kind) → IsSome o → o ≡ Some (unwrap_or o kind.Bool)
+pub some_kind : (o : Option Kind) → IsSome o → o ≡ Some (unwrap_or o kind.Bool)
 some_kind Nothing h = absurd (no_flag h)
 some_kind (Some k) h = refl
 
@@ -29,16 +30,13 @@ some_kind (Some k) h = refl
 some_input : (program : ProgramTree) (main : Identifier) (j : ℕ) → j < length (node_of program main).inputs
     → (k : Kind) × (slice_get (decl_kinds program (node_of program main).inputs) j ≡ Some k)
 some_input program main j lt =
-    let long : length (decl_kinds program (node_of program main).inputs) ≡ length (node_of program main).inputs = length-map (node_of program main).inputs
-    (λ d. kind_in_program program d.kind) in (
-      get_or (decl_kinds program (node_of program main).inputs) j kind.Bool,
-      slice_get-get_or (decl_kinds program (node_of program main).inputs) j kind.Bool
-          (omega arith),
-    )
+    let kinds = decl_kinds program (node_of program main).inputs in
+    let many = length-map (node_of program main).inputs (λ d. kind_in_program program d.kind) in
+    (get_or kinds j kind.Bool, slice_get-get_or kinds j kind.Bool (omega (arith, lt, many)))
 
 module _ (program : ProgramTree) (main : Identifier) (well : AreWell program) (is_node : IsNode program main) (state : State) (inputs : ℕ → Value)
-    (row : Instant)
-    (starts : AreStarts program main state.kept) (given : AreGiven program main inputs) (instant : IsInstant program main state inputs row) where
+    (row : Instant) (starts : AreStarts program main state.kept) (given : AreGiven program main inputs)
+    (instant : IsInstant program main state inputs row) where
   module _ (sequence : List Sites) (ordered : IsSequence program main sequence) where
     module _ (n : ℕ) (lt : n < length sequence) (earlier : (j : ℕ) → j < n → TypedAt program main row (get_or sequence j [])) where
       -- what a giver of this flow needs is known
@@ -53,11 +51,11 @@ module _ (program : ProgramTree) (main : Identifier) (well : AreWell program) (i
           → get_or sequence n [] ≡ place i x
           → flow_kind program i.node x ≡ Some k → cell row (place i x) ≡ Some v → HasKind program k v
       by_input _ is_main x k v within is e has =
-          let own = some_input program main (site_of (node_of program main) x) within in
-          let same : own.0 ≡ k = same_Some own.0 k (sym (input_kind program (node_of program main) (site_of (node_of program main) x) own.0 own.1) ∙ e) in
-          let value : inputs (site_of (node_of program main) x) ≡ v = same_Some _ v (sym (instant.given (site_of (node_of program main) x) within) ∙ has) in
-          subst (HasKind program k) value (subst (λ k. HasKind program k (inputs (site_of (node_of program main) x))) same
-          (given (site_of (node_of program main) x) own.0 own.1))
+          let s : ℕ = site_of (node_of program main) x in
+          let own = some_input program main s within in
+          let same : own.0 ≡ k = same_Some own.0 k (sym (input_kind program (node_of program main) s own.0 own.1) ∙ e) in
+          let value : inputs s ≡ v = same_Some _ v (sym (instant.given s within) ∙ has) in
+          subst (HasKind program k) value (subst (λ k. HasKind program k (inputs s)) same (given s own.0 own.1))
       by_input _ (is_callee {i = i} c inst at) x k v within is e has =
           let d : Instance = callee program i c in
           let s : ℕ = site_of d.node x in
@@ -84,13 +82,12 @@ module _ (program : ProgramTree) (main : Identifier) (well : AreWell program) (i
       by_right i inst x (Output c j) right k v is kinds has =
           let types = (typed program main well is_node i inst).output x c j right in
           let same : types.0 ≡ k = same_Some types.0 k (sym types.2 ∙ kinds) in
-          let there = cond_some (is_on_in row (absolute i (clock_of_arguments i c.args))) (held (cell row (output_place program i c.site c.name j))) v
-          (sym (instant.equations i x (Output c j) inst right) ∙ has) in
+          let clock = absolute i (clock_of_arguments i c.args) in
+          let there = cond_some (is_on_in row clock) _ v (sym (instant.equations i x (Output c j) inst right) ∙ has) in
           let known = needed (Of i (clock_of i.node x) (Output c j)) (by_equation i x (Output c j) inst right (sym is)) in
           subst (HasKind program k) there.1
           (output_typed program main well is_node row instant.clocks i inst c j k (output_call i.node x c j right) (types.1 ∙ ap Some same) there.0
-          (all_right (TypedAt program main row) (flow_of (absolute i (clock_of_arguments i c.args))) (output_place program i c.site c.name j ∷ []) known 0
-          (output_place program i c.site c.name j) (omega arith)))
+          (all_right (TypedAt program main row) (flow_of clock) _ known 0 (output_place program i c.site c.name j) (omega arith)))
 
       -- the flow has a value of its type
       flow_typed : TypedAt program main row (get_or sequence n [])
@@ -101,22 +98,13 @@ module _ (program : ProgramTree) (main : Identifier) (well : AreWell program) (i
             | inr right ↦ by_right i inst x right.0 right.1 k v is e here
           ]
 
-    -- so have all before a number
-    all_before : (n : ℕ) → n ≤ length sequence → (j : ℕ) → j < n → TypedAt program main row (get_or sequence j [])
-    all_before zero le j lt = absurd (omega arith)
-    all_before (suc n) le j lt = by_order (cases_lt j n) (all_before n (omega arith))
-      where
-        by_order : (j < n) ⊎ (n ≤ j) → ((j : ℕ) → j < n → TypedAt program main row (get_or sequence j [])) → TypedAt program main row (get_or sequence j [])
-        by_order (inl below) before = before j below
-        by_order (inr above) before = let same : n ≡ j = omega arith in
-            subst (λ j. TypedAt program main row (get_or sequence j [])) same (flow_typed n (omega arith) before)
-
     -- the flow at each place
     pub place_typed : (p : Sites) → TypedAt program main row p
     place_typed p i x k v inst w is e has =
         let at = ordered.flows p (i, x, inst, w, is) in
         let here : get_or sequence at.0 [] ≡ p = get_or_default sequence at.0 [] p at.1 ∙ at.2 in
-        subst (TypedAt program main row) here (all_before (length sequence) (omega arith) at.0 at.1) i x k v inst w is e has
+        subst (TypedAt program main row) here
+        (each_below (λ j. TypedAt program main row (get_or sequence j [])) (length sequence) flow_typed at.0 at.1) i x k v inst w is e has
 
     -- each flow that is there has a value of its type
     pub typed_instant : IsTypedInstant program main row
@@ -129,8 +117,7 @@ module _ (program : ProgramTree) (main : Identifier) (well : AreWell program) (i
     typed_next suits next after i d inst w =
         let k : Kind = operand_kind program i.node d.operand in
         subst (HasKind program k) (sym (after.memories i d inst w))
-        (current_typed program main well is_node row instant.clocks state starts i inst (is_on_in row (clock_in i Base d.operand)) k
-        (now program state row i d.operand) (state.kept (kept_place i d.site d.operand))
+        (chosen program (is_on_in row (clock_in i Base d.operand)) k (now program state row i d.operand) (state.kept (kept_place i d.site d.operand))
         (λ there. tree_typed program main well is_node row instant.clocks state starts i inst (clock_taken i Base d.operand) d.operand k
         (operand_stands i.node d w) (suits i d inst w) there
         (λ j p lt. place_typed (get_or (needs program i (clock_taken i Base d.operand) d.operand) j p))

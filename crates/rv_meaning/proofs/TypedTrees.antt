@@ -1,30 +1,31 @@
 -- What an expression of an instance has in a row has its type, where its clock is there and the flows that it needs have
 -- theirs.
-use Rattle.std.proofs.Common.{◌≡◌, ℕ, ◌+◌, ◌<◌, ◌↔◌, pos, Bool, true, false, not, ◌||◌, cond, unwrap_or, List, [], ◌∷◌, ◌++◌, refl, sym, ◌∙◌, ap, subst, arith}
+use Rattle.std.proofs.Common.{◌≡◌, ℕ, ◌+◌, ◌<◌, ◌↔◌, pos, Bool, true, false, ◌||◌, cond, unwrap_or, List, [], ◌∷◌, ◌++◌, refl, sym, ◌∙◌, ap, subst, arith}
 use Rattle.std.proofs.Common.{Option, Some, IsSome, slice_get, length, None as Nothing}
 use Rattle.std.proofs.lemmas.List.{append_assoc, length-map}
 use Rattle.std.proofs.lemmas.Option.{none-some, same_Some, cond_some, slice_get_within}
 use Rattle.std.specs.{List.All, List.Contains, Option.option_map}
 use Rattle.rv_base.specs.{declared.value.Value.Value, declared.value.Value.TheVariants.Flag, declared.value.Value.TheVariants.Whole}
-use Rattle.rv_tree.specs.Tree.{Tree, Node, Form, True, False, Number, Named, Not, Minus, Pre, Current, When, Binary, If, AtMostOne, Call, ProgramTree}
+use Rattle.rv_tree.specs.Tree.{Tree, Node, Form, True, False, Number, Named, Not, Minus, Pre, Current, When, Binary, If, AtMostOne, Call, NodeTree, ProgramTree}
 use Rattle.rv_tree.specs.{Places.Identifier, Places.Sites, Places.flows, Places.is_flow, Places.site_of, Delays.node_delays}
 use Rattle.rv_types.specs.Clocks.{pace, pace_of_all, seen, meet, form_pace, clock_at}
-use Rattle.rv_types.specs.Types.{kind_in, same_kind, one_of, where_met, memory_rule, not_rule, minus_rule, when_rule, if_rule, binary_rule, all_typed, all_suit}
-use Rattle.rv_types.specs.Types.{fit, sole, call_of, is_constant, form_verdict, kinds_of_all, kind_of}
+use Rattle.rv_types.specs.Types.{kind_in, one_of, binary_rule}
+use Rattle.rv_types.specs.Types.{Signature, call_of, is_constant, form_verdict, kinds_of_all, kind_of}
 use Rattle.rv_types.specs.Scopes.{constant_kind, constant_value, signature_of, signature_named, node_scope}
 use Rattle.rv_types.specs.Instances.{CallTree, calls, clock_of, clock_taken, clock_in, clock_of_arguments, Instance, place, absolute, no_node, node_of, callee}
 use Rattle.rv_types.specs.Instances.{IsInstance, is_callee, output_place, IsNode}
 use Rattle.rv_types.specs.{declared.typed.Kind.Kind, declared.typed.Clock.Clock, declared.typed.Clock.TheVariants.Base, declared.fault.Pace.TheVariants.Free}
-use Rattle.rv_types.specs.{declared.fault.Pace.TheVariants.At, declared.fault.Verdict.TheVariants.Has, declared.fault.Verdict.TheVariants.Silent}
-use Rattle.rv_types.specs.{declared.fault.Verdict.TheVariants.Clashes, Kinds.kind_in_program, Kinds.decl_kinds, Kinds.flow_kind, Kinds.node_named}
+use Rattle.rv_types.specs.{declared.fault.Pace.TheVariants.At, declared.fault.Verdict.TheVariants.Has}
+use Rattle.rv_types.specs.{Kinds.kind_in_program, Kinds.decl_kinds, Kinds.flow_kind, Kinds.node_named}
 use Rattle.rv_types.specs.{Values.HasKind, Values.operand_kind, Needs.flow_of, Needs.needs, Needs.form_needs, WellFormed.Suits, WellFormed.AreWell}
 use Rattle.rv_types.specs.declared.typed.Kind.TheVariants as kind
 use Rattle.rv_meaning.specs.Instants.{State, is_on_in, now, form_now, value_now}
 use Rattle.rv_meaning.specs.{Meaning.is_true, Meaning.held, Meaning.is_on, Meaning.kept_place, Runs.Instant, Runs.cell, Runs.AreStarts}
-use Rattle.rv_meaning.proofs.Suiting.{suits_both, suits_parts, ground_taken, taken_suits, suits_operands, suits_current, suits_when}
-use Rattle.rv_meaning.proofs.TypedOperators.{met_kind, one_kind, two_kinds, three_kinds, flag_typed, whole_typed, operator_typed, if_typed}
+use Rattle.rv_types.proofs.Suiting.{suits_both, suits_parts, ground_taken, taken_suits, suits_operands, suits_current, suits_when}
+use Rattle.rv_meaning.proofs.TypedOperators.{chosen, retyped, operator_typed}
+use Rattle.rv_types.proofs.Verdicts.{two_kinds, named_kind, suited_kind, memory_kind, when_kind, if_kinds, most_kind, Called, call_kind}
 use Rattle.rv_meaning.proofs.Standing.{Stands, pre_operand, current_operand, when_operand, left_operand, right_operand, then_part, else_part, own_call}
-use Rattle.rv_meaning.proofs.{Rows.no_flag, FlowSites.flow_there, FlowSites.output_base, FlowSites.output_kind, FlowSites.FlowAt, FlowSites.flow_at}
+use Rattle.rv_meaning.proofs.{Rows.no_flag, FlowSites.flow_there, FlowSites.output_base, FlowSites.output_kind, FlowSites.flow_at}
 use Rattle.rv_base.proofs.Lists.{all_left, all_right}
 
 -- a flow that is there has the value that it holds
@@ -37,29 +38,15 @@ on_some : (o : Option Value) → is_on o ≡ true → IsSome o
 on_some Nothing h = absurd (no_flag h)
 on_some (Some v) h = refl
 
--- what has a type by the rule of all operands is Boolean
-pub all_kind : (typed met : Bool) (k : Kind) → kind_in (cond typed (where_met met kind.Bool) Silent) ≡ Some k → kind.Bool ≡ k
-all_kind true met k e = (met_kind met kind.Bool k e).1
-all_kind false met k e = absurd (none-some k e)
-
--- a call that has a type has one output, of that type
-pub sole_output : (typed fits : Bool) (gives : List Kind) (k : Kind) → kind_in (cond typed (cond fits (sole gives) Clashes) Silent) ≡ Some k
-    → slice_get gives 0 ≡ Some k
-sole_output true true [] k e = absurd (none-some k e)
-sole_output true true (j ∷ []) k e = e
-sole_output true true (j ∷ i ∷ ks) k e = absurd (none-some k e)
-sole_output true false gives k e = absurd (none-some k e)
-sole_output false fits gives k e = absurd (none-some k e)
-
 -- the type of a call is that of the first output of its node
-pub call_kind : (program : ProgramTree) (f : Identifier) (ks : List (Option Kind)) (k : Kind) → kind_in (call_of true (signature_named program f) ks) ≡ Some k
+called_kind : (program : ProgramTree) (f : Identifier) (ks : List (Option Kind)) (k : Kind) → kind_in (call_of true (signature_named program f) ks) ≡ Some k
     → slice_get (decl_kinds program (node_of program f).outputs) 0 ≡ Some k
-call_kind program f ks k e = elim (node_named program f)
-    as (λ m. kind_in (call_of true (option_map (signature_of program) m) ks) ≡ Some k
-    → slice_get (decl_kinds program (unwrap_or m no_node).outputs) 0 ≡ Some k) [
-      | Nothing ↦ λ e. absurd (none-some k e)
-      | Some m ↦ λ e. sole_output (all_typed ks) (fit (decl_kinds program m.inputs) ks) (decl_kinds program m.outputs) k e
-    ] e
+called_kind program f ks k e = named (node_named program f) (call_kind true (signature_named program f) ks k e).1
+  where
+    named : (m : Option NodeTree) → Called (option_map (signature_of program) m) ks k → slice_get (decl_kinds program (unwrap_or m no_node).outputs) 0 ≡ Some k
+    named Nothing c = absurd (none-some c.signature c.known)
+    named (Some m) c = ap (λ (g : Signature). slice_get g.gives 0) (same_Some (signature_of program m) c.signature c.known)
+        ∙ ap (λ (l : List Kind). slice_get l 0) c.gives
 
 module _ (program : ProgramTree) (main : Identifier) (row : Instant) where
   -- what the flow at a place has is of its type
@@ -86,21 +73,14 @@ module _ (program : ProgramTree) (main : Identifier) (well : AreWell program) (i
       → slice_get (decl_kinds program (node_of program c.name).outputs) j ≡ Some k
       → is_on_in row (absolute i (clock_of_arguments i c.args)) ≡ true → TypedAt program main row (output_place program i c.site c.name j)
       → HasKind program k (held (cell row (output_place program i c.site c.name j)))
-  output_typed i inst c j k w e on known = of_flow (flow_at program main well is_node d (is_callee c inst w) (length d.node.inputs + j) k
-      (output_kind program d.node j k e))
-    where
-      d : Instance
-      d = callee program i c
-
-      lt : j < length d.node.outputs
-      lt = let below = slice_get_within (decl_kinds program d.node.outputs) j k e in
-          omega (arith, length-map d.node.outputs (λ d. kind_in_program program d.kind))
-
-      of_flow : FlowAt program d.node (length d.node.inputs + j) k → HasKind program k (held (cell row (output_place program i c.site c.name j)))
-      of_flow f =
-          flow_typed program main row clocked d f.name k (output_place program i c.site c.name j) (is_callee c inst w) f.within
-          (sym (append_assoc i.path (c.site ∷ []) (site_of d.node f.name ∷ []) ∙ ap (λ s. i.path ++ c.site ∷ s ∷ []) f.site)) f.kind
-          (ap (λ c. is_on_in row (absolute d c)) (ap (clock_at d.node) f.site ∙ output_base d.node j lt) ∙ on) known
+  output_typed i inst c j k w e on known =
+      let d : Instance = callee program i c in
+      let below = slice_get_within (decl_kinds program d.node.outputs) j k e in
+      let lt : j < length d.node.outputs = omega (arith, below, length-map d.node.outputs (λ d. kind_in_program program d.kind)) in
+      let f = flow_at program main well is_node d (is_callee c inst w) (length d.node.inputs + j) k (output_kind program d.node j k e) in
+      flow_typed program main row clocked d f.name k (output_place program i c.site c.name j) (is_callee c inst w) f.within
+      (sym (append_assoc i.path (c.site ∷ []) (site_of d.node f.name ∷ []) ∙ ap (λ s. i.path ++ c.site ∷ s ∷ []) f.site)) f.kind
+      (ap (λ c. is_on_in row (absolute d c)) (ap (clock_at d.node) f.site ∙ output_base d.node j lt) ∙ on) known
 
   module _ (state : State) (starts : AreStarts program main state.kept) (i : Instance) (inst : IsInstance program main i) where
     -- what it has is of this type
@@ -125,18 +105,10 @@ module _ (program : ProgramTree) (main : Identifier) (well : AreWell program) (i
         → Suits c (cond b (At (clock_of i.node x)) Free) → is_on_in row (absolute i c) ≡ true → AreKnown (cond b (place i x ∷ []) [])
         → HasKind program k (cond b (held (cell row (place i x))) (constant_value program x))
     named_typed c x k true is s on known =
-        let h = one_kind Has (flow_kind program i.node x) k is in
-        let e : flow_kind program i.node x ≡ Some k = h.1 ∙ h.2 in
+        let e = named_kind (flow_kind program i.node x) k is in
         flow_typed program main row clocked i x k (place i x) inst (flow_there program i.node x k e) refl e
         (ap (λ c. is_on_in row (absolute i c)) s ∙ on) (known 0 (place i x) (omega arith))
-    named_typed c x k false is s on known =
-        let h = one_kind Has (constant_kind program x) k is in
-        well.values x k (h.1 ∙ h.2)
-
-    -- a `current` has its operand where that is there, and its memory elsewhere
-    pub current_typed : (b : Bool) (k : Kind) (v w : Value) → (b ≡ true → HasKind program k v) → HasKind program k w → HasKind program k (cond b v w)
-    current_typed true k v w p q = p refl
-    current_typed false k v w p q = q
+    named_typed c x k false is s on known = well.values x k (named_kind (constant_kind program x) k is)
 
     mutual
       -- an expression on a clock that is there
@@ -150,59 +122,49 @@ module _ (program : ProgramTree) (main : Identifier) (well : AreWell program) (i
           → is_on_in row (absolute i c) ≡ true
           → AreKnown (form_needs program i c site form) → kind_in (form_verdict (node_scope program i.node) form) ≡ Some k
           → HasKind program k (form_now program state row i site form)
-      form_typed c at site True k stands s on known is = flag_typed program k (Flag true) tt (same_Some kind.Bool k is)
-      form_typed c at site False k stands s on known is = flag_typed program k (Flag false) tt (same_Some kind.Bool k is)
-      form_typed c at site (Number n) k stands s on known is = whole_typed program k (Whole (pos n)) tt (same_Some kind.Int k is)
+      form_typed c at site True k stands s on known is = retyped program (Flag true) (same_Some kind.Bool k is) tt
+      form_typed c at site False k stands s on known is = retyped program (Flag false) (same_Some kind.Bool k is) tt
+      form_typed c at site (Number n) k stands s on known is = retyped program (Whole (pos n)) (same_Some kind.Int k is) tt
       form_typed c at site (Named x) k stands s on known is = named_typed c x k (is_flow i.node x) is s on known
       form_typed c at site (Not e) k stands s on known is =
-          let h = one_kind not_rule (kind_of (node_scope program i.node) e) k is in
-          flag_typed program k _ tt (met_kind (same_kind h.0 kind.Bool) kind.Bool k h.2).1
+          retyped program _ (suited_kind kind.Bool (kind_of (node_scope program i.node) e) k is).1 tt
       form_typed c at site (Minus e) k stands s on known is =
-          let h = one_kind minus_rule (kind_of (node_scope program i.node) e) k is in
-          whole_typed program k _ tt (met_kind (same_kind h.0 kind.Int) kind.Int k h.2).1
+          retyped program _ (suited_kind kind.Int (kind_of (node_scope program i.node) e) k is).1 tt
       form_typed c at site (Pre e) k stands s on known is =
-          let h = one_kind (memory_rule true) (kind_of (node_scope program i.node) e) k is in
-          memory_typed site e k (pre_operand i.node at site e stands) (h.1 ∙ h.2)
+          memory_typed site e k (pre_operand i.node at site e stands) (memory_kind true (kind_of (node_scope program i.node) e) k is).1
       form_typed c at site (Current e) k stands s on known is =
-          let h = one_kind (memory_rule true) (kind_of (node_scope program i.node) e) k is in
+          let h = (memory_kind true (kind_of (node_scope program i.node) e) k is).1 in
           let parts = current_operand i.node at site e stands in
-          current_typed (is_on_in row (clock_in i Base e)) k (now program state row i e) (state.kept (kept_place i site e))
-          (λ there. tree_typed (clock_taken i Base e) e k parts.1 (suits_current i.node c (pace i.node e) s) there known (h.1 ∙ h.2))
-          (memory_typed site e k parts.0 (h.1 ∙ h.2))
+          chosen program (is_on_in row (clock_in i Base e)) k (now program state row i e) (state.kept (kept_place i site e))
+          (λ there. tree_typed (clock_taken i Base e) e k parts.1 (suits_current i.node c (pace i.node e) s) there known h)
+          (memory_typed site e k parts.0 h)
       form_typed c at site (When e x) k stands s on known is =
-          let h = two_kinds when_rule (kind_of (node_scope program i.node) e) (flow_kind program i.node x.text) k is in
+          let h = when_kind true (kind_of (node_scope program i.node) e) (flow_kind program i.node x.text) k is in
           let clocks = suits_when i.node c (pace i.node e) (site_of i.node x.text) s in
           let on_it : is_on (cell row (place i x.text)) ≡ true = ap (λ c. is_on_in row (absolute i c)) clocks.1 ∙ on in
-          let there = (clocked i x.text inst (flow_there program i.node x.text h.1 h.3)).0 (on_some (cell row (place i x.text)) on_it) in
-          tree_typed (clock_of i.node x.text) e k (when_operand i.node at site e x stands) clocks.0 there known
-          (h.2 ∙ ap Some (met_kind (same_kind h.1 kind.Bool) h.0 k h.4).1)
+          let there = (clocked i x.text inst (flow_there program i.node x.text kind.Bool h.2)).0 (on_some (cell row (place i x.text)) on_it) in
+          tree_typed (clock_of i.node x.text) e k (when_operand i.node at site e x stands) clocks.0 there known h.1
       form_typed c at site (Binary o a b) k stands s on known is =
           let scaled = is_constant (node_scope program i.node) a || is_constant (node_scope program i.node) b in
-          let h = two_kinds (binary_rule true scaled o) (kind_of (node_scope program i.node) a) (kind_of (node_scope program i.node) b) k is in
+          let h = two_kinds (binary_rule true scaled o) _ _ k is in
           let clocks = suits_operands c o (pace i.node a) (pace i.node b) s in
-          operator_typed program scaled (not (state.ticked (clock_in i Base (Node 0 site (Binary o a b))))) o h.0 h.1 k (now program state row i a)
-          (now program state row i b) h.4
-          (tree_typed c a h.0 (left_operand i.node at site o a b stands) clocks.0 on
-          (all_left (TypedAt program main row) (needs program i c a) (needs program i c b) known) h.2)
-          (tree_typed c b h.1 (right_operand i.node at site o a b stands) clocks.1 on
-          (all_right (TypedAt program main row) (needs program i c a) (needs program i c b) known) h.3)
+          operator_typed program scaled _ o h.0 h.1 k _ _ h.4
+          (tree_typed c a h.0 (left_operand i.node at site o a b stands) clocks.0 on (all_left (TypedAt program main row) (needs program i c a) _ known) h.2)
+          (tree_typed c b h.1 (right_operand i.node at site o a b stands) clocks.1 on (all_right (TypedAt program main row) (needs program i c a) _ known) h.3)
       form_typed c at site (If a b d) k stands s on known is =
-          let h = three_kinds if_rule (kind_of (node_scope program i.node) a) (kind_of (node_scope program i.node) b) (kind_of (node_scope program i.node) d) k
-          is in
-          let clocks = suits_parts c (pace i.node b) (pace i.node d) (suits_both c (seen (pace i.node a)) (meet (seen (pace i.node b)) (seen (pace i.node d)))
-          s).1 in
+          let kinds = kind_of (node_scope program i.node) in
+          let h = if_kinds (kinds a) (kinds b) (kinds d) k is in
+          let outer = suits_both c (seen (pace i.node a)) (meet (seen (pace i.node b)) (seen (pace i.node d))) s in
+          let clocks = suits_parts c (pace i.node b) (pace i.node d) outer.1 in
           let later = all_right (TypedAt program main row) (needs program i c a) (needs program i c b ++ needs program i c d) known in
-          if_typed program (is_true (now program state row i a)) h.0 h.1 h.2 k (now program state row i b) (now program state row i d) h.6
-          (tree_typed c b h.1 (then_part i.node at site a b d stands) clocks.0 on
-          (all_left (TypedAt program main row) (needs program i c b) (needs program i c d) later) h.4)
-          (tree_typed c d h.2 (else_part i.node at site a b d stands) clocks.1 on
-          (all_right (TypedAt program main row) (needs program i c b) (needs program i c d) later) h.5)
+          chosen program (is_true (now program state row i a)) k (now program state row i b) (now program state row i d)
+          (λ _. tree_typed c b k (then_part i.node at site a b d stands) clocks.0 on (all_left (TypedAt program main row) (needs program i c b) _ later) h.1)
+          (tree_typed c d k (else_part i.node at site a b d stands) clocks.1 on (all_right (TypedAt program main row) (needs program i c b) _ later) h.2)
       form_typed c at site (AtMostOne es) k stands s on known is =
-          flag_typed program k _ tt (all_kind (all_typed (kinds_of_all (node_scope program i.node) es))
-          (all_suit kind.Bool (kinds_of_all (node_scope program i.node) es)) k is)
+          retyped program _ (most_kind (kinds_of_all (node_scope program i.node) es) k is).2 tt
       form_typed c at site (Call f args) k stands s on known is =
           let own : CallTree = record { at = at; site = unwrap_or site 0; name = f; args = args } in
-          output_typed i inst own 0 k (own_call i.node at site f args stands) (call_kind program f (kinds_of_all (node_scope program i.node) args) k is)
+          output_typed i inst own 0 k (own_call i.node at site f args stands) (called_kind program f (kinds_of_all (node_scope program i.node) args) k is)
           (ap (λ c. is_on_in row (absolute i c)) (ground_taken c (pace_of_all i.node args) s) ∙ on)
           (known 0 (output_place program i (unwrap_or site 0) f 0) (omega arith))
 

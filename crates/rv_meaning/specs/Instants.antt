@@ -13,8 +13,7 @@ use Rattle.rv_types.specs.Instances.{CallTree, Right, Body, Output, IsRight, IsA
 use Rattle.rv_types.specs.Instances.{clock_of_arguments, output_place, node_of, IsInstance, IsFlow}
 use Rattle.rv_types.specs.{declared.typed.Kind.Kind, declared.typed.Clock.Clock, declared.typed.Clock.TheVariants.Base, Kinds.decl_kinds, Scopes.constant_value}
 use Rattle.rv_types.specs.{Values.HasKind}
-use Rattle.rv_meaning.specs.Meaning.{is_true, number, held, is_on, operate, kept_place}
-use Rattle.rv_meaning.specs.Runs.{Instant, cell, observer_place}
+use Rattle.rv_meaning.specs.{Meaning.is_true, Meaning.number, Meaning.held, Meaning.is_on, Meaning.operate, Meaning.kept_place, Runs.Instant, Runs.cell}
 
 -- What an instant finds: whether a clock has been there before, main's where there is no flow, and what the memory at a
 -- place holds.

@@ -1,57 +1,19 @@
 -- What tells the type of an expression that has one.
 use Rattle.std.specs.Prelude.{ℕ, ◌+◌, cond, List, [], ◌∷◌, reverse, unwrap_or, length, Option, Some, slice_get, None as Nothing}
 use Rattle.std.specs.Option.{option_map}
-use Rattle.rv_tree.specs.{declared.tree.TypeDecl.TypeDecl, declared.tree.Op.Op, Tree.Tree, Tree.Node, Tree.Form, Tree.True, Tree.False, Tree.Number, Tree.Named}
-use Rattle.rv_tree.specs.{Tree.Not, Tree.Minus, Tree.Pre, Tree.Current, Tree.When, Tree.Binary, Tree.If, Tree.AtMostOne, Tree.Call, Tree.ConstantTree}
-use Rattle.rv_tree.specs.{Tree.NodeTree, Tree.ProgramTree, Places.Identifier, Places.Sites, Places.index_of, Places.is_same, Places.site_of}
-use Rattle.rv_tree.specs.declared.tree.Op.TheVariants as op
+use Rattle.rv_tree.specs.Places.{Identifier, Sites, index_of, is_same, site_of}
+use Rattle.rv_tree.specs.{declared.tree.TypeDecl.TypeDecl, Tree.Tree, Tree.ConstantTree, Tree.NodeTree, Tree.ProgramTree}
+use Rattle.rv_types.specs.Heads.{Telling, Itself, OfName, OfCallee, telling}
 use Rattle.rv_types.specs.{declared.typed.Kind.Kind, Names.is_declared, Names.labels_of}
 use Rattle.rv_types.specs.declared.typed.Kind.TheVariants as kind
 use Rattle.rv_meaning.specs.{declared.kinds.Teller.Teller, Leading.node_texts, Leading.operand_in_node, Leading.callee_at, Leading.led_by}
 use Rattle.rv_meaning.specs.declared.kinds.Teller.TheVariants as declared
 
--- the type itself, the name of a flow, constant or label, or the name of the node that is called
-pub data Telling : Type 0 where
-  Itself : Kind → Telling
-  OfName : Identifier → Telling
-  OfCallee : Identifier → Telling
-
--- the same of what the program computes with
+-- what tells the type, of what the program computes with
 abbrev pub telling_of : Teller → Telling
 telling_of (declared.Itself k) = Itself k
 telling_of (declared.Name x) = OfName x.now
 telling_of (declared.Callee f) = OfCallee f.now
-
--- the type of an operator's result; that of `->` is its left operand's
-abbrev pub result_kind : Op → Option Kind
-result_kind op.Arrow = Nothing
-result_kind op.Plus = Some kind.Int
-result_kind op.Minus = Some kind.Int
-result_kind op.Times = Some kind.Int
-result_kind op.Slash = Some kind.Int
-result_kind op.Div = Some kind.Int
-result_kind op.Mod = Some kind.Int
-result_kind _ = Some kind.Bool
-
--- What tells the type of an expression. Of operands that have its type the first one does.
-abbrev mutual
-  pub telling : Tree → Telling
-  telling (Node at site form) = form_telling form
-
-  pub form_telling : Form → Telling
-  form_telling True = Itself kind.Bool
-  form_telling False = Itself kind.Bool
-  form_telling (Number n) = Itself kind.Int
-  form_telling (Named x) = OfName x
-  form_telling (Not e) = Itself kind.Bool
-  form_telling (Minus e) = Itself kind.Int
-  form_telling (Pre e) = telling e
-  form_telling (Current e) = telling e
-  form_telling (When e c) = telling e
-  form_telling (Binary o a b) = elim (result_kind o) as (λ _. Telling) [ Nothing ↦ telling a | Some k ↦ Itself k ]
-  form_telling (If a b c) = telling b
-  form_telling (AtMostOne es) = Itself kind.Bool
-  form_telling (Call f es) = OfCallee f
 
 -- the type of a label of the declarations from a number on
 abbrev pub label_told : ℕ → List TypeDecl → Identifier → Kind

@@ -7,17 +7,18 @@ ghost use Rattle.rv_tree.specs.Places.{index_of, names, site_of};
 ghost use Rattle.rv_tree.specs.Tree.{tree_of, node_tree, constant_tree, program_tree};
 ghost use Rattle.rv_types.specs.declared.typed.Kind.{Kind as KindModel};
 ghost use Rattle.rv_types.specs.declared.typed.Kind.TheVariants as kind;
+ghost use Rattle.rv_types.specs.Heads.{telling};
 ghost use Rattle.rv_types.specs.Instances.{name_at};
 ghost use Rattle.rv_types.specs.Names.{is_declared, labels_of};
 ghost use Rattle.rv_types.specs.Settled.{IsAnswer};
 ghost use Rattle.rv_meaning.specs.Accessors.{IsKindAt};
-ghost use Rattle.rv_meaning.specs.Telling.{telling_of, telling, result_kind as result_of, constant_told, name_told, output_of, told, label_told, kind_of_site};
+ghost use Rattle.rv_meaning.specs.Telling.{telling_of, constant_told, name_told, output_of, told, label_told, kind_of_site};
 ghost use Rattle.rv_meaning.specs.Telling.{kind_of_node, kind_at_end};
 
 use crate::finding::{node_at, number_of, operand_at_site};
 use rv_base::{Place, Text};
-use rv_tree::{Decl, Expr, ExprForm, Name, Node, Op, Program, TypeBody, TypeDecl};
-use rv_types::{Kind, Typed, well_formed_programs};
+use rv_tree::{Decl, Expr, ExprForm, Name, Node, Program, TypeBody, TypeDecl};
+use rv_types::{Kind, Typed, given_by, well_formed_programs};
 
 /// What tells the type of an expression that has one.
 enum Teller<'a> {
@@ -45,21 +46,10 @@ fn teller_of<'a>(e: &'a Expr) -> Teller<'a>
             teller_of(operand)
         }
         ExprForm::If(_, first, _) => teller_of(first),
-        ExprForm::Binary(operator, left, _) => match result_kind(*operator) {
+        ExprForm::Binary(operator, left, _) => match given_by(*operator) {
             Some(kind) => Teller::Itself(kind),
             None => teller_of(left),
         },
-    }
-}
-
-/// The type of an operator's result, none where it is that of the left operand.
-fn result_kind(operator: Op) -> Option<Kind>
-    ensures { result ≡ result_of operator }
-{
-    match operator {
-        Op::Arrow => None,
-        Op::Plus | Op::Minus | Op::Times | Op::Slash | Op::Div | Op::Mod => Some(Kind::Int),
-        _ => Some(Kind::Bool),
     }
 }
 

@@ -4,8 +4,7 @@ use Rattle.std.proofs.Common.{arith, Option, Some, IsSome, None as Nothing}
 use Rattle.std.proofs.{lemmas.Int.ints, lemmas.List.get_or-map, lemmas.List.get_or_default, lemmas.List.length-map}
 use Rattle.std.specs.{FinMap.empty, List.Contains}
 use Rattle.std.specs.FinMap as finite
-use Rattle.rv_base.specs.declared.value.Value.{Value}
-use Rattle.rv_base.specs.declared.value.Value.TheVariants.{Flag, Label, Whole}
+use Rattle.rv_base.specs.{declared.value.Value.Value, declared.value.Value.TheVariants.Flag, declared.value.Value.TheVariants.Whole}
 use Rattle.rv_tree.specs.{Tree.ProgramTree, Places.Identifier, Places.Sites, Places.index_of, Delays.Delay, Delays.node_delays}
 use Rattle.rv_types.specs.{declared.typed.Clock.TheVariants.Base, Instances.Instance, Instances.clock_in, Instances.IsInstance, Lists.MemoryAt, Lists.memory_at}
 use Rattle.rv_meaning.specs.{Meaning.content, Meaning.is_there, Meaning.kept_place, Runs.History, Runs.cell, Runs.cells, Runs.observed, Runs.AssertionsHold}
@@ -63,9 +62,8 @@ within_if z h = tested (is_outside z) refl
     tested false e = inside z e
 
 in_range_if : (v : Value) → ((z : ℤ) → v ≡ Whole z → (IsWithin z → ⊥) → ⊥) → IsInRange v
-in_range_if (Flag b) h = tt
-in_range_if (Label l) h = tt
 in_range_if (Whole z) h = within_if z (h z refl)
+in_range_if _ h = tt
 
 -- After an instant at which no integer leaves the range they are so again.
 pub stays_within : (f : Flat) (now : State) (inputs : List Value) (row : Row) (next : State) → KeepsWithin f now

@@ -4,13 +4,12 @@ use Rattle.std.proofs.lemmas.List.Elements.{Contains-append_left}
 use Rattle.std.specs.List.{Contains}
 use Rattle.rv_tree.specs.Tree.{Tree, EquationTree, NodeTree, ProgramTree, tree_of}
 use Rattle.rv_tree.specs.{Bounded.most, Places.Identifier, Places.Sites, Places.is_flow, Places.site_of}
-use Rattle.rv_types.specs.declared.fault.Pace.TheVariants.{Free, At, Mute, Differ}
 use Rattle.rv_types.specs.Names.{is_declared, is_value, node_names, node_uses}
 use Rattle.rv_types.specs.Instances.{CallTree, calls, calls_in, calls_in_equations, calls_in_assertions, Right, IsRight, alone, in_order, Instance, absolute}
-use Rattle.rv_types.specs.Instances.{clock_of, clock_of_args, taken, clock_taken, node_of, IsInstance}
+use Rattle.rv_types.specs.Instances.{clock_of, clock_of_args, clock_taken, node_of, IsInstance}
 use Rattle.rv_types.specs.Needs.{Giver, Given, Of, Gives, by_equation, by_call, flow_of, needs, needs_of}
-use Rattle.rv_types.specs.{declared.typed.Clock.Clock, declared.fault.Pace.Pace, declared.typed.Kind.Kind, Clocks.pace, Kinds.decl_kinds, Kinds.kind_in_program}
-use Rattle.rv_types.specs.{Scopes.node_scope, Types.kind_of, ToldPaces.IsTimed, WellFormed.Suits}
+use Rattle.rv_types.specs.{declared.typed.Clock.Clock, declared.typed.Kind.Kind, Clocks.pace, Kinds.decl_kinds, Kinds.kind_in_program}
+use Rattle.rv_types.specs.{Scopes.node_scope, Types.kind_of, ToldPaces.IsTimed}
 use Rattle.rv_types.specs.Instances as right
 use Rattle.rv_instances.specs.declared.givers.Giver.TheVariants.{Input, Body, Output}
 use Rattle.rv_instances.specs.Layouts.{IsPlaced, IsLayout, IsWithin, IsNumberOf, here_of, node_at, all_places}
@@ -24,6 +23,7 @@ use Rattle.rv_instances.proofs.{ArgumentClocks.flow_clock_known, ArgumentClocks.
 use Rattle.rv_instances.proofs.{LaidFlows.places_size, LayoutLaws.laid_there, LayoutLaws.is_here, Lists.length_map}
 use Rattle.rv_sequence.proofs.NumbersNeeded.{AreAt, at_append, needs_at, clock_flow, output_flow}
 use Rattle.rv_sequence.proofs.TypedCalls.{typed_calls, sole_output}
+use Rattle.rv_types.proofs.Suiting.{suits_taken, suits_timed}
 use Rattle.rv_types.proofs.{TypedParts.right_calls, CallsWithin.in_argument}
 use Rattle.rv_base.proofs.Lists.{within_got}
 
@@ -31,10 +31,8 @@ module _ (p : ProgramTree) (main : Identifier) (instances : List Numbered) (know
   -- numbers of flows have 32 bits
   pub places_few : length (all_places p instances) < 2 ^ 32
   places_few =
-      let size = places_size p instances in
-      let h = few_before (flow_count p instances) most (length instances) (λ k lt. node_few p main instances known k lt) in
-      let few = known.few in
-      omega (arith, size, h, few)
+      let count = few_before (flow_count p instances) most (length instances) (λ k lt. node_few p main instances known k lt) in
+      omega (arith, places_size p instances, count, known.few)
 
   -- the clock of a giver is a flow of its instance
   pub giver_clock : (q : Sites) (i : Instance) (k : Clock) (r : Right) → Gives p main q (Of i k r) → IsInstance p main i × IsKnownClock i.node k
@@ -52,10 +50,9 @@ module _ (p : ProgramTree) (main : Identifier) (instances : List Numbered) (know
       let n = i.node in
       let kinds = (known.well.typed n (node_in p main instances known i is)).output x c j other in
       let size = length_map (λ d. kind_in_program p d.kind) (node_of p c.name).outputs in
-      let lt = within_got (decl_kinds p (node_of p c.name).outputs) j kinds.0 kinds.1 in
       record {
         there = of_order n x c j other;
-        within = omega (arith, size, lt);
+        within = omega (arith, size, within_got (decl_kinds p (node_of p c.name).outputs) j kinds.0 kinds.1);
         clock = (known.well.formed n (node_in p main instances known i is)).output_clock x c j other;
       }
     where
@@ -64,19 +61,6 @@ module _ (p : ProgramTree) (main : Identifier) (instances : List Numbered) (know
           Contains-append_left (calls_in_equations n.equations) (calls_in_assertions n.assertions) (record { at = at; site = site; name = f; args = args })
           (right_calls n.equations q (record { at = at; site = site; name = f; args = args }) w
           (subst (λ (t : Tree). Contains (calls_in t) (record { at = at; site = site; name = f; args = args })) (sym is) (0, omega arith, refl)))
-
-  -- what suits a clock takes it
-  suits_taken : (k : Clock) (p : Pace) → Suits k p → taken k p ≡ k
-  suits_taken k Free h = refl
-  suits_taken k (At c) h = h
-  suits_taken k Mute h = absurd h
-  suits_taken k Differ h = absurd h
-
-  suits_timed : (k : Clock) (p : Pace) → Suits k p → IsTimed p
-  suits_timed k Free h = tt
-  suits_timed k (At c) h = tt
-  suits_timed k Mute h = h
-  suits_timed k Differ h = h
 
   -- what is given by an expression
   pub record IsBody (i : Instance) (k : Clock) (e : Tree) : Type 0 where
@@ -117,13 +101,12 @@ module _ (p : ProgramTree) (main : Identifier) (instances : List Numbered) (know
 
   -- what is told is free or on a clock
   pub body_timed : (b : BodyOf) → IsGiver p main instances (Body b) → IsTimed (pace (node_at p instances b.instance) (tree_of b.body.now))
-  body_timed b (q, Given j, gives, stands) = absurd stands
-  body_timed b (q, Of i k (right.Output c j), gives, stands) = absurd stands
   body_timed b (q, Of i k (right.Body e), gives, stands) =
       let from = body_given q i k e gives in
       let g = giver_clock q i k (right.Body e) gives in
       let node = node_is p main instances known b.instance i g.0 stands.0.1 in
       subst IsTimed (λ t. pace (sym node t) (sym stands.2 t)) from.timed
+  body_timed b (q, _, gives, stands) = absurd stands
 
   module _ (l : Layout) (laid_out : IsLayout p main instances l) where
     -- the number of the flow of the clock of what is told has 32 bits
@@ -135,14 +118,12 @@ module _ (p : ProgramTree) (main : Identifier) (instances : List Numbered) (know
         (subst (IsWithin _) (sym is) (clock_within p main instances known m i k number.0 g.0 number.1 g.1))
 
     pub body_within : (b : BodyOf) → IsGiver p main instances (Body b) → IsWithin (here_of l b.instance).offset b.clock
-    body_within b (q, Given j, gives, stands) = absurd stands
-    body_within b (q, Of i k (right.Output c j), gives, stands) = absurd stands
     body_within b (q, Of i k (right.Body e), gives, stands) = told_within b.instance b.clock q i k (right.Body e) gives stands.0 stands.1
+    body_within b (q, _, gives, stands) = absurd stands
 
     pub output_clock_within : (o : OutputOf) → IsGiver p main instances (Output o) → IsWithin (here_of l o.instance).offset o.clock
-    output_clock_within o (q, Given j, gives, stands) = absurd stands
-    output_clock_within o (q, Of i k (right.Body e), gives, stands) = absurd stands
     output_clock_within o (q, Of i k (right.Output c j), gives, stands) = told_within o.instance o.clock q i k (right.Output c j) gives stands.0 stands.1
+    output_clock_within o (q, _, gives, stands) = absurd stands
 
     -- what is told has the number of an instance
     pub body_instance : (b : BodyOf) → IsGiver p main instances (Body b) → b.instance < length instances
@@ -169,20 +150,13 @@ module _ (p : ProgramTree) (main : Identifier) (instances : List Numbered) (know
         (output_flow p i (all_places p instances) (here_of l o.instance) here c j from.there from.within)
 
     pub output_few : (o : OutputOf) → IsGiver p main instances (Output o) → (here_of l o.instance).output (site_in (tree_of o.call.now)) + o.output < 2 ^ 32
-    output_few o (q, Given j, gives, stands) = absurd stands
-    output_few o (q, Of i k (right.Body e), gives, stands) = absurd stands
-    output_few o (q, Of i k (right.Output c j), gives, stands) =
-        let at = (output_at o q i k c j gives stands).0 in
-        let few = places_few in
-        omega (arith, at, few)
+    output_few o (q, Of i k (right.Output c j), gives, stands) = omega (arith, (output_at o q i k c j gives stands).0, places_few)
+    output_few o (q, _, gives, stands) = absurd stands
 
     -- the numbers of what a flow needs are those of the places
     pub giver_needs : (q : Sites) (g : Told) (f : Giver) → Gives p main q f → StandsFor p instances g f
         → AreAt (all_places p instances) (giver_numbers p instances l g) (needs_of p f)
     giver_needs q (Input j) (Given k) gives stands = tt
-    giver_needs q (Input j) (Of i k r) gives stands = absurd stands
-    giver_needs q (Body b) (Given k) gives stands = absurd stands
-    giver_needs q (Body b) (Of i k (right.Output c j)) gives stands = absurd stands
     giver_needs q (Body b) (Of i k (right.Body e)) gives stands =
         let from = body_given q i k e gives in
         let g = giver_clock q i k (right.Body e) gives in
@@ -196,8 +170,6 @@ module _ (p : ProgramTree) (main : Identifier) (instances : List Numbered) (know
         subst (λ js. AreAt (all_places p instances) js (needs p i (clock_taken i k e) e))
         (λ t. numbers_needed (sym node t) (here_of l m) (clock_number (here_of l m) (sym stands.1 t)) (sym stands.2 t))
         (subst (λ c. AreAt (all_places p instances) (numbers_needed i.node (here_of l m) (clock_number (here_of l m) k) e) (needs p i c e)) (sym from.clock) at)
-    giver_needs q (Output o) (Given k) gives stands = absurd stands
-    giver_needs q (Output o) (Of i k (right.Body e)) gives stands = absurd stands
     giver_needs q (Output o) (Of i k (right.Output c j)) gives stands =
         let from = output_given q i k c j gives in
         let g = giver_clock q i k (right.Output c j) gives in
@@ -212,3 +184,4 @@ module _ (p : ProgramTree) (main : Identifier) (instances : List Numbered) (know
         (((here_of l o.instance).output (site_in (tree_of o.call.now)) + o.output) ∷ [])
         (flow_of (absolute i (right.clock_of_args i.node c.args))) ((i.path ++ c.site ∷ (length (node_of p c.name).inputs + j) ∷ []) ∷ []) seen
         (output_at o q i k c j gives stands, tt)
+    giver_needs q _ _ gives stands = absurd stands

@@ -2,8 +2,8 @@
 use Rattle.std.proofs.Common.{◌≡◌, ℕ, inl, inr, List, [], ◌∷◌, ◌++◌, unwrap_or, Option, sym, ap, subst}
 use Rattle.std.proofs.lemmas.List.Elements.{Contains-append_left, Contains-append_right, Contains-append_cases}
 use Rattle.std.specs.List.{Contains}
-use Rattle.rv_tree.specs.Tree.{Tree, Node, Form, True, False, Number, Named, Not, Minus, Pre, Current, When, Binary, If, AtMostOne, Call, Trees, None, More}
-use Rattle.rv_tree.specs.Tree.{NodeTree, ProgramTree, tree_of}
+use Rattle.rv_tree.specs.Tree.{Tree, Node, Form, Named, Not, Minus, Current, When, Binary, If, AtMostOne, Call, Trees, None, More, NodeTree, ProgramTree}
+use Rattle.rv_tree.specs.Tree.{tree_of}
 use Rattle.rv_types.specs.{declared.typed.Clock.TheVariants.Base, declared.fault.Pace.Pace, Instances.clock_of, Instances.taken, ToldPaces.told_pace}
 use Rattle.rv_instances.specs.NumberedNeeds.{IsReader, listed, clock_number, clock_of_expression, flow_number, numbers_needed, form_numbers, numbers_of_all}
 use Rattle.rv_instances.specs.NumberedNeeds.{giver_numbers, node_read, numbers_of}
@@ -37,106 +37,81 @@ on_left xs ys = record { each = λ j w. Contains-append_left xs ys j w }
 on_right : (xs ys : List ℕ) → Among ys (xs ++ ys)
 on_right xs ys = record { each = λ j w. Contains-append_right xs ys j w }
 
-onward : (xs ys zs : List ℕ) → Among xs ys → Among ys zs → Among xs zs
-onward xs ys zs a b = record { each = λ j w. b.each j (a.each j w) }
+onward : {xs ys zs : List ℕ} → Among xs ys → Among ys zs → Among xs zs
+onward a b = record { each = λ j w. b.each j (a.each j w) }
 
-both : (xs ys zs : List ℕ) → Among xs zs → Among ys zs → Among (xs ++ ys) zs
-both xs ys zs a b = record { each = λ j w. elim (Contains-append_cases xs ys j w) [ inl v ↦ a.each j v | inr v ↦ b.each j v ] }
+both : {xs ys zs : List ℕ} → Among xs zs → Among ys zs → Among (xs ++ ys) zs
+both {xs} {ys} {zs} a b = record { each = λ j w. elim (Contains-append_cases xs ys j w) [ inl v ↦ a.each j v | inr v ↦ b.each j v ] }
 
 -- a list with a first part, and the same with more
 wider_left : (l xs ys : List ℕ) → Among (l ++ xs) (l ++ (xs ++ ys))
-wider_left l xs ys = both l xs (l ++ (xs ++ ys)) (on_left l (xs ++ ys)) (onward xs (xs ++ ys) (l ++ (xs ++ ys)) (on_left xs ys) (on_right l (xs ++ ys)))
+wider_left l xs ys = both (on_left l (xs ++ ys)) (onward (on_left xs ys) (on_right l (xs ++ ys)))
 
 wider_right : (l xs ys : List ℕ) → Among (l ++ ys) (l ++ (xs ++ ys))
-wider_right l xs ys = both l ys (l ++ (xs ++ ys)) (on_left l (xs ++ ys)) (onward ys (xs ++ ys) (l ++ (xs ++ ys)) (on_right xs ys) (on_right l (xs ++ ys)))
+wider_right l xs ys = both (on_left l (xs ++ ys)) (onward (on_right xs ys) (on_right l (xs ++ ys)))
 
 turned : (l xs ys : List ℕ) → Among (ys ++ xs) (l ++ (xs ++ ys))
-turned l xs ys =
-    both ys xs (l ++ (xs ++ ys)) (onward ys (xs ++ ys) (l ++ (xs ++ ys)) (on_right xs ys) (on_right l (xs ++ ys)))
-    (onward xs (xs ++ ys) (l ++ (xs ++ ys)) (on_left xs ys) (on_right l (xs ++ ys)))
+turned l xs ys = onward (both (on_right xs ys) (on_left xs ys)) (on_right l (xs ++ ys))
 
 module _ (n : NodeTree) (h : Here) where
   -- two lists of what parts need, on a clock
-  joined : (l ps qs xs ys : List ℕ) → Among ps (l ++ xs) → Among qs (l ++ ys) → Among (ps ++ qs) (l ++ (xs ++ ys))
-  joined l ps qs xs ys a b =
-      both ps qs (l ++ (xs ++ ys)) (onward ps (l ++ xs) (l ++ (xs ++ ys)) a (wider_left l xs ys))
-      (onward qs (l ++ ys) (l ++ (xs ++ ys)) b (wider_right l xs ys))
+  joined : (l xs ys : List ℕ) {ps qs : List ℕ} → Among ps (l ++ xs) → Among qs (l ++ ys) → Among (ps ++ qs) (l ++ (xs ++ ys))
+  joined l xs ys a b = both (onward a (wider_left l xs ys)) (onward b (wider_right l xs ys))
 
   mutual
     -- what is needed is found, or the clock
     is_found : (k : Option ℕ) (e : Tree) → Among (numbers_needed n h k e) (listed k ++ needed n h e)
-    is_found k (Node at site form) =
-        both (listed k) (form_numbers n h k site form) (listed k ++ form_needed n h site form) (on_left (listed k) (form_needed n h site form))
-        (form_found k site form)
+    is_found k (Node at site form) = both (on_left (listed k) (form_needed n h site form)) (form_found k site form)
 
     form_found : (k : Option ℕ) (site : Option ℕ) (form : Form) → Among (form_numbers n h k site form) (listed k ++ form_needed n h site form)
-    form_found k site True = none_in (listed k ++ [])
-    form_found k site False = none_in (listed k ++ [])
-    form_found k site (Number v) = none_in (listed k ++ [])
     form_found k site (Named x) = on_right (listed k) (listed (flow_number n h x))
     form_found k site (Not e) = is_found k e
     form_found k site (Minus e) = is_found k e
-    form_found k site (Pre e) = none_in (listed k ++ [])
     form_found k site (Current e) =
-        let c = clock_number h (clock_of_expression n e) in
-        onward (numbers_needed n h c e) (listed c ++ needed n h e) (listed k ++ (needed n h e ++ listed c)) (is_found c e)
-        (turned (listed k) (needed n h e) (listed c))
+        let c = clock_number h (clock_of_expression n e) in onward (is_found c e) (turned (listed k) (needed n h e) (listed c))
     form_found k site (When e x) =
-        let c = clock_number h (clock_of n x.text) in
-        onward (numbers_needed n h c e) (listed c ++ needed n h e) (listed k ++ (needed n h e ++ listed c)) (is_found c e)
-        (turned (listed k) (needed n h e) (listed c))
-    form_found k site (Binary o a b) =
-        joined (listed k) (numbers_needed n h k a) (numbers_needed n h k b) (needed n h a) (needed n h b) (is_found k a) (is_found k b)
+        let c = clock_number h (clock_of n x.text) in onward (is_found c e) (turned (listed k) (needed n h e) (listed c))
+    form_found k site (Binary o a b) = joined (listed k) (needed n h a) (needed n h b) (is_found k a) (is_found k b)
     form_found k site (If a b c) =
-        joined (listed k) (numbers_needed n h k a) (numbers_needed n h k b ++ numbers_needed n h k c) (needed n h a) (needed n h b ++ needed n h c)
-        (is_found k a)
-        (joined (listed k) (numbers_needed n h k b) (numbers_needed n h k c) (needed n h b) (needed n h c) (is_found k b) (is_found k c))
+        joined (listed k) (needed n h a) (needed n h b ++ needed n h c) (is_found k a)
+        (joined (listed k) (needed n h b) (needed n h c) (is_found k b) (is_found k c))
     form_found k site (AtMostOne es) = all_found k es
     form_found k site (Call f args) = on_right (listed k) (h.output (unwrap_or site 0) ∷ [])
+    form_found k site _ = none_in (listed k ++ [])
 
     all_found : (k : Option ℕ) (es : Trees) → Among (numbers_of_all n h k es) (listed k ++ needed_by_all n h es)
     all_found k None = none_in (listed k ++ [])
-    all_found k (More e es) = joined (listed k) (numbers_needed n h k e) (numbers_of_all n h k es) (needed n h e) (needed_by_all n h es) (is_found k e)
-        (all_found k es)
+    all_found k (More e es) = joined (listed k) (needed n h e) (needed_by_all n h es) (is_found k e) (all_found k es)
 
   -- the clock is needed
   own_clock : (k : Option ℕ) (e : Tree) → Among (listed k) (numbers_needed n h k e)
   own_clock k (Node at site form) = on_left (listed k) (form_numbers n h k site form)
 
-  apart : (ps qs xs ys : List ℕ) → Among xs ps → Among ys qs → Among (xs ++ ys) (ps ++ qs)
-  apart ps qs xs ys a b = both xs ys (ps ++ qs) (onward xs ps (ps ++ qs) a (on_left ps qs)) (onward ys qs (ps ++ qs) b (on_right ps qs))
+  apart : (ps qs : List ℕ) {xs ys : List ℕ} → Among xs ps → Among ys qs → Among (xs ++ ys) (ps ++ qs)
+  apart ps qs a b = both (onward a (on_left ps qs)) (onward b (on_right ps qs))
 
   mutual
     -- what is found is needed
     is_needed : (k : Option ℕ) (e : Tree) → Among (needed n h e) (numbers_needed n h k e)
-    is_needed k (Node at site form) =
-        onward (form_needed n h site form) (form_numbers n h k site form) (listed k ++ form_numbers n h k site form) (form_is_needed k site form)
-        (on_right (listed k) (form_numbers n h k site form))
+    is_needed k (Node at site form) = onward (form_is_needed k site form) (on_right (listed k) (form_numbers n h k site form))
 
     form_is_needed : (k : Option ℕ) (site : Option ℕ) (form : Form) → Among (form_needed n h site form) (form_numbers n h k site form)
-    form_is_needed k site True = none_in []
-    form_is_needed k site False = none_in []
-    form_is_needed k site (Number v) = none_in []
     form_is_needed k site (Named x) = all_in (listed (flow_number n h x))
     form_is_needed k site (Not e) = is_needed k e
     form_is_needed k site (Minus e) = is_needed k e
-    form_is_needed k site (Pre e) = none_in []
-    form_is_needed k site (Current e) =
-        let c = clock_number h (clock_of_expression n e) in
-        both (needed n h e) (listed c) (numbers_needed n h c e) (is_needed c e) (own_clock c e)
-    form_is_needed k site (When e x) =
-        let c = clock_number h (clock_of n x.text) in
-        both (needed n h e) (listed c) (numbers_needed n h c e) (is_needed c e) (own_clock c e)
-    form_is_needed k site (Binary o a b) = apart (numbers_needed n h k a) (numbers_needed n h k b) (needed n h a) (needed n h b) (is_needed k a) (is_needed k b)
+    form_is_needed k site (Current e) = let c = clock_number h (clock_of_expression n e) in both (is_needed c e) (own_clock c e)
+    form_is_needed k site (When e x) = let c = clock_number h (clock_of n x.text) in both (is_needed c e) (own_clock c e)
+    form_is_needed k site (Binary o a b) = apart (numbers_needed n h k a) (numbers_needed n h k b) (is_needed k a) (is_needed k b)
     form_is_needed k site (If a b c) =
-        apart (numbers_needed n h k a) (numbers_needed n h k b ++ numbers_needed n h k c) (needed n h a) (needed n h b ++ needed n h c) (is_needed k a)
-        (apart (numbers_needed n h k b) (numbers_needed n h k c) (needed n h b) (needed n h c) (is_needed k b) (is_needed k c))
+        apart (numbers_needed n h k a) (numbers_needed n h k b ++ numbers_needed n h k c) (is_needed k a)
+        (apart (numbers_needed n h k b) (numbers_needed n h k c) (is_needed k b) (is_needed k c))
     form_is_needed k site (AtMostOne es) = all_needed k es
     form_is_needed k site (Call f args) = all_in (h.output (unwrap_or site 0) ∷ [])
+    form_is_needed k site _ = none_in []
 
     all_needed : (k : Option ℕ) (es : Trees) → Among (needed_by_all n h es) (numbers_of_all n h k es)
     all_needed k None = none_in []
-    all_needed k (More e es) = apart (numbers_needed n h k e) (numbers_of_all n h k es) (needed n h e) (needed_by_all n h es) (is_needed k e) (all_needed k es)
+    all_needed k (More e es) = apart (numbers_needed n h k e) (numbers_of_all n h k es) (is_needed k e) (all_needed k es)
 
 module _ (p : ProgramTree) (instances : List Numbered) (l : Layout) where
   giver_found : (g : Giver) → Among (giver_numbers p instances l g) (giver_needed p instances l g)
@@ -150,8 +125,7 @@ module _ (p : ProgramTree) (instances : List Numbered) (l : Layout) where
       let n = node_at p instances b.instance in
       let h = here_of l b.instance in
       let k = clock_number h b.clock in
-      both (listed k) (needed n h (tree_of b.body.now)) (numbers_needed n h k (tree_of b.body.now)) (own_clock n h k (tree_of b.body.now))
-      (is_needed n h k (tree_of b.body.now))
+      both (own_clock n h k (tree_of b.body.now)) (is_needed n h k (tree_of b.body.now))
   giver_is_needed (Output o) = all_in (giver_numbers p instances l (Output o))
 
   -- what gives a flow its value is found to need what it needs

@@ -21,19 +21,16 @@ module _ (p : ProgramTree) (main : Identifier) (instances : List Numbered) (know
   -- each is told to give some flow its value
   pub is_giver : (k : ℕ) (g : Told) → k < length givers → g ≡ get_or givers k g → IsGiver p main instances g
   is_giver k g lt is =
-      let f = are.each k lt in (
-        place_at (all_places p instances) k,
-        f.0,
-        f.1,
-        subst (λ (t : Told). StandsFor p instances t f.0) (sym (is ∙ sym (get_or_default givers k (Input 0) g lt))) (are.one k f.0 lt f.1),
-      )
+      let f = are.each k lt in
+      let stands = subst (λ (t : Told). StandsFor p instances t f.0) (sym (is ∙ sym (get_or_default givers k (Input 0) g lt))) (are.one k f.0 lt f.1) in
+      (place_at (all_places p instances) k, f.0, f.1, stands)
 
   module _ (graph : Graph) (is : graph ≡ map (giver_needed p instances l) givers) where
     size : length graph ≡ length (all_places p instances)
     size = ap length is ∙ length_map (giver_needed p instances l) givers ∙ are.size
 
     within : (k : ℕ) → k < length (all_places p instances) → k < length givers
-    within k lt = let s = are.size in omega (arith, s, lt)
+    within k lt = omega (arith, are.size, lt)
 
     edges_are : (k : ℕ) → k < length (all_places p instances) → edges graph k ≡ giver_needed p instances l (get_or givers k (Input 0))
     edges_are k lt = ap (λ (g : Graph). edges g k) is ∙ map_at (giver_needed p instances l) givers k [] (Input 0) (within k lt)
@@ -45,8 +42,7 @@ module _ (p : ProgramTree) (main : Identifier) (instances : List Numbered) (know
 
     -- a place that is needed has the number of an edge
     edge_to : (k : ℕ) (f : Giver) (q : Sites) → k < length (all_places p instances) → Gives p main (place_at (all_places p instances) k) f
-        → Contains (needs_of p f) q
-        → (j : ℕ) × Contains (edges graph k) j × IsPlaced (all_places p instances) j q
+        → Contains (needs_of p f) q → (j : ℕ) × Contains (edges graph k) j × IsPlaced (all_places p instances) j q
     edge_to k f q lt gives w =
         let g = get_or givers k (Input 0) in
         let v = at_place (all_places p instances) (giver_numbers p instances l g) (needs_of p f) q (at k f lt gives) w in
@@ -75,9 +71,7 @@ module _ (p : ProgramTree) (main : Identifier) (instances : List Numbered) (know
 
     pub is_graph : IsGraph graph
     is_graph k j lt less =
-        let s = size in
-        let inside : k < length (all_places p instances) = omega (arith, s, lt) in
+        let inside : k < length (all_places p instances) = omega (arith, size, lt) in
         let f = are.each k (within k inside) in
         let v = edge_from k (get_or (edges graph k) j 0) f.0 inside f.1 (Contains-get_or (edges graph k) j 0 less) in
-        let below = v.2.0 in
-        omega (arith, s, below)
+        omega (arith, size, v.2.0)

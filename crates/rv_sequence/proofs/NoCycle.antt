@@ -17,9 +17,8 @@ module _ (p : ProgramTree) (main : Identifier) (sequence : List Sites) (ordered 
   all_earlier k lt a [] b is n = earlier k lt a b is n
   all_earlier k lt a (r ∷ rs) b is n =
       let w = earlier k lt a r is n.0 in
-      let below = w.1 in
-      let v = all_earlier w.0 (omega (arith, below)) r rs b w.2 n.1 in
-      (v.0, omega (arith, below, v.1), v.2)
+      let v = all_earlier w.0 (omega (arith, w.1)) r rs b w.2 n.1 in
+      (v.0, omega (arith, w.1, v.1), v.2)
 
   pub no_cycle : name_faults p ≡ [] → is_among (names_of p) main ≡ true → AreFed p → (c : List Sites) → IsCycle p main c → ⊥
   no_cycle named declared fed [] cycle = cycle

@@ -34,8 +34,7 @@ module _ (p : ProgramTree) (main : Identifier) (instances : List Numbered) where
 
   -- their places are a sequence
   pub sequenced : (flows : List Flow) (numbers : List ℕ) (places : List Place) → flows ≡ all_flows p instances → IsNumbered p main instances numbers
-      → AreLight p main
-      → sites_of places ≡ map (place_at (flow_places instances flows)) numbers → AreSequenced p main places
+      → AreLight p main → sites_of places ≡ map (place_at (flow_places instances flows)) numbers → AreSequenced p main places
   sequenced flows numbers places are n light is = record {
     ordered = subst (IsSequence p main) (sym (is ∙ ap (λ (fs : List Flow). map (place_at (flow_places instances fs)) numbers) are)) n.ordered;
     light = light;

@@ -1,17 +1,17 @@
 -- An order of the graph of flows is a sequence, and a loop in it is a cycle.
-use Rattle.std.proofs.Common.{◌≡◌, ℕ, zero, suc, ◌+◌, ◌-◌, ◌<◌, ◌≤◌, inl, inr, List, [], ◌∷◌, ◌++◌, map, length, length-drop, get_or, take, drop, refl, sym}
-use Rattle.std.proofs.Common.{◌∙◌, ap, subst, arith}
+use Rattle.std.proofs.Common.{◌≡◌, ℕ, zero, suc, ◌-◌, ◌<◌, ◌≤◌, inl, inr, List, [], ◌∷◌, ◌++◌, map, length, length-drop, get_or, take, drop, refl, sym, ◌∙◌, ap}
+use Rattle.std.proofs.Common.{subst, arith}
 use Rattle.std.proofs.{lemmas.List.append-nil, lemmas.List.get_or_default, lemmas.List.take-append-drop, lemmas.List.Elements.Contains-append_cases}
-use Rattle.std.proofs.{lemmas.List.Elements.Contains-append_left, lemmas.List.Elements.Contains-append_right, lemmas.Bool.cases_eq}
+use Rattle.std.proofs.{lemmas.List.Elements.Contains-append_left, lemmas.List.Elements.Contains-append_right, lemmas.Bool.cases_eq, lemmas.Bool.cases_order}
 use Rattle.std.specs.List.{Contains}
 use Rattle.rv_tree.specs.{Tree.ProgramTree, Places.Identifier, Places.Sites}
 use Rattle.rv_types.specs.Instances.{IsFlow}
 use Rattle.rv_types.specs.Needs.{Gives, needs_of, IsSequence, IsAmongFirst, Leads, IsCycle, IsBefore, StartsWithLeast}
 use Rattle.rv_calls.specs.Graphs.{Graph, edges, IsGraph, IsOrdered, Follows, IsLoop}
 use Rattle.rv_sequence.specs.{Cycles.IsCycleFromLeast, FlowGraphs.IsFlowGraph, FlowGraphs.AreTurned}
-use Rattle.rv_instances.specs.Flowing.{place_at}
-use Rattle.rv_instances.proofs.{Lists.nat_split, Lists.contains_at, Lists.length_map, Known.map_at}
-use Rattle.rv_types.proofs.{Members.cons_cases, Members.nothing_in, PlaceOrders.not_both}
+use Rattle.rv_instances.specs.Flowing.{place_at, AreFlowPlaces}
+use Rattle.rv_instances.proofs.{Lists.contains_at, Lists.length_map, Known.map_at}
+use Rattle.rv_types.proofs.{Members.cons_cases, Members.in_tail, Members.nothing_in, PlaceOrders.not_both, PlaceOrders.not_itself}
 use Rattle.rv_base.proofs.Lists.{from_map, next_of}
 
 -- Loops.
@@ -53,71 +53,61 @@ module _ (g : Graph) (graph : IsGraph g) where
       let s = split g x xs y ys x l.1 in
       (follows_within x xs y l.0 s.0, join g y ys x xs y s.1 s.0)
 
+-- a place has one number
+pub one_number : (p : ProgramTree) (main : Identifier) (places : List Sites) → AreFlowPlaces p main places → (j k : ℕ) → j < length places → k < length places
+    → place_at places j ≡ place_at places k → j ≡ k
+one_number p main places placed j k lt less e = elim (cases_order j k) [
+  | inl same ↦ same
+  | inr other ↦ absurd (elim other [
+    | inl before ↦ not_itself (place_at places k) (subst (λ q. IsBefore q (place_at places k)) e (placed.rising j k before less))
+    | inr after ↦ not_itself (place_at places j) (subst (λ q. IsBefore q (place_at places j)) (sym e) (placed.rising k j after lt))
+  ])
+]
+
 module _ (p : ProgramTree) (main : Identifier) (places : List Sites) (g : Graph) (f : IsFlowGraph p main places g) where
   nth : (order : List ℕ) (k : ℕ) → k < length order → get_or (map (place_at places) order) k [] ≡ place_at places (get_or order k 0)
   nth order k lt = map_at (place_at places) order k [] 0 lt
 
-  same_number : (a b : ℕ) → a < length places → b < length places → place_at places a ≡ place_at places b → a ≡ b
-  same_number a b la lb e = elim (cases_eq a b) [
-    | inl same ↦ same
-    | inr other ↦ elim (nat_split a b) [
-      | inl lt ↦ let h = f.placed.rising a b lt lb in absurd (not_both (place_at places a) (place_at places b) h
-          (subst (λ q. IsBefore q (place_at places a)) e (subst (IsBefore (place_at places a)) (sym e) h)))
-      | inr ge ↦
-          let lt : b < a = elim (nat_split b a) [ inl less ↦ less | inr more ↦ absurd (other (omega (arith, ge, more))) ] in
-          let h = f.placed.rising b a lt la in
-          absurd (not_both (place_at places b) (place_at places a) h (subst (λ q. IsBefore q (place_at places b)) (sym e)
-          (subst (IsBefore (place_at places b)) e h)))
-    ]
-  ]
-
   pub ordered_sequence : (order : List ℕ) → IsOrdered g order → IsSequence p main (map (place_at places) order)
-  ordered_sequence order o =
-      let size = f.size in
-      let long = length_map (place_at places) order in
-      record {
-        once = λ j k less lt e.
-            let lk : k < length order = omega (arith, long, lt) in
-            let lj : j < length order = omega (arith, lk, less) in
-            let wj = o.only j lj in
-            let wk = o.only k lk in
-            o.once j k less lk
-            (same_number (get_or order j 0) (get_or order k 0) (omega (arith, wj, size)) (omega (arith, wk, size)) (sym (nth order j lj) ∙ e ∙ nth order k lk));
-        flows = λ q is.
-            let w = f.placed.flows q is in
-            let lt = w.1 in
-            let v = contains_at order w.0 (o.all w.0 (omega (arith, lt, size))) in
-            let lv = v.1 in
-            let less : v.0 < length (map (place_at places) order) = omega (arith, lv, long) in (
-              v.0,
-              less,
-              get_or_default (map (place_at places) order) v.0 q [] less ∙ nth order v.0 lv ∙ ap (place_at places) v.2
-                  ∙ get_or_default places w.0 [] q lt ∙ w.2,
-            );
-        only = λ k lt.
-            let lk : k < length order = omega (arith, long, lt) in
-            let wk = o.only k lk in
-            subst (IsFlow p main) (sym (nth order k lk)) (f.placed.only (get_or order k 0) (omega (arith, wk, size)));
-        after = λ k giver lt gives.
-            let lk : k < length order = omega (arith, long, lt) in
-            let wk = o.only k lk in
-            let needed = f.whole (get_or order k 0) giver (omega (arith, wk, size)) (subst (λ q. Gives p main q giver) (nth order k lk) gives) in
-            λ i d less. stands order o k lk (get_or (needs_of p giver) i d) (needed i d less);
-      }
+  ordered_sequence order o = record {
+    once = λ j k less lt e.
+        let lk = inside k lt in
+        let lj : j < length order = omega (arith, lk, less) in
+        o.once j k less lk (one_number p main places f.placed (get_or order j 0) (get_or order k 0) (placed_at j lj) (placed_at k lk)
+        (sym (nth order j lj) ∙ e ∙ nth order k lk));
+    flows = λ q is.
+        let w = f.placed.flows q is in
+        let v = contains_at order w.0 (o.all w.0 (omega (arith, w.1, f.size))) in
+        let less : v.0 < length (map (place_at places) order) = omega (arith, v.1, long) in
+        let at = nth order v.0 v.1 ∙ ap (place_at places) v.2 ∙ get_or_default places w.0 [] q w.1 ∙ w.2 in
+        (v.0, less, get_or_default (map (place_at places) order) v.0 q [] less ∙ at);
+    only = λ k lt. subst (IsFlow p main) (sym (nth order k (inside k lt))) (f.placed.only (get_or order k 0) (placed_at k (inside k lt)));
+    after = λ k giver lt gives.
+        let lk = inside k lt in
+        let needed = f.whole (get_or order k 0) giver (placed_at k lk) (subst (λ q. Gives p main q giver) (nth order k lk) gives) in
+        λ i d less. stands k lk (get_or (needs_of p giver) i d) (needed i d less);
+  }
     where
-      stands : (order : List ℕ) → IsOrdered g order → (k : ℕ) → k < length order → (q : Sites)
-          → ((j : ℕ) × Contains (edges g (get_or order k 0)) j × (place_at places j ≡ q))
+      long : length (map (place_at places) order) ≡ length order
+      long = length_map (place_at places) order
+
+      inside : (k : ℕ) → k < length (map (place_at places) order) → k < length order
+      inside k lt = omega (arith, long)
+
+      placed_at : (k : ℕ) → k < length order → get_or order k 0 < length places
+      placed_at k lt = omega (arith, o.only k lt, f.size)
+
+      stands : (k : ℕ) → k < length order → (q : Sites) → ((j : ℕ) × Contains (edges g (get_or order k 0)) j × (place_at places j ≡ q))
           → IsAmongFirst p main (map (place_at places) order) k q
-      stands order o k lk q w =
+      stands k lk q w =
           let e = contains_at (edges g (get_or order k 0)) w.0 w.1 in
           let v = o.after k e.0 lk e.1 in
-          let below = v.1 in
-          (v.0, below, nth order v.0 (omega (arith, below, lk)) ∙ ap (place_at places) (v.2 ∙ e.2) ∙ w.2)
+          (v.0, v.1, nth order v.0 (omega (arith, v.1, lk)) ∙ ap (place_at places) (v.2 ∙ e.2) ∙ w.2)
 
   module _ (graph : IsGraph g) where
     leads : (a : ℕ) (rs : List ℕ) (b : ℕ) → a < length g → Follows g a rs b → Leads p main (place_at places a) (map (place_at places) rs) (place_at places b)
-    leads a [] b lt w = let size = f.size in f.sound a b (omega (arith, lt, size)) w
-    leads a (r ∷ rs) b lt w = let size = f.size in (f.sound a r (omega (arith, lt, size)) w.0, leads r rs b (edge_within g graph a r lt w.0) w.1)
+    leads a [] b lt w = f.sound a b (omega (arith, lt, f.size)) w
+    leads a (r ∷ rs) b lt w = (f.sound a r (omega (arith, lt, f.size)) w.0, leads r rs b (edge_within g graph a r lt w.0) w.1)
 
     loop_cycle : (xs : List ℕ) → IsLoop g xs → IsCycle p main (map (place_at places) xs)
     loop_cycle [] l = l
@@ -127,19 +117,13 @@ module _ (p : ProgramTree) (main : Identifier) (places : List Sites) (g : Graph)
     least_first [] l least = tt
     least_first (x ∷ xs) l least = λ q w before.
         let v = from_map (place_at places) xs q w in
-        let after : Contains (x ∷ xs) v.0 = (suc v.1.0, (let lt = v.1.1 in omega (arith, lt)), v.1.2) in
-        let le = least v.0 after in
-        let size = f.size in
+        let after : Contains (x ∷ xs) v.0 = in_tail x xs v.0 v.1 in
         let within = loop_within g graph (x ∷ xs) l v.0 after in
         let back : IsBefore (place_at places v.0) (place_at places x) = subst (λ r. IsBefore r (place_at places x)) (sym v.2) before in
         elim (cases_eq x v.0) [
-          | inl same ↦ not_both (place_at places x) (place_at places x)
-              (subst (λ k. IsBefore (place_at places k) (place_at places x)) (sym same) back)
-              (subst (λ k. IsBefore (place_at places k) (place_at places x)) (sym same) back)
-          | inr other ↦ elim (nat_split x v.0) [
-            | inl lt ↦ not_both (place_at places x) (place_at places v.0) (f.placed.rising x v.0 lt (omega (arith, within, size))) back
-            | inr ge ↦ absurd (other (omega (arith, le, ge)))
-          ]
+          | inl same ↦ not_itself (place_at places x) (subst (λ k. IsBefore (place_at places k) (place_at places x)) (sym same) back)
+          | inr other ↦ not_both (place_at places x) (place_at places v.0)
+              (f.placed.rising x v.0 (omega (arith, least v.0 after, other)) (omega (arith, within, f.size))) back
         ]
 
     pub turned_cycle : (old new : List ℕ) → IsLoop g old → AreTurned old new → IsCycleFromLeast p main (map (place_at places) new)
@@ -148,8 +132,7 @@ module _ (p : ProgramTree) (main : Identifier) (places : List Sites) (g : Graph)
         (loop_cycle new again, least_first new again t.least)
 
 pub turned_within : (g : Graph) → IsGraph g → (old new : List ℕ) → IsLoop g old → AreTurned old new → (k : ℕ) → Contains new k → k < length g
-turned_within g graph old new l t k w = loop_within g graph new (subst (IsLoop g) (sym t.is) (turned_loop g graph t.front t.back (subst (IsLoop g) t.was l))) k
-    w
+turned_within g graph old new l t = loop_within g graph new (subst (IsLoop g) (sym t.is) (turned_loop g graph t.front t.back (subst (IsLoop g) t.was l)))
 
 -- numbers from the least on, and then those before it
 pub turned_from : (numbers new : List ℕ) (k : ℕ) → k < length numbers → ((j : ℕ) → j < length numbers → get_or numbers k 0 ≤ get_or numbers j 0)
@@ -169,9 +152,7 @@ turned_from numbers new k lt least is =
             | inl back ↦ subst (λ l. Contains l j) (sym whole) (Contains-append_right (take k numbers) (drop k numbers) j back)
             | inr front ↦ subst (λ l. Contains l j) (sym whole) (Contains-append_left (take k numbers) (drop k numbers) j front)
           ]) in
-          let le = least v.0 v.1 in
-          let e = v.2 in
-          omega (arith, le, e, head);
+          omega (arith, least v.0 v.1, v.2, head);
     }
 
 take_whole : (n : ℕ) (xs : List ℕ) → length xs ≤ n → take n xs ≡ xs
@@ -181,4 +162,4 @@ take_whole (suc n) [] le = refl
 take_whole (suc n) (x ∷ xs) le = ap (λ l. x ∷ l) (take_whole n xs (omega (arith, le)))
 
 pub rest_whole : (xs : List ℕ) (k : ℕ) → take (length xs - k) (drop k xs) ≡ drop k xs
-rest_whole xs k = take_whole (length xs - k) (drop k xs) (let n = length-drop k xs in omega (arith, n))
+rest_whole xs k = take_whole (length xs - k) (drop k xs) (omega (arith, length-drop k xs))

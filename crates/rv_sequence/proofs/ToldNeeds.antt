@@ -1,7 +1,7 @@
 -- Of an expression that is free or on a clock, what is needed by the clocks that operands tell is what is needed.
 use Rattle.std.proofs.Common.{◌≡◌, ℕ, ◌++◌, refl, Option}
-use Rattle.rv_tree.specs.{Tree.Tree, Tree.Node, Tree.Form, Tree.True, Tree.False, Tree.Number, Tree.Named, Tree.Not, Tree.Minus, Tree.Pre, Tree.Current}
-use Rattle.rv_tree.specs.{Tree.When, Tree.Binary, Tree.If, Tree.AtMostOne, Tree.Call, Tree.Trees, Tree.None, Tree.More, Tree.NodeTree, Places.site_of}
+use Rattle.rv_tree.specs.Tree.{Tree, Node, Form, Not, Minus, Current, When, Binary, If, AtMostOne, Trees, None, More, NodeTree}
+use Rattle.rv_tree.specs.Places.{site_of}
 use Rattle.rv_types.specs.Clocks.{seen, meet, pace, form_pace, pace_of_all}
 use Rattle.rv_types.specs.{declared.typed.Clock.TheVariants.Base, Instances.clock_of, Instances.taken, ToldPaces.IsTimed, ToldPaces.told_clock}
 use Rattle.rv_types.proofs.ToldPaces.{seen_is, current_is, joined, operands, when_is, told_is}
@@ -14,13 +14,8 @@ module _ (n : NodeTree) (h : Here) where
     told_needs (Node at site form) t = form_told_needs site form t
 
     form_told_needs : (site : Option ℕ) (form : Form) → IsTimed (form_pace n form) → form_needed_by n h (told_clock n) site form ≡ form_needed n h site form
-    form_told_needs site True t = refl
-    form_told_needs site False t = refl
-    form_told_needs site (Number v) t = refl
-    form_told_needs site (Named x) t = refl
     form_told_needs site (Not e) t = seen_needs e t
     form_told_needs site (Minus e) t = seen_needs e t
-    form_told_needs site (Pre e) t = refl
     form_told_needs site (Current e) t =
         let s = current_is n (seen (pace n e)) t in
         let inside = seen_needs e s in
@@ -31,18 +26,13 @@ module _ (n : NodeTree) (h : Here) where
         λ i. inside i ++ listed (clock_number h (clock_of n c.text))
     form_told_needs site (Binary o a b) t =
         let s = operands o (seen (pace n a)) (seen (pace n b)) t in
-        let left = seen_needs a s.left in
-        let right = seen_needs b s.right in
-        λ i. left i ++ right i
+        λ i. seen_needs a s.left i ++ seen_needs b s.right i
     form_told_needs site (If a b c) t =
         let s = joined (seen (pace n a)) (meet (seen (pace n b)) (seen (pace n c))) t in
         let r = joined (seen (pace n b)) (seen (pace n c)) s.right in
-        let condition = seen_needs a s.left in
-        let first = seen_needs b r.left in
-        let second = seen_needs c r.right in
-        λ i. condition i ++ (first i ++ second i)
+        λ i. seen_needs a s.left i ++ (seen_needs b r.left i ++ seen_needs c r.right i)
     form_told_needs site (AtMostOne es) t = all_told_needs es t
-    form_told_needs site (Call f es) t = refl
+    form_told_needs site _ t = refl
 
     seen_needs : (e : Tree) → IsTimed (seen (pace n e)) → told_needed n h e ≡ needed n h e
     seen_needs (Node at site form) t = form_told_needs site form (seen_is (form_pace n form) t).0
@@ -51,6 +41,4 @@ module _ (n : NodeTree) (h : Here) where
     all_told_needs None t = refl
     all_told_needs (More e es) t =
         let s = joined (seen (pace n e)) (pace_of_all n es) t in
-        let one = seen_needs e s.left in
-        let rest = all_told_needs es s.right in
-        λ i. one i ++ rest i
+        λ i. seen_needs e s.left i ++ all_told_needs es s.right i

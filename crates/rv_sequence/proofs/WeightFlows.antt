@@ -1,13 +1,12 @@
 -- The flows of a program that has a sequence have weights, each of them one.
 use Rattle.std.proofs.Common.{◌≡◌, ℕ, zero, suc, ◌+◌, ◌<◌, ◌≤◌, ◌⊎◌, inl, inr, true, false, ◌&&◌, cond, List, [], ◌∷◌, ◌++◌, length, get_or, refl, sym, ◌∙◌, ap}
-use Rattle.std.proofs.Common.{subst, arith, Option, length-append, unwrap_or}
+use Rattle.std.proofs.Common.{subst, arith, Option, unwrap_or}
 use Rattle.std.proofs.lemmas.List.{append_assoc, get_or_default}
 use Rattle.std.proofs.lemmas.List.Elements.{All-contains, Contains-get_or, Contains-append_left, Contains-append_right}
 use Rattle.std.proofs.{lemmas.Option.slice_get_within, lemmas.Bool.cases_eq, lemmas.Bool.Decides.eqb_tells}
 use Rattle.std.specs.List.{Contains, All}
-use Rattle.rv_tree.specs.Tree.{Tree, Node, Form, True, False, Number, Named, Not, Minus, Pre, Current, When, Binary, If, AtMostOne, Call, EquationTree}
-use Rattle.rv_tree.specs.Tree.{NodeTree, ProgramTree}
-use Rattle.rv_tree.specs.{declared.tree.Decl.Decl, declared.tree.Op.Op, Places.Identifier, Places.Sites, Places.flows, Places.names, Places.is_flow}
+use Rattle.rv_tree.specs.Tree.{Tree, Node, Form, Named, Minus, Current, When, Binary, If, Call, EquationTree, NodeTree, ProgramTree}
+use Rattle.rv_tree.specs.{declared.tree.Decl.Decl, declared.tree.Op.Op, Places.Identifier, Places.Sites, Places.flows, Places.is_flow}
 use Rattle.rv_tree.specs.declared.tree.Op.TheVariants as op
 use Rattle.rv_types.specs.Instances.{CallTree, calls, calls_in, form_calls, calls_in_equations, calls_in_assertions, Right, Body, Output, IsRight, alone}
 use Rattle.rv_types.specs.Instances.{in_order, Instance, place, callee, clock_taken, clock_of, clock_of_arguments, absolute, output_place, node_of, IsInstance}
@@ -20,7 +19,7 @@ use Rattle.rv_instances.specs.{declared.answer.Instance.Instance as Numbered, Al
 use Rattle.rv_instances.proofs.{CallsInside.calls_nested, ExpandedLaws.node_in, Flowing.site_itself, Flowing.flow_of_giver, GiverLaws.flow_giver}
 use Rattle.rv_instances.proofs.{GiverLaws.one_giver, Lists.length_map, Lists.nat_split}
 use Rattle.rv_types.proofs.TypedParts.{IsTyped, operands_typed, one_constant, branches_typed, minus_typed, current_typed, when_typed, call_output, right_calls}
-use Rattle.rv_types.proofs.{Members.among_contains, CallsWithin.in_argument, DifferentPlaces.same_self}
+use Rattle.rv_types.proofs.{Members.among_contains, CallsWithin.in_argument, DifferentPlaces.same_self, NamePlaces.output_within}
 use Rattle.rv_sequence.proofs.WeightReads.{IsScaled, Reads, FormReads, same_weight}
 
 -- Places.
@@ -39,69 +38,51 @@ place_other (x ∷ xs) (y ∷ ys) h = elim (eqb_tells x y) [
 module _ (p : ProgramTree) (i : Instance) (P : Sites → Type 0) where
   product_scaled : (at : ℕ) (site : Option ℕ) (o : Op) (a b : Tree) → IsTyped (node_scope p i.node) (Node at site (Binary o a b)) → IsScaled p i P o a b
   product_scaled at site op.Times a b w = one_constant (node_scope p i.node) at site a b w
-  product_scaled at site op.Arrow a b w = tt
-  product_scaled at site op.Implies a b w = tt
-  product_scaled at site op.Or a b w = tt
-  product_scaled at site op.Xor a b w = tt
-  product_scaled at site op.And a b w = tt
-  product_scaled at site op.Equal a b w = tt
-  product_scaled at site op.Differs a b w = tt
-  product_scaled at site op.Less a b w = tt
-  product_scaled at site op.AtMost a b w = tt
-  product_scaled at site op.Greater a b w = tt
-  product_scaled at site op.AtLeast a b w = tt
-  product_scaled at site op.Plus a b w = tt
-  product_scaled at site op.Minus a b w = tt
-  product_scaled at site op.Slash a b w = tt
-  product_scaled at site op.Div a b w = tt
-  product_scaled at site op.Mod a b w = tt
+  product_scaled at site _ a b w = tt
 
   -- the calls of an expression are calls of the node
   abbrev pub IsInside : List CallTree → Type 0
   IsInside cs = (c : CallTree) → Contains cs c → Contains (calls i.node) c
+
+  -- the same of the first part of a list, and of the second
+  on_left : {X : Type 0} {Q : X → Type 0} (xs ys : List X) → ((x : X) → Contains (xs ++ ys) x → Q x) → (x : X) → Contains xs x → Q x
+  on_left xs ys all x w = all x (Contains-append_left xs ys x w)
+
+  on_right : {X : Type 0} {Q : X → Type 0} (xs ys : List X) → ((x : X) → Contains (xs ++ ys) x → Q x) → (x : X) → Contains ys x → Q x
+  on_right xs ys all x w = all x (Contains-append_right xs ys x w)
 
   -- what the expression needs has the property
   mutual
     pub needs_read : (k : Clock) (e : Tree) → IsTyped (node_scope p i.node) e → IsInside (calls_in e) → ((q : Sites) → Contains (needs p i k e) q → P q)
         → Reads p i P e
     needs_read k (Node at site form) w v all = form_read k at site form w v
-        (λ q u. all q (Contains-append_right (flow_of (absolute i k)) (form_needs p i k site form) q u))
+        (on_right (flow_of (absolute i k)) (form_needs p i k site form) all)
 
     form_read : (k : Clock) (at : ℕ) (site : Option ℕ) (form : Form) → IsTyped (node_scope p i.node) (Node at site form) → IsInside (form_calls at site form)
         → ((q : Sites) → Contains (form_needs p i k site form) q → P q) → FormReads p i P at site form
-    form_read k at site True w v all = tt
-    form_read k at site False w v all = tt
-    form_read k at site (Number n) w v all = tt
     form_read k at site (Named x) w v all = λ e. all (place i x) (subst (λ b. Contains (cond b (place i x ∷ []) []) (place i x)) (sym e) (0, omega arith, refl))
-    form_read k at site (Not e) w v all = tt
     form_read k at site (Minus e) w v all = needs_read k e (minus_typed (node_scope p i.node) at site e w) v all
-    form_read k at site (Pre e) w v all = tt
     form_read k at site (Current e) w v all = needs_read (clock_taken i Base e) e (current_typed (node_scope p i.node) at site e w) v all
     form_read k at site (When e c) w v all = needs_read (clock_of i.node c.text) e (when_typed (node_scope p i.node) at site e c w) v all
     form_read k at site (Binary o a b) w v all =
         let t = operands_typed (node_scope p i.node) at site o a b w in (
           product_scaled at site o a b w,
-          needs_read k a t.0 (λ c u. v c (Contains-append_left (calls_in a) (calls_in b) c u))
-              (λ q u. all q (Contains-append_left (needs p i k a) (needs p i k b) q u)),
-          needs_read k b t.1 (λ c u. v c (Contains-append_right (calls_in a) (calls_in b) c u))
-              (λ q u. all q (Contains-append_right (needs p i k a) (needs p i k b) q u)),
+          needs_read k a t.0 (on_left (calls_in a) (calls_in b) v) (on_left (needs p i k a) (needs p i k b) all),
+          needs_read k b t.1 (on_right (calls_in a) (calls_in b) v) (on_right (needs p i k a) (needs p i k b) all),
         )
     form_read k at site (If j a b) w v all =
-        let t = branches_typed (node_scope p i.node) at site j a b w in (
-          needs_read k a t.0 (λ c u. v c (Contains-append_right (calls_in j) (calls_in a ++ calls_in b) c (Contains-append_left (calls_in a) (calls_in b) c u)))
-              (λ q u. all q (Contains-append_right (needs p i k j) (needs p i k a ++ needs p i k b) q
-              (Contains-append_left (needs p i k a) (needs p i k b) q u))),
-          needs_read k b t.1 (λ c u. v c (Contains-append_right (calls_in j) (calls_in a ++ calls_in b) c
-              (Contains-append_right (calls_in a) (calls_in b) c u)))
-              (λ q u. all q (Contains-append_right (needs p i k j) (needs p i k a ++ needs p i k b) q
-              (Contains-append_right (needs p i k a) (needs p i k b) q u))),
+        let t = branches_typed (node_scope p i.node) at site j a b w in
+        let inside = on_right (calls_in j) (calls_in a ++ calls_in b) v in
+        let rest = on_right (needs p i k j) (needs p i k a ++ needs p i k b) all in (
+          needs_read k a t.0 (on_left (calls_in a) (calls_in b) inside) (on_left (needs p i k a) (needs p i k b) rest),
+          needs_read k b t.1 (on_right (calls_in a) (calls_in b) inside) (on_right (needs p i k a) (needs p i k b) rest),
         )
-    form_read k at site (AtMostOne es) w v all = tt
     form_read k at site (Call f es) w v all = (
       v (record { at = at; site = unwrap_or site 0; name = f; args = es }) (0, omega arith, refl),
       call_output p i.node at site f es w,
       all (output_place p i (unwrap_or site 0) f 0) (0, omega arith, refl),
     )
+    form_read k at site _ w v all = tt
 
   -- flows and the outputs of calls have it
   module _ (flow : (x : Identifier) → is_flow i.node x ≡ true → P (place i x))
@@ -112,34 +93,26 @@ module _ (p : ProgramTree) (i : Instance) (P : Sites → Type 0) where
 
       form_flows : (at : ℕ) (site : Option ℕ) (form : Form) → IsTyped (node_scope p i.node) (Node at site form) → IsInside (form_calls at site form)
           → FormReads p i P at site form
-      form_flows at site True w v = tt
-      form_flows at site False w v = tt
-      form_flows at site (Number n) w v = tt
       form_flows at site (Named x) w v = flow x
-      form_flows at site (Not e) w v = tt
       form_flows at site (Minus e) w v = flows_read e (minus_typed (node_scope p i.node) at site e w) v
-      form_flows at site (Pre e) w v = tt
       form_flows at site (Current e) w v = flows_read e (current_typed (node_scope p i.node) at site e w) v
       form_flows at site (When e c) w v = flows_read e (when_typed (node_scope p i.node) at site e c w) v
       form_flows at site (Binary o a b) w v =
           let t = operands_typed (node_scope p i.node) at site o a b w in (
             product_scaled at site o a b w,
-            flows_read a t.0 (λ c u. v c (Contains-append_left (calls_in a) (calls_in b) c u)),
-            flows_read b t.1 (λ c u. v c (Contains-append_right (calls_in a) (calls_in b) c u)),
+            flows_read a t.0 (on_left (calls_in a) (calls_in b) v),
+            flows_read b t.1 (on_right (calls_in a) (calls_in b) v),
           )
       form_flows at site (If j a b) w v =
-          let t = branches_typed (node_scope p i.node) at site j a b w in (
-            flows_read a t.0 (λ c u. v c (Contains-append_right (calls_in j) (calls_in a ++ calls_in b) c
-                (Contains-append_left (calls_in a) (calls_in b) c u))),
-            flows_read b t.1 (λ c u. v c (Contains-append_right (calls_in j) (calls_in a ++ calls_in b) c
-                (Contains-append_right (calls_in a) (calls_in b) c u))),
-          )
-      form_flows at site (AtMostOne es) w v = tt
+          let t = branches_typed (node_scope p i.node) at site j a b w in
+          let inside = on_right (calls_in j) (calls_in a ++ calls_in b) v in
+          (flows_read a t.0 (on_left (calls_in a) (calls_in b) inside), flows_read b t.1 (on_right (calls_in a) (calls_in b) inside))
       form_flows at site (Call f es) w v =
           let c : CallTree = record { at = at; site = unwrap_or site 0; name = f; args = es } in
           let there = v c (0, omega arith, refl) in
           let one = call_output p i.node at site f es w in
           (there, one, output c there one)
+      form_flows at site _ w v = tt
 
 module _ (p : ProgramTree) (main : Identifier) (instances : List Numbered) (known : IsExpanded p main instances) where
   -- an output of a call is a flow
@@ -148,11 +121,7 @@ module _ (p : ProgramTree) (main : Identifier) (instances : List Numbered) (know
   output_flow i c j is w lt =
       let n = node_of p c.name in
       let k = length n.inputs + j in
-      let a = length_map (λ (d : Decl). d.name.text) n.inputs in
-      let b = length_map (λ (d : Decl). d.name.text) n.outputs in
-      let s = length-append (names n.inputs) (names n.outputs) in
-      let t = length-append (names n.inputs ++ names n.outputs) (names n.locals) in
-      let less : k < length (flows n) = omega (arith, a, b, s, t, lt) in
+      let less : k < length (flows n) = output_within n j lt in
       let inst = is_callee c is w in
       let there = node_in p main instances known (callee p i c) inst in (
         callee p i c,
@@ -168,8 +137,7 @@ module _ (p : ProgramTree) (main : Identifier) (instances : List Numbered) (know
   -- what an expression reads are flows
   pub reads_flows : (i : Instance) (e : Tree) → IsInstance p main i → IsTyped (node_scope p i.node) e → IsInside p i (IsFlow p main) (calls_in e)
       → Reads p i (IsFlow p main) e
-  reads_flows i e is w v =
-      flows_read p i (IsFlow p main) (λ x e. own_flow i x is e) (λ c u one. output_flow i c 0 is u (omega (arith, one))) e w v
+  reads_flows i e is w v = flows_read p i (IsFlow p main) (λ x e. own_flow i x is e) (λ c u one. output_flow i c 0 is u (omega (arith, one))) e w v
 
   fed : AreFed p
   fed n c j e there w arg = (known.well.formed n there).no_more c j e w arg
@@ -213,19 +181,15 @@ module _ (p : ProgramTree) (main : Identifier) (instances : List Numbered) (know
 
   -- an output that is given is one of its node
   abbrev pub IsOutput : Giver → Type 0
-  IsOutput (Given j) = Unit {0}
-  IsOutput (Of i k (Body e)) = Unit {0}
   IsOutput (Of i k (Output c j)) = j < length (node_of p c.name).outputs
+  IsOutput _ = Unit {0}
 
   pub giver_output : (q : Sites) (g : Giver) → Gives p main q g → IsOutput g
-  giver_output q _ (given j lt e) = tt
-  giver_output q _ (by_equation i x (Body b) is right e) = tt
   giver_output q _ (by_equation i x (Output c j) is right e) =
       let t = (known.well.typed i.node (node_in p main instances known i is)).output x c j right in
-      let less = slice_get_within (decl_kinds p (node_of p c.name).outputs) j t.0 t.1 in
       let size = length_map (λ (d : Decl). kind_in_program p d.kind) (node_of p c.name).outputs in
-      omega (arith, less, size)
-  giver_output q _ (by_call i c j e is w arg same) = tt
+      omega (arith, slice_get_within (decl_kinds p (node_of p c.name).outputs) j t.0 t.1, size)
+  giver_output q _ _ = tt
 
   giver_instance : (q : Sites) (i : Instance) (k : Clock) (r : Right) (g : Giver) → g ≡ Of i k r → Gives p main q g → IsInstance p main i
   giver_instance q i k r _ is (given j lt e) = cc
@@ -280,7 +244,7 @@ module _ (p : ProgramTree) (main : Identifier) (instances : List Numbered) (know
           let v = flow_giver p main instances known q (ordered.only k within) in
           let reads = giver_reads (IsAmongFirst p main sequence k) q v.0 v.1 (ordered.after k v.0 within v.1) in
           let before : (r : Sites) → IsAmongFirst p main sequence k r → flows r ≡ others r =
-          λ r w. let less = w.1 in subst (λ s. flows s ≡ others s) w.2 (agree_to flows others f g n (omega (arith, le)) w.0 (omega (arith, less, same))) in
+          λ r w. subst (λ s. flows s ≡ others s) w.2 (agree_to flows others f g n (omega (arith, le)) w.0 (omega (arith, w.1, same))) in
           f q v.0 v.1 ∙ same_given (IsAmongFirst p main sequence k) flows others before v.0 reads ∙ sym (g q v.0 v.1)
     ]
 
@@ -338,12 +302,8 @@ module _ (p : ProgramTree) (main : Identifier) (instances : List Numbered) (know
             let here : Gives p main (get_or sequence k []) g = subst (λ r. Gives p main r g) (sym w.2) gives in
             let reads = giver_reads (IsAmongFirst p main sequence k) (get_or sequence k []) g here (ordered.after k g w.1 here) in
             let before : (r : Sites) → IsAmongFirst p main sequence k r → weights_to k r ≡ weights_to (length sequence) r =
-            λ r v.
-            let less = v.1 in
-            let lt = w.1 in
-            subst (λ s. weights_to k s ≡ weights_to (length sequence) s) v.2
-            (stays k v.0 (omega (arith, lt)) less ∙ sym (stays (length sequence) v.0 (omega arith) (omega (arith, lt, less)))) in
+            λ r v. subst (λ s. weights_to k s ≡ weights_to (length sequence) s) v.2
+            (stays k v.0 (omega (arith, w.1)) v.1 ∙ sym (stays (length sequence) v.0 (omega arith) (omega (arith, w.1, v.1)))) in
             ap (weights_to (length sequence)) (sym w.2)
-            ∙ stays (length sequence) k (omega arith) w.1
-            ∙ ap (weight_of_giver p (weights_to k)) same
+            ∙ stays (length sequence) k (omega arith) w.1 ∙ ap (weight_of_giver p (weights_to k)) same
             ∙ same_given (IsAmongFirst p main sequence k) (weights_to k) (weights_to (length sequence)) before g reads

@@ -4,8 +4,7 @@ use Rattle.std.proofs.Common.{Option, Some, nat_abs, None as Nothing, unwrap_or}
 use Rattle.std.proofs.Math.Nat.{mul-le-mul_left}
 use Rattle.std.specs.List.{Contains}
 use Rattle.rv_base.specs.{declared.value.Value.Value, Limits.too_heavy}
-use Rattle.rv_tree.specs.Tree.{Tree, Node, Form, True, False, Number, Named, Not, Minus, Pre, Current, When, Binary, If, AtMostOne, Call, Trees, None, More}
-use Rattle.rv_tree.specs.Tree.{ProgramTree}
+use Rattle.rv_tree.specs.Tree.{Tree, Node, Form, Named, Not, Minus, Current, When, Binary, If, AtMostOne, Call, Trees, None, More, ProgramTree}
 use Rattle.rv_tree.specs.{declared.tree.Op.Op, Places.Identifier, Places.Sites, Places.is_flow}
 use Rattle.rv_tree.specs.declared.tree.Op.TheVariants as op
 use Rattle.rv_types.specs.Constants.{whole_in, value_of, form_value, form_weight}
@@ -24,9 +23,7 @@ scaled (suc k) v = elim (nat_split too_heavy v) [
   | inl above ↦
       let b = mul-le-mul_left (suc k) (let h : too_heavy ≤ v = omega (arith, above) in h) in
       let is : min v too_heavy ≡ too_heavy = omega (arith, above) in
-      let c : suc k * min v too_heavy ≡ suc k * too_heavy = ap (λ n. suc k * n) is in
-      let d : too_heavy ≤ suc k * too_heavy = mul_at_least k in
-      omega (arith, b, c, d)
+      omega (arith, b, ap (λ (n : ℕ). suc k * n) is, mul_at_least k)
   | inr below ↦ ap (λ n. min (suc k * n) too_heavy) (let e : v ≡ min v too_heavy = omega (arith, below) in e)
 ]
   where
@@ -50,35 +47,14 @@ module _ (s t : Scope) (same : (x : Identifier) → s.fixed x ≡ t.fixed x) whe
     same_constant (Node at site form) = same_form form
 
     same_form : (form : Form) → is_constant_form s form ≡ is_constant_form t form
-    same_form True = refl
-    same_form False = refl
-    same_form (Number n) = refl
     same_form (Named x) = same x
     same_form (Not e) = same_constant e
     same_form (Minus e) = same_constant e
-    same_form (Pre e) = refl
-    same_form (Current e) = refl
-    same_form (When e c) = refl
     same_form (Binary op.Arrow a b) = refl
-    same_form (Binary op.Implies a b) = λ i. same_constant a i && same_constant b i
-    same_form (Binary op.Or a b) = λ i. same_constant a i && same_constant b i
-    same_form (Binary op.Xor a b) = λ i. same_constant a i && same_constant b i
-    same_form (Binary op.And a b) = λ i. same_constant a i && same_constant b i
-    same_form (Binary op.Equal a b) = λ i. same_constant a i && same_constant b i
-    same_form (Binary op.Differs a b) = λ i. same_constant a i && same_constant b i
-    same_form (Binary op.Less a b) = λ i. same_constant a i && same_constant b i
-    same_form (Binary op.AtMost a b) = λ i. same_constant a i && same_constant b i
-    same_form (Binary op.Greater a b) = λ i. same_constant a i && same_constant b i
-    same_form (Binary op.AtLeast a b) = λ i. same_constant a i && same_constant b i
-    same_form (Binary op.Plus a b) = λ i. same_constant a i && same_constant b i
-    same_form (Binary op.Minus a b) = λ i. same_constant a i && same_constant b i
-    same_form (Binary op.Times a b) = λ i. same_constant a i && same_constant b i
-    same_form (Binary op.Slash a b) = λ i. same_constant a i && same_constant b i
-    same_form (Binary op.Div a b) = λ i. same_constant a i && same_constant b i
-    same_form (Binary op.Mod a b) = λ i. same_constant a i && same_constant b i
+    same_form (Binary _ a b) = λ i. same_constant a i && same_constant b i
     same_form (If i a b) = λ j. same_constant i j && (same_constant a j && same_constant b j)
     same_form (AtMostOne es) = all_same es
-    same_form (Call f es) = refl
+    same_form _ = refl
 
     all_same : (es : Trees) → are_constant s es ≡ are_constant t es
     all_same None = refl
@@ -99,20 +75,15 @@ module _ (p : ProgramTree) (i : Instance) (P : Sites → Type 0) where
     Reads (Node at site form) = FormReads at site form
 
     pub FormReads : ℕ → Option ℕ → Form → Type 0
-    FormReads at site True = Unit {0}
-    FormReads at site False = Unit {0}
-    FormReads at site (Number n) = Unit {0}
     FormReads at site (Named x) = is_flow i.node x ≡ true → P (place i x)
-    FormReads at site (Not e) = Unit {0}
     FormReads at site (Minus e) = Reads e
-    FormReads at site (Pre e) = Unit {0}
     FormReads at site (Current e) = Reads e
     FormReads at site (When e c) = Reads e
     FormReads at site (Binary o a b) = IsScaled o a b × Reads a × Reads b
     FormReads at site (If c a b) = Reads a × Reads b
-    FormReads at site (AtMostOne es) = Unit {0}
     FormReads at site (Call f es) = Contains (calls i.node) (record { at = at; site = unwrap_or site 0; name = f; args = es })
         × (length (node_of p f).outputs ≡ 1) × P (output_place p i (unwrap_or site 0) f 0)
+    FormReads at site _ = Unit {0}
 
 -- Weights of the same flows are the same.
 module _ (p : ProgramTree) (i : Instance) (P : Sites → Type 0) (flows others : Sites → ℕ) (same : (q : Sites) → P q → flows q ≡ others q) where
@@ -121,18 +92,13 @@ module _ (p : ProgramTree) (i : Instance) (P : Sites → Type 0) (flows others :
     same_weight (Node at site form) r = form_same at site form r
 
     form_same : (at : ℕ) (site : Option ℕ) (form : Form) → FormReads p i P at site form → exact_weight p flows i site form ≡ exact_weight p others i site form
-    form_same at site True r = refl
-    form_same at site False r = refl
-    form_same at site (Number n) r = refl
     form_same at site (Named x) r = named (is_flow i.node x) refl
       where
-        named : (b : Bool) → is_flow i.node x ≡ b → cond b (flows (place i x)) (nat_abs (whole_in (constant_value p x))) ≡ cond b (others (place i x))
-            (nat_abs (whole_in (constant_value p x)))
+        named : (b : Bool) → is_flow i.node x ≡ b
+            → cond b (flows (place i x)) (nat_abs (whole_in (constant_value p x))) ≡ cond b (others (place i x)) (nat_abs (whole_in (constant_value p x)))
         named true e = same (place i x) (r e)
         named false e = refl
-    form_same at site (Not e) r = refl
     form_same at site (Minus e) r = same_weight e r
-    form_same at site (Pre e) r = refl
     form_same at site (Current e) r = ap (max 1) (same_weight e r)
     form_same at site (When e c) r = same_weight e r
     form_same at site (Binary op.Times a b) r = λ j. cond (is_constant (node_scope p i.node) a) (constant_size p a * same_weight b r.2 j)
@@ -140,22 +106,9 @@ module _ (p : ProgramTree) (i : Instance) (P : Sites → Type 0) (flows others :
     form_same at site (Binary op.Plus a b) r = λ j. same_weight a r.1 j + same_weight b r.2 j
     form_same at site (Binary op.Minus a b) r = λ j. same_weight a r.1 j + same_weight b r.2 j
     form_same at site (Binary op.Arrow a b) r = λ j. max (same_weight a r.1 j) (same_weight b r.2 j)
-    form_same at site (Binary op.Implies a b) r = refl
-    form_same at site (Binary op.Or a b) r = refl
-    form_same at site (Binary op.Xor a b) r = refl
-    form_same at site (Binary op.And a b) r = refl
-    form_same at site (Binary op.Equal a b) r = refl
-    form_same at site (Binary op.Differs a b) r = refl
-    form_same at site (Binary op.Less a b) r = refl
-    form_same at site (Binary op.AtMost a b) r = refl
-    form_same at site (Binary op.Greater a b) r = refl
-    form_same at site (Binary op.AtLeast a b) r = refl
-    form_same at site (Binary op.Slash a b) r = refl
-    form_same at site (Binary op.Div a b) r = refl
-    form_same at site (Binary op.Mod a b) r = refl
     form_same at site (If c a b) r = λ j. max (same_weight a r.0 j) (same_weight b r.1 j)
-    form_same at site (AtMostOne es) r = refl
     form_same at site (Call f es) r = same (output_place p i (unwrap_or site 0) f 0) r.2
+    form_same at site _ r = refl
 
 -- what is known of an expression where it is constant
 constant_known : (s : Scope) (k : Identifier → Value) (e : Tree) → is_constant s e ≡ true
@@ -171,9 +124,8 @@ constant_unknown s k (Node at site form) e = ap (λ b. cond b (Some (record { va
     e
 
 product_capped : (p : ProgramTree) (i : Instance) (w : Weighing) → ((x : Identifier) → w.scope.fixed x ≡ is_fixed i.node x) → w.known ≡ constant_value p
-    → (a b : Tree) (v u x y : ℕ)
-    → (is_constant (node_scope p i.node) a || is_constant (node_scope p i.node) b) ≡ true → min v too_heavy ≡ min x too_heavy
-    → min u too_heavy ≡ min y too_heavy
+    → (a b : Tree) (v u x y : ℕ) → (is_constant (node_scope p i.node) a || is_constant (node_scope p i.node) b) ≡ true
+    → min v too_heavy ≡ min x too_heavy → min u too_heavy ≡ min y too_heavy
     → min (product_of (constant_part w.scope w.known a) (constant_part w.scope w.known b) v u) too_heavy ≡ min
     (cond (is_constant (node_scope p i.node) a) (constant_size p a * y) (constant_size p b * x)) too_heavy
 product_capped p i w fixed known a b v u x y one e f =
@@ -192,14 +144,12 @@ product_capped p i w fixed known a b v u x y one e f =
         let left = constant_known w.scope w.known a c in
         ap (λ o. min (product_of o (constant_part w.scope w.known b) v u) too_heavy) left.1
         ∙ ap (λ (z : Value). min (nat_abs (whole_in z) * u) too_heavy) left.2
-        ∙ ap (λ n. min (n * u) too_heavy) (size a)
-        ∙ times_capped (constant_size p a) u y f
+        ∙ ap (λ n. min (n * u) too_heavy) (size a) ∙ times_capped (constant_size p a) u y f
     chosen false true c d one =
         let right = constant_known w.scope w.known b d in
         (λ j. min (product_of (constant_unknown w.scope w.known a c j) (right.1 j) v u) too_heavy)
         ∙ ap (λ (z : Value). min (nat_abs (whole_in z) * v) too_heavy) right.2
-        ∙ ap (λ n. min (n * v) too_heavy) (size b)
-        ∙ times_capped (constant_size p b) v x e
+        ∙ ap (λ n. min (n * v) too_heavy) (size b) ∙ times_capped (constant_size p b) v x e
     chosen false false c d one = cc
 
 -- Tables that count to 2^40 + 1 give the weights that do.
@@ -214,18 +164,13 @@ module _ (p : ProgramTree) (i : Instance) (P : Sites → Type 0) (flows : Sites 
 
     form_capped : (at : ℕ) (site : Option ℕ) (form : Form) → FormReads p i P at site form
         → min (form_weight_in w site form) too_heavy ≡ min (exact_weight p flows i site form) too_heavy
-    form_capped at site True r = refl
-    form_capped at site False r = refl
-    form_capped at site (Number n) r = refl
     form_capped at site (Named x) r = ap (λ b. min (cond b (nat_abs (whole_in (w.known x))) (w.flow x)) too_heavy) (fixed x) ∙ named (is_flow i.node x) refl
       where
         named : (b : Bool) → is_flow i.node x ≡ b → min (cond (not b) (nat_abs (whole_in (w.known x))) (w.flow x)) too_heavy ≡ min
             (cond b (flows (place i x)) (nat_abs (whole_in (constant_value p x)))) too_heavy
         named true e = flow x e (r e)
         named false e = ap (λ (k : Identifier → Value). min (nat_abs (whole_in (k x))) too_heavy) known
-    form_capped at site (Not e) r = refl
     form_capped at site (Minus e) r = capped_weight e r
-    form_capped at site (Pre e) r = refl
     form_capped at site (Current e) r = max_capped 1 (weight_in w e) 1 (weight p flows i e) refl (capped_weight e r)
     form_capped at site (When e c) r = capped_weight e r
     form_capped at site (Binary op.Times a b) r = product_capped p i w fixed known a b (weight_in w a) (weight_in w b) (weight p flows i a)
@@ -236,20 +181,7 @@ module _ (p : ProgramTree) (i : Instance) (P : Sites → Type 0) (flows : Sites 
         (capped_weight b r.2)
     form_capped at site (Binary op.Arrow a b) r = max_capped (weight_in w a) (weight_in w b) (weight p flows i a) (weight p flows i b) (capped_weight a r.1)
         (capped_weight b r.2)
-    form_capped at site (Binary op.Implies a b) r = refl
-    form_capped at site (Binary op.Or a b) r = refl
-    form_capped at site (Binary op.Xor a b) r = refl
-    form_capped at site (Binary op.And a b) r = refl
-    form_capped at site (Binary op.Equal a b) r = refl
-    form_capped at site (Binary op.Differs a b) r = refl
-    form_capped at site (Binary op.Less a b) r = refl
-    form_capped at site (Binary op.AtMost a b) r = refl
-    form_capped at site (Binary op.Greater a b) r = refl
-    form_capped at site (Binary op.AtLeast a b) r = refl
-    form_capped at site (Binary op.Slash a b) r = refl
-    form_capped at site (Binary op.Div a b) r = refl
-    form_capped at site (Binary op.Mod a b) r = refl
     form_capped at site (If c a b) r = max_capped (weight_in w a) (weight_in w b) (weight p flows i a) (weight p flows i b) (capped_weight a r.0)
         (capped_weight b r.1)
-    form_capped at site (AtMostOne es) r = refl
     form_capped at site (Call f es) r = output (record { at = at; site = unwrap_or site 0; name = f; args = es }) r.0 r.1 r.2
+    form_capped at site _ r = refl

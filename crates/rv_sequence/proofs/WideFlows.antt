@@ -2,8 +2,8 @@
 use Rattle.std.proofs.Common.{◌≡◌, ℕ, inl, inr, cond, nat_lt, List, [], ◌∷◌, ◌++◌, length, refl, sym, ap, subst, arith, Option, unwrap_or}
 use Rattle.std.proofs.lemmas.List.Elements.{Contains-append_left, Contains-append_right, Contains-append_cases}
 use Rattle.std.specs.List.{Contains, flat_map}
-use Rattle.rv_tree.specs.Tree.{Tree, Node, Form, True, False, Number, Named, Not, Minus, Pre, Current, When, Binary, If, AtMostOne, Call, Trees, None, More}
-use Rattle.rv_tree.specs.Tree.{EquationTree, AssertionTree, ProgramTree}
+use Rattle.rv_tree.specs.Tree.{Tree, Node, Form, Not, Minus, Pre, Current, When, Binary, If, AtMostOne, Call, Trees, None, More, EquationTree, AssertionTree}
+use Rattle.rv_tree.specs.Tree.{ProgramTree}
 use Rattle.rv_tree.specs.{declared.tree.Name.Name, Places.Identifier, Places.Sites}
 use Rattle.rv_types.specs.declared.typed.Kind.TheVariants as kind
 use Rattle.rv_types.specs.Instances.{CallTree, calls, calls_in, form_calls, calls_in_all, calls_in_equations, calls_in_assertions, alone, Instance, IsInstance}
@@ -28,10 +28,6 @@ mutual
 
   form_inside : (at : ℕ) (site : Option ℕ) (form : Form) (t : Tree) → Contains (form_parts form) t → (c : CallTree) → Contains (calls_in t) c
       → Contains (form_calls at site form) c
-  form_inside at site True t v c w = nothing_in t v
-  form_inside at site False t v c w = nothing_in t v
-  form_inside at site (Number n) t v c w = nothing_in t v
-  form_inside at site (Named x) t v c w = nothing_in t v
   form_inside at site (Not e) t v c w = parts_inside e t v c w
   form_inside at site (Minus e) t v c w = parts_inside e t v c w
   form_inside at site (Pre e) t v c w = parts_inside e t v c w
@@ -51,6 +47,7 @@ mutual
   form_inside at site (AtMostOne es) t v c w = all_inside es t v c w
   form_inside at site (Call f es) t v c w = Contains-append_right (record { at = at; site = unwrap_or site 0; name = f; args = es } ∷ []) (calls_in_all es) c
       (all_inside es t v c w)
+  form_inside at site _ t v c w = nothing_in t v
 
   all_inside : (es : Trees) (t : Tree) → Contains (parts_of_all es) t → (c : CallTree) → Contains (calls_in t) c → Contains (calls_in_all es) c
   all_inside None t v c w = nothing_in t v
@@ -93,11 +90,10 @@ module _ (p : ProgramTree) (main : Identifier) (instances : List Numbered) (know
           part_of a.1 t (typed.0, typed.1) (λ d r. calls_nested i.node c d there (in_argument call.3 a.0 a.1 d a.2 r)) a.3
 
       by_lefts : (ls : List Name) → q.lefts ≡ ls → Contains (weighed_under ls q.right) t → IsWeighed t
-      by_lefts [] e u = several (λ one. let n = ap length e in omega (arith, n, one)) u
       by_lefts (x ∷ []) e u =
           let typed = (known.well.typed i.node (node_in p main instances known i is)).body x.text q.right (alone q w (ap texts e)) in
           part_of q.right t (typed.0, typed.1) inside u
-      by_lefts (x ∷ y ∷ ls) e u = several (λ one. let n = ap length e in omega (arith, n, one)) u
+      by_lefts _ e u = several (λ one. omega (arith, ap length e, one)) u
 
   in_assertion : (a : AssertionTree) (t : Tree) → Contains i.node.assertions a → Contains (parts a.body) t → IsWeighed t
   in_assertion a t w u =
@@ -130,7 +126,4 @@ module _ (p : ProgramTree) (main : Identifier) (instances : List Numbered) (know
   not_both at light first = light.2 at (wide_in_both first.0 light.0 at first.1 light.1 first.2)
 
   pub one_first : (at later : ℕ) → IsFirstTooWide p main at → IsFirstTooWide p main later → at ≡ later
-  one_first at later f g =
-      let a = f.3 later (wide_in_both g.0 f.0 later g.1 f.1 g.2) in
-      let b = g.3 at (wide_in_both f.0 g.0 at f.1 g.1 f.2) in
-      omega (arith, a, b)
+  one_first at later f g = omega (arith, f.3 later (wide_in_both g.0 f.0 later g.1 f.1 g.2), g.3 at (wide_in_both f.0 g.0 at f.1 g.1 f.2))

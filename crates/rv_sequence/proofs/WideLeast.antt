@@ -4,8 +4,8 @@ use Rattle.std.proofs.Common.{◌∙◌, ap, subst, arith, Option, Some, None as
 use Rattle.std.proofs.{lemmas.Bool.cases_eq, lemmas.Bool.Decides.nat_tests, lemmas.List.append_assoc, lemmas.List.Elements.Contains-append_right}
 use Rattle.std.specs.List.{Contains, flat_map}
 use Rattle.rv_base.specs.{declared.value.Value.Value, Limits.too_heavy, Limits.heaviest}
-use Rattle.rv_tree.specs.Tree.{Tree, Node, Form, True, False, Number, Named, Not, Minus, Pre, Current, When, Binary, If, AtMostOne, Call, Trees, None, More}
-use Rattle.rv_tree.specs.Tree.{EquationTree, AssertionTree, ConstantTree, NodeTree, ProgramTree}
+use Rattle.rv_tree.specs.Tree.{Tree, Node, Form, Not, Minus, Pre, Current, When, Binary, If, AtMostOne, Call, Trees, None, More, EquationTree, AssertionTree}
+use Rattle.rv_tree.specs.Tree.{ConstantTree, NodeTree, ProgramTree}
 use Rattle.rv_tree.specs.{declared.tree.Name.Name, Places.Identifier, Places.Sites}
 use Rattle.rv_types.specs.WideConstants.{lesser, wide_at, first_wide, wide_below, first_wide_of_all, first_wide_constant}
 use Rattle.rv_types.specs.Variables.{parts, form_parts, parts_of_all}
@@ -96,10 +96,6 @@ module _ (w : Weighing) where
         ∙ sym (least_first (weight_in w) at site form (form_parts form))
 
     below_least : (form : Form) → first_below w true form ≡ least_wide (weight_in w) (form_parts form)
-    below_least True = refl
-    below_least False = refl
-    below_least (Number n) = refl
-    below_least (Named x) = refl
     below_least (Not e) = first_least e
     below_least (Minus e) = first_least e
     below_least (Pre e) = first_least e
@@ -111,30 +107,19 @@ module _ (w : Weighing) where
         ∙ sym (least_both (weight_in w) (parts c) (parts a ++ parts b))
     below_least (AtMostOne es) = all_least es
     below_least (Call f es) = all_least es
+    below_least _ = refl
 
     pub all_least : (es : Trees) → first_in_all w true es ≡ least_wide (weight_in w) (parts_of_all es)
     all_least None = refl
     all_least (More e es) = (λ i. lesser (first_least e i) (all_least es i)) ∙ sym (least_both (weight_in w) (parts e) (parts_of_all es))
 
   several_least : (e : Tree) → wide_in_several w e ≡ least_wide (weight_in w) (weighed_of_several e)
-  several_least (Node at site True) = first_least (Node at site True)
-  several_least (Node at site False) = first_least (Node at site False)
-  several_least (Node at site (Number n)) = first_least (Node at site (Number n))
-  several_least (Node at site (Named x)) = first_least (Node at site (Named x))
-  several_least (Node at site (Not e)) = first_least (Node at site (Not e))
-  several_least (Node at site (Minus e)) = first_least (Node at site (Minus e))
-  several_least (Node at site (Pre e)) = first_least (Node at site (Pre e))
-  several_least (Node at site (Current e)) = first_least (Node at site (Current e))
-  several_least (Node at site (When e c)) = first_least (Node at site (When e c))
-  several_least (Node at site (Binary o a b)) = first_least (Node at site (Binary o a b))
-  several_least (Node at site (If c a b)) = first_least (Node at site (If c a b))
-  several_least (Node at site (AtMostOne es)) = first_least (Node at site (AtMostOne es))
   several_least (Node at site (Call f es)) = all_least es
+  several_least (Node at site form) = first_least (Node at site form)
 
   side_least : (xs : List Name) (e : Tree) → wide_in_side w xs e ≡ least_wide (weight_in w) (weighed_under xs e)
-  side_least [] e = several_least e
   side_least (x ∷ []) e = first_least e
-  side_least (x ∷ y ∷ xs) e = several_least e
+  side_least _ e = several_least e
 
   equations_least : (qs : List EquationTree) → wide_in_equations w qs ≡ least_wide (weight_in w)
       (flat_map (λ (q : EquationTree). weighed_under q.lefts q.right) qs)
@@ -145,9 +130,8 @@ module _ (w : Weighing) where
 
   assertions_least : (qs : List AssertionTree) → wide_in_assertions w qs ≡ least_wide (weight_in w) (flat_map (λ (a : AssertionTree). parts a.body) qs)
   assertions_least [] = refl
-  assertions_least (a ∷ rest) =
-      (λ i. lesser (first_least a.body i) (assertions_least rest i)) ∙ sym
-      (least_both (weight_in w) (parts a.body) (flat_map (λ (a : AssertionTree). parts a.body) rest))
+  assertions_least (a ∷ rest) = (λ i. lesser (first_least a.body i) (assertions_least rest i))
+      ∙ sym (least_both (weight_in w) (parts a.body) (flat_map (λ (a : AssertionTree). parts a.body) rest))
 
   pub node_least : (n : NodeTree) → wide_in_node w n ≡ least_wide (weight_in w) (weighed n)
   node_least n =
@@ -163,10 +147,6 @@ module _ (known : Identifier → Value) where
         ∙ sym (least_first (weight_of known) at site form (form_parts form))
 
     form_least : (form : Form) → wide_below known form ≡ least_wide (weight_of known) (form_parts form)
-    form_least True = refl
-    form_least False = refl
-    form_least (Number n) = refl
-    form_least (Named x) = refl
     form_least (Not e) = constant_least e
     form_least (Minus e) = constant_least e
     form_least (Pre e) = constant_least e
@@ -179,6 +159,7 @@ module _ (known : Identifier → Value) where
         ∙ sym (least_both (weight_of known) (parts c) (parts a ++ parts b))
     form_least (AtMostOne es) = constants_all_least es
     form_least (Call f es) = constants_all_least es
+    form_least _ = refl
 
     constants_all_least : (es : Trees) → first_wide_of_all known es ≡ least_wide (weight_of known) (parts_of_all es)
     constants_all_least None = refl
@@ -210,87 +191,76 @@ wide_counted w u (Node at site form ∷ es) same =
     (λ i. cond (told i) (at ∷ []) [] ++ wide_counted w u es (λ e v. same e (Contains-append_right (Node at site form ∷ []) es e v)) i)
 
 module _ (p : ProgramTree) (main : Identifier) (instances : List Numbered) (known : IsExpanded p main instances) (sided : AreSided p) (l : Layout)
-    (laid : IsLayout p main instances l) (values : NamedTables) (named : value_by values ≡ constant_value p)
-    (weights : List ℕ) (table : AreFlowWeights p main instances weights) (flows : Sites → ℕ) (are : AreWeights p main flows) where
-  has_all : (q : Sites) → HasWeight p main instances known l laid values named weights flows q
-  has_all q k at =
-      let size = table.size in
-      let within = at.0 in
-      table.each flows k are (omega (arith, size, within)) ∙ ap (λ r. counted_weight (flows r)) at.1
+    (laid : IsLayout p main instances l) (values : NamedTables) (named : value_by values ≡ constant_value p) (weights : List ℕ)
+    (table : AreFlowWeights p main instances weights) where
+  -- the least offset of the constants, and that of the instances
+  abbrev in_constants : Option ℕ
+  in_constants = first_wide_constant p (reverse p.constants)
 
-  -- the least offset in an instance
-  instance_least : (m : ℕ) (i : Instance) → IsNumberOf p instances m i → IsInstance p main i
-      → wide_in_node (weighing_at p instances values l weights m) (node_at p instances m) ≡ least (too_wide (weight p flows i) (weighed i.node))
-  instance_least m i at is =
-      ap (wide_in_node (weighing_at p instances values l weights m)) (node_is p main instances known m i is at.1)
-      ∙ node_least (weighing_at p instances values l weights m) i.node
-      ∙ ap least (wide_counted (weight_in (weighing_at p instances values l weights m)) (weight p flows i) (weighed i.node) (λ t u.
-      let v = is_weighed p main instances known sided i is t u in
-      part_weight p main instances known l laid values named weights flows m i t at is
-      (flows_read p i (HasWeight p main instances known l laid values named weights flows) (λ x e. has_all _) (λ c w one. has_all _) t v.typed v.inside)))
+  abbrev in_first : ℕ → Option ℕ
+  in_first n = wide_in_first p instances values l weights n
 
   abbrev here : ℕ → Option ℕ
   here m = wide_in_node (weighing_at p instances values l weights m) (node_at p instances m)
 
-  first_below_all : (n m k : ℕ) → m < n → AtMost (here m) k → AtMost (wide_in_first p instances values l weights n) k
+  first_below_all : (n m k : ℕ) → m < n → AtMost (here m) k → AtMost (in_first n) k
   first_below_all zero m k lt h = absurd (omega (arith, lt))
   first_below_all (suc n) m k lt h = elim (cases_eq m n) [
-    | inl same ↦ lesser_right (wide_in_first p instances values l weights n) (here n) k (subst (λ j. AtMost (here j) k) same h)
-    | inr other ↦ lesser_left (wide_in_first p instances values l weights n) (here n) k (first_below_all n m k (omega (arith, lt, other)) h)
+    | inl same ↦ lesser_right (in_first n) (here n) k (subst (λ j. AtMost (here j) k) same h)
+    | inr other ↦ lesser_left (in_first n) (here n) k (first_below_all n m k (omega (arith, lt, other)) h)
   ]
 
-  first_there : (n k : ℕ) → wide_in_first p instances values l weights n ≡ Some k → (m : ℕ) × (m < n) × (here m ≡ Some k)
+  first_there : (n k : ℕ) → in_first n ≡ Some k → (m : ℕ) × (m < n) × (here m ≡ Some k)
   first_there zero k e = cc
-  first_there (suc n) k e = elim (lesser_either (wide_in_first p instances values l weights n) (here n) k e) [
-    | inl before ↦ let w = first_there n k before in let lt = w.1 in (w.0, omega (arith, lt), w.2)
+  first_there (suc n) k e = elim (lesser_either (in_first n) (here n) k e) [
+    | inl before ↦ let w = first_there n k before in (w.0, omega (arith, w.1), w.2)
     | inr last ↦ (n, omega arith, last)
   ]
 
-  -- what is too wide is no less than the least
-  pub wide_below_least : (k : ℕ) → IsTooWide p main flows k → AtMost (lesser (first_wide_constant p (reverse p.constants))
-      (wide_in_first p instances values l weights (length instances))) k
-  wide_below_least k (inl constant) =
-      lesser_left (first_wide_constant p (reverse p.constants)) (wide_in_first p instances values l weights (length instances)) k
-      (subst (λ o. AtMost o k) (sym (constants_least p (reverse p.constants))) (least_below (too_wide_constants p (reverse p.constants)) k constant))
-  wide_below_least k (inr w) =
-      let n = number_at p main instances known w.0 w.1 in
-      lesser_right (first_wide_constant p (reverse p.constants)) (wide_in_first p instances values l weights (length instances)) k
-      (first_below_all (length instances) n.0 k n.1
-      (subst (λ o. AtMost o k) (sym (instance_least n.0 w.0 (n.1, n.2) w.1)) (least_below (too_wide (weight p flows w.0) (weighed w.0.node)) k w.2)))
+  module _ (flows : Sites → ℕ) (are : AreWeights p main flows) where
+    has_all : (q : Sites) → HasWeight p main instances known l laid values named weights flows q
+    has_all q k at = table.each flows k are (omega (arith, table.size, at.0)) ∙ ap (λ r. counted_weight (flows r)) at.1
 
-  -- and the least is too wide
-  pub least_wide_there : (k : ℕ) → lesser (first_wide_constant p (reverse p.constants)) (wide_in_first p instances values l weights (length instances)) ≡ Some k
-      → IsTooWide p main flows k
-  least_wide_there k e = elim (lesser_either (first_wide_constant p (reverse p.constants))
-      (wide_in_first p instances values l weights (length instances)) k e) [
-        | inl constant ↦ inl (least_there (too_wide_constants p (reverse p.constants)) k (sym (constants_least p (reverse p.constants)) ∙ constant))
-        | inr instance ↦
-            let w = first_there (length instances) k instance in
-            let v = instance_at p main instances known w.0 w.1 in
-            inr (v.0, v.1, least_there (too_wide (weight p flows v.0) (weighed v.0.node)) k (sym (instance_least w.0 v.0 (w.1, v.2) v.1) ∙ w.2))
-      ]
+    -- the least offset in an instance
+    instance_least : (m : ℕ) (i : Instance) → IsNumberOf p instances m i → IsInstance p main i
+        → wide_in_node (weighing_at p instances values l weights m) (node_at p instances m) ≡ least (too_wide (weight p flows i) (weighed i.node))
+    instance_least m i at is =
+        ap (wide_in_node (weighing_at p instances values l weights m)) (node_is p main instances known m i is at.1)
+        ∙ node_least (weighing_at p instances values l weights m) i.node
+        ∙ ap least (wide_counted (weight_in (weighing_at p instances values l weights m)) (weight p flows i) (weighed i.node) (λ t u.
+        let v = is_weighed p main instances known sided i is t u in
+        part_weight p main instances known l laid values named weights flows m i t at is
+        (flows_read p i (HasWeight p main instances known l laid values named weights flows) (λ x e. has_all _) (λ c w one. has_all _) t v.typed v.inside)))
 
-module _ (p : ProgramTree) (main : Identifier) (instances : List Numbered) (known : IsExpanded p main instances) (sided : AreSided p) (l : Layout)
-    (laid : IsLayout p main instances l) (values : NamedTables) (named : value_by values ≡ constant_value p)
-    (weights : List ℕ) (table : AreFlowWeights p main instances weights) (sequence : List Sites) (ordered : IsSequence p main sequence) where
-  -- where there is no least offset, no expression is too wide
-  pub none_wide : lesser (first_wide_constant p (reverse p.constants)) (wide_in_first p instances values l weights (length instances)) ≡ Nothing
-      → AreLight p main
-  none_wide e =
-      let flows = are_weights p main instances known sequence ordered in (
-        flows.0,
-        flows.1,
-        λ at is. subst (λ o. AtMost o at) e (wide_below_least p main instances known sided l laid values named weights table flows.0 flows.1 at
-            is),
-      )
+    -- what is too wide is no less than the least
+    wide_below_least : (k : ℕ) → IsTooWide p main flows k → AtMost (lesser in_constants (in_first (length instances))) k
+    wide_below_least k (inl constant) =
+        lesser_left in_constants (in_first (length instances)) k
+        (subst (λ o. AtMost o k) (sym (constants_least p (reverse p.constants))) (least_below (too_wide_constants p (reverse p.constants)) k constant))
+    wide_below_least k (inr w) =
+        let n = number_at p main instances known w.0 w.1 in
+        lesser_right in_constants (in_first (length instances)) k (first_below_all (length instances) n.0 k n.1
+        (subst (λ o. AtMost o k) (sym (instance_least n.0 w.0 (n.1, n.2) w.1)) (least_below (too_wide (weight p flows w.0) (weighed w.0.node)) k w.2)))
 
-  -- otherwise it is that of the first
-  pub first_wide_is : (at : ℕ) → lesser (first_wide_constant p (reverse p.constants)) (wide_in_first p instances values l weights (length instances)) ≡ Some at
-      → IsFirstTooWide p main at
-  first_wide_is at e =
-      let flows = are_weights p main instances known sequence ordered in (
-        flows.0,
-        flows.1,
-        least_wide_there p main instances known sided l laid values named weights table flows.0 flows.1 at e,
-        λ later is. subst (λ o. AtMost o later) e (wide_below_least p main instances known sided l laid values named weights table flows.0 flows.1 later is),
-      )
+    -- and the least is too wide
+    least_wide_there : (k : ℕ) → lesser in_constants (in_first (length instances)) ≡ Some k → IsTooWide p main flows k
+    least_wide_there k e = elim (lesser_either in_constants (in_first (length instances)) k e) [
+      | inl constant ↦ inl (least_there (too_wide_constants p (reverse p.constants)) k (sym (constants_least p (reverse p.constants)) ∙ constant))
+      | inr instance ↦
+          let w = first_there (length instances) k instance in
+          let v = instance_at p main instances known w.0 w.1 in
+          inr (v.0, v.1, least_there (too_wide (weight p flows v.0) (weighed v.0.node)) k (sym (instance_least w.0 v.0 (w.1, v.2) v.1) ∙ w.2))
+    ]
+
+  module _ (sequence : List Sites) (ordered : IsSequence p main sequence) where
+    -- where there is no least offset, no expression is too wide
+    pub none_wide : lesser in_constants (in_first (length instances)) ≡ Nothing → AreLight p main
+    none_wide e =
+        let flows = are_weights p main instances known sequence ordered in
+        (flows.0, flows.1, λ at is. subst (λ o. AtMost o at) e (wide_below_least flows.0 flows.1 at is))
+
+    -- otherwise it is that of the first
+    pub first_wide_is : (at : ℕ) → lesser in_constants (in_first (length instances)) ≡ Some at → IsFirstTooWide p main at
+    first_wide_is at e =
+        let flows = are_weights p main instances known sequence ordered in
+        (flows.0, flows.1, least_wide_there flows.0 flows.1 at e, λ later is. subst (λ o. AtMost o later) e (wide_below_least flows.0 flows.1 later is))

@@ -10,10 +10,5 @@ none_above limit [] few k w = nothing_in k w
 none_above limit (j ∷ ks) few k w = by (nat_lt limit j) refl few (λ rest there. none_above limit ks rest k there)
   where
     by : (b : Bool) → nat_lt limit j ≡ b → cond b j (first_above limit ks) ≤ limit → (first_above limit ks ≤ limit → Contains ks k → k ≤ limit) → k ≤ limit
-    by true e le again = let above : limit < j = grind (arith, nat_tests, e) in absurd (omega (arith, above, le))
-    by false e le again =
-        let below : j ≤ limit = grind (arith, nat_tests, e) in
-        elim (cons_cases j ks k w) [
-          | inl here ↦ subst (λ n. n ≤ limit) here below
-          | inr there ↦ again le there
-        ]
+    by true e le again = absurd (let above : limit < j = grind (arith, nat_tests, e) in omega (arith, above, le))
+    by false e le again = elim (cons_cases j ks k w) [ inl here ↦ subst (λ n. n ≤ limit) here (grind (arith, nat_tests, e)) | inr there ↦ again le there ]

@@ -1,5 +1,5 @@
 -- The main node of a program, and the types of its flows.
-use Rattle.std.proofs.Common.{◌≡◌, ℕ, ◌<◌, ◌≤◌, ◌+◌, List, [], ◌++◌, map, length, get_or, slice_get, Some, sym, ◌∙◌, ap, subst, length-append, arith}
+use Rattle.std.proofs.Common.{◌≡◌, ℕ, ◌<◌, ◌≤◌, List, [], ◌++◌, map, length, get_or, slice_get, Some, sym, ◌∙◌, ap, subst, length-append, arith}
 use Rattle.std.proofs.lemmas.Option.{get_or_from_slice_get}
 use Rattle.rv_tree.specs.declared.tree.Node as declared
 use Rattle.rv_tree.specs.{declared.tree.Decl.Decl, Tree.NodeTree, Tree.ProgramTree, Tree.node_tree}
@@ -22,13 +22,11 @@ module _ (p : ProgramTree) (ns : List declared.Node) (k : ℕ) (n : declared.Nod
 
   -- and has its types
   pub main_kinds : (all : List (List Kind)) (own : List Kind) → all ≡ map (flow_kinds p) p.nodes → slice_get all k ≡ Some own → own ≡ flow_kinds p (node_tree n)
-  main_kinds all own each is =
-      sym (get_or_from_slice_get all k own own is) ∙ ap (λ l. get_or l k own) each ∙ map_at (flow_kinds p) p.nodes k own no_node within ∙ ap (flow_kinds p) node_here
+  main_kinds all own each is = sym (get_or_from_slice_get all k own own is) ∙ ap (λ l. get_or l k own) each
+      ∙ map_at (flow_kinds p) p.nodes k own no_node within ∙ ap (flow_kinds p) node_here
 
 -- no fewer than there are inputs
 pub inputs_few : (p : ProgramTree) (n : NodeTree) (own : List Kind) → own ≡ flow_kinds p n → length n.inputs ≤ length own
 inputs_few p n own is =
-    let a : length own ≡ length (decls n) = ap length is ∙ length_map (λ (d : Decl). kind_in_program p d.kind) (decls n) in
-    let b : length (decls n) ≡ length (n.inputs ++ n.outputs) + length n.locals = length-append (n.inputs ++ n.outputs) n.locals in
-    let c : length (n.inputs ++ n.outputs) ≡ length n.inputs + length n.outputs = length-append n.inputs n.outputs in
-    omega (arith, a, b, c)
+    let first = length-append (n.inputs ++ n.outputs) n.locals in
+    omega (arith, ap length is, length_map (λ (d : Decl). kind_in_program p d.kind) (decls n), first, length-append n.inputs n.outputs)

@@ -12,6 +12,7 @@ use Rattle.rv_types.specs.{Variables.is_in, Variables.memories_beside, Values.op
 use Rattle.rv_types.specs.declared.typed.Kind.TheVariants as kind
 use Rattle.rv_instances.specs.Timed.{ToldDelay, delay_told, delays_told}
 use Rattle.rv_sizes.specs.Memories.{site_in, read_of, sites_read, paired, with_site, kinds_beside, memory_kinds}
+use Rattle.rv_base.proofs.Truths.{or_assoc}
 
 -- a site is among some where one of them equals it
 pub any_in : (xs : List ℕ) (k : ℕ) → list_any (nat_eq k) xs ≡ is_in xs k
@@ -22,19 +23,13 @@ any_in (x ∷ xs) k = λ i. (partial_equiv_from_equiv nat_eq_equiv).symm k x i |
 pub inserted_site : (xs : List ℕ) (k : ℕ) → insert_key nat_eq xs k ≡ with_site xs k
 inserted_site xs k = ap (λ b. cond b xs (xs ++ k ∷ [])) (any_in xs k)
 
-pub or_assoc : (a b c : Bool) → (a || (b || c)) ≡ ((a || b) || c)
-or_assoc true b c = refl
-or_assoc false b c = refl
-
 pub in_append : (xs ys : List ℕ) (k : ℕ) → is_in (xs ++ ys) k ≡ (is_in xs k || is_in ys k)
 in_append [] ys k = refl
-in_append (x ∷ xs) ys k = ap (λ c. nat_eq x k || c) (in_append xs ys k) ∙ or_assoc (nat_eq x k) (is_in xs k) (is_in ys k)
+in_append (x ∷ xs) ys k = ap (λ c. nat_eq x k || c) (in_append xs ys k) ∙ sym (or_assoc (nat_eq x k) (is_in xs k) (is_in ys k))
 
 pub swapped : (a b : Bool) → (a || (b || false)) ≡ (b || a)
 swapped true true = refl
-swapped true false = refl
-swapped false true = refl
-swapped false false = refl
+swapped _ _ = refl
 
 -- the site of a memory, by the names of the flows
 site_same : (n : NodeTree) (site : Option ℕ) (e : Tree) → site_in (flows n) site e ≡ memory_site n site e
@@ -67,8 +62,7 @@ module _ (p : ProgramTree) (n : NodeTree) (s : Scope) (names : List Identifier) 
           let both : (i : ℕ) → is_in (seen ++ k ∷ []) i ≡ is_in (m ∷ other) i =
           λ i. in_append seen (k ∷ []) i ∙ (λ t. same i t || (nat_eq (at t) i || false)) ∙ swapped (is_in other i) (nat_eq m i) in
           λ t. is t ∷ more (seen ++ k ∷ []) (m ∷ other) both t
-      tested true false e k m at j is more = absurd (let b : ⊥ = cc in b)
-      tested false true e k m at j is more = absurd (let b : ⊥ = cc in b)
+      tested _ _ e k m at j is more = absurd (let b : ⊥ = cc in b)
 
 -- sites and types of the same reads, put together
 paired_from : (n : NodeTree) (s : Scope) (names : List Identifier) (ks : List Kind) (ds : List Delay)

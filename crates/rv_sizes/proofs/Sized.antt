@@ -34,61 +34,32 @@ module _ (p : ProgramTree) (main : Identifier) where
 
   pub memories_above : (c n : ℕ) → IsSmall p main c → n ≡ capped (over_instances p main (integer_memories p)) → 64 < n
       → IsFirstAbove (measures p main) quantity.Memories n
-  memories_above c n s is more =
-      inr (s.instances, inr (s.expressions, inl (above 64 n (over_instances p main (integer_memories p)) is more, refl, is)))
+  memories_above c n s is more = inr (s.instances, inr (s.expressions, inl (above 64 n (over_instances p main (integer_memories p)) is more, refl, is)))
 
   pub inputs_above : (c m n : ℕ) → IsSmall p main c → m ≡ capped (over_instances p main (integer_memories p)) → m ≤ 64
       → n ≡ capped (integer_inputs p (node_of p main)) → 64 < n → IsFirstAbove (measures p main) quantity.Inputs n
   inputs_above c m n s held few is more =
-      inr (
-        s.instances,
-        inr (
-          s.expressions,
-          inr (
-            below 64 m (over_instances p main (integer_memories p)) held few (omega arith),
-            inl (above 64 n (integer_inputs p (node_of p main)) is more, refl, is),
-          ),
-        ),
-      )
+      let memories = below 64 m (over_instances p main (integer_memories p)) held few (omega arith) in
+      inr (s.instances, inr (s.expressions, inr (memories, inl (above 64 n (integer_inputs p (node_of p main)) is more, refl, is))))
 
   pub labels_above : (c m k n : ℕ) → IsSmall p main c → m ≡ capped (over_instances p main (integer_memories p)) → m ≤ 64
       → k ≡ capped (integer_inputs p (node_of p main)) → k ≤ 64 → n ≡ capped (first_above 256 (map label_count p.types)) → 256 < n
       → IsFirstAbove (measures p main) quantity.Labels n
   labels_above c m k n s held few taken less is more =
-      inr (
-        s.instances,
-        inr (
-          s.expressions,
-          inr (
-            below 64 m (over_instances p main (integer_memories p)) held few (omega arith),
-            inr (
-              below 64 k (integer_inputs p (node_of p main)) taken less (omega arith),
-              inl (above 256 n (first_above 256 (map label_count p.types)) is more, refl, is),
-            ),
-          ),
-        ),
-      )
+      let memories = below 64 m (over_instances p main (integer_memories p)) held few (omega arith) in
+      let inputs = below 64 k (integer_inputs p (node_of p main)) taken less (omega arith) in
+      let labels = above 256 n (first_above 256 (map label_count p.types)) is more in
+      inr (s.instances, inr (s.expressions, inr (memories, inr (inputs, inl (labels, refl, is)))))
 
   pub variables_above : (c m k l n : ℕ) → IsSmall p main c → m ≡ capped (over_instances p main (integer_memories p)) → m ≤ 64
       → k ≡ capped (integer_inputs p (node_of p main)) → k ≤ 64 → l ≡ capped (first_above 256 (map label_count p.types)) → l ≤ 256
       → n ≡ capped (variable_count p main) → 4096 < n → IsFirstAbove (measures p main) quantity.Variables n
   variables_above c m k l n s held few taken less named fits is more =
-      inr (
-        s.instances,
-        inr (
-          s.expressions,
-          inr (
-            below 64 m (over_instances p main (integer_memories p)) held few (omega arith),
-            inr (
-              below 64 k (integer_inputs p (node_of p main)) taken less (omega arith),
-              inr (
-                below 256 l (first_above 256 (map label_count p.types)) named fits (omega arith),
-                inl (above 4096 n (variable_count p main) is more, refl, is),
-              ),
-            ),
-          ),
-        ),
-      )
+      let memories = below 64 m (over_instances p main (integer_memories p)) held few (omega arith) in
+      let inputs = below 64 k (integer_inputs p (node_of p main)) taken less (omega arith) in
+      let labels = below 256 l (first_above 256 (map label_count p.types)) named fits (omega arith) in
+      let variables = above 4096 n (variable_count p main) is more in
+      inr (s.instances, inr (s.expressions, inr (memories, inr (inputs, inr (labels, inl (variables, refl, is))))))
 
   pub is_sized : (c m k l n : ℕ) → IsSmall p main c → m ≡ capped (over_instances p main (integer_memories p)) → m ≤ 64
       → k ≡ capped (integer_inputs p (node_of p main)) → k ≤ 64 → l ≡ capped (first_above 256 (map label_count p.types)) → l ≤ 256

@@ -25,7 +25,7 @@ module _ (p : ProgramTree) (named : name_faults p ≡ []) (order : List ℕ) (or
   at_is j = refl
 
   pub number_within : (j : ℕ) → j < length order → get_or order j 0 < length p.nodes
-  number_within j lt = let n = graph_size p named in let o = ordered.only j lt in omega (arith, n, o)
+  number_within j lt = omega (arith, graph_size p named, ordered.only j lt)
 
   pub among : (j : ℕ) → j < length order → Contains p.nodes (at j)
   unfolding at
@@ -33,7 +33,7 @@ module _ (p : ProgramTree) (named : name_faults p ≡ []) (order : List ℕ) (or
 
   -- there are enough levels for all nodes
   pub enough : (j : ℕ) → j < length order → j < length p.nodes
-  enough j lt = let n = graph_size p named in let few = ordered.size in omega (arith, n, few, lt)
+  enough j lt = omega (arith, graph_size p named, ordered.size, lt)
 
   -- a node that is called stands before
   pub earlier : (j : ℕ) → j < length order → (c : CallTree) → Contains (calls (at j)) c
@@ -51,14 +51,11 @@ module _ (p : ProgramTree) (named : name_faults p ≡ []) (order : List ℕ) (or
   steady (suc a) zero j lt below_a below_b = absurd (omega (arith, below_b))
   steady (suc a) (suc b) j lt below_a below_b =
       ap (λ (ks : List Clock). arrows (at j) (node_parts (at j)) ++ ks)
-      (flat_map_same
-      (λ (c : CallTree). cond (has_base (ticking p a (node_of p c.name))) (taken Base (pace_of_all (at j) c.args) ∷ []) [])
-      (λ (c : CallTree). cond (has_base (ticking p b (node_of p c.name))) (taken Base (pace_of_all (at j) c.args) ∷ []) [])
-      (calls (at j))
+      (flat_map_same (λ (c : CallTree). cond (has_base (ticking p a (node_of p c.name))) (taken Base (pace_of_all (at j) c.args) ∷ []) [])
+      (λ (c : CallTree). cond (has_base (ticking p b (node_of p c.name))) (taken Base (pace_of_all (at j) c.args) ∷ []) []) (calls (at j))
       (λ c w.
       let e = earlier j lt c w in
-      let less = e.1 in
-      let again = steady a b e.0 (omega (arith, less, lt)) (omega (arith, less, below_a)) (omega (arith, less, below_b)) in
+      let again = steady a b e.0 (omega (arith, e.1, lt)) (omega (arith, e.1, below_a)) (omega (arith, e.1, below_b)) in
       ap (λ (ks : List Clock). cond (has_base ks) (taken Base (pace_of_all (at j) c.args) ∷ []) [])
       (ap (ticking p a) e.3 ∙ again ∙ sym (ap (ticking p b) e.3))))
 
@@ -70,14 +67,11 @@ module _ (p : ProgramTree) (named : name_faults p ≡ []) (order : List ℕ) (or
       let own : length (sites_of_clocks [] (ticking p (suc levels) i.node)) ≡ own_ticks p i.node =
       ap (λ (ks : List Clock). length (sites_of_clocks [] ks)) (ap (ticking p (suc levels)) is ∙ steady (suc levels) (length p.nodes) j lt below (enough j lt)
       ∙ ap (ticking p (length p.nodes)) (sym is)) in
-      let more : total (λ (c : CallTree). tick_total p levels (node_of p c.name)) (calls i.node) ≡ total
-      (λ (c : CallTree). total (λ (a : Instance). own_ticks p a.node) (unrolled p levels (callee p i c))) (calls i.node) =
-      total_same (λ (c : CallTree). tick_total p levels (node_of p c.name))
+      let more = total_same (λ (c : CallTree). tick_total p levels (node_of p c.name))
       (λ (c : CallTree). total (λ (a : Instance). own_ticks p a.node) (unrolled p levels (callee p i c))) (calls i.node)
       (λ c w.
       let e = earlier j lt c (subst (λ (n : NodeTree). Contains (calls n) c) is w) in
-      let less = e.1 in
-      summed levels e.0 (callee p i c) (omega (arith, less, lt)) (omega (arith, less, below)) e.3) in
+      summed levels e.0 (callee p i c) (omega (arith, e.1, lt)) (omega (arith, e.1, below)) e.3) in
       let flat = total_flat_map (λ (a : Instance). own_ticks p a.node) (λ (c : CallTree). unrolled p levels (callee p i c)) (calls i.node) in
       λ t. own t + (more ∙ sym flat) t
 
@@ -86,8 +80,6 @@ module _ (p : ProgramTree) (named : name_faults p ≡ []) (order : List ℕ) (or
   unfolding at
   ticks_summed sited main there =
       let to = called p named main there in
-      let n = graph_size p named in
-      let within = to.0 in
-      let place = contains_at order (index_of (names_of p) main) (ordered.all (index_of (names_of p) main) (omega (arith, n, within))) in
+      let place = contains_at order (index_of (names_of p) main) (ordered.all (index_of (names_of p) main) (omega (arith, graph_size p named, to.0))) in
       ticks_counted p sited main
       ∙ summed (length p.nodes) place.0 (main_instance p main) place.1 (enough place.0 place.1) (to.1 ∙ ap (λ k. get_or p.nodes k no_node) (sym place.2))

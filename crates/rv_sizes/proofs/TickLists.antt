@@ -24,17 +24,12 @@ pub no_longer : {X : Type 0} (xs ys : List X) → Apart xs → ((z : X) → Cont
 no_longer [] ys apart sub = omega arith
 no_longer (x ∷ xs) ys apart sub =
     let r = rest_of ys x (sub x (first_in x xs x refl)) in
-    let less = no_longer xs r.0 apart.1 (λ z w. r.2 z (sub z (in_tail x xs z w)) (λ e. apart.0 (subst (Contains xs) e w))) in
-    let size = r.1 in
-    omega (arith, less, size)
+    omega (arith, no_longer xs r.0 apart.1 (λ z w. r.2 z (sub z (in_tail x xs z w)) (λ e. apart.0 (subst (Contains xs) e w))), r.1)
 
 -- two lists of different elements that have the same elements are as long
 pub same_length : {X : Type 0} (xs ys : List X) → Apart xs → Apart ys → ((z : X) → Contains xs z → Contains ys z) → ((z : X) → Contains ys z → Contains xs z)
     → length xs ≡ length ys
-same_length xs ys a b to from =
-    let first = no_longer xs ys a to in
-    let second = no_longer ys xs b from in
-    omega (arith, first, second)
+same_length xs ys a b to from = omega (arith, no_longer xs ys a to, no_longer ys xs b from)
 
 pub apart_append : {X : Type 0} (xs ys : List X) → Apart xs → Apart ys → ((z : X) → Contains xs z → Contains ys z → ⊥) → Apart (xs ++ ys)
 apart_append [] ys a b none = b
@@ -45,10 +40,7 @@ apart_append (x ∷ xs) ys a b none = (
 
 pub apart_map : {X Y : Type 0} (f : X → Y) → ((x y : X) → f x ≡ f y → x ≡ y) → (xs : List X) → Apart xs → Apart (map f xs)
 apart_map f one [] a = tt
-apart_map f one (x ∷ xs) a = (
-  λ w. let v = from_map f xs (f x) w in a.0 (subst (Contains xs) (one v.0 x v.2) v.1),
-  apart_map f one xs a.1,
-)
+apart_map f one (x ∷ xs) a = (λ w. let v = from_map f xs (f x) w in a.0 (subst (Contains xs) (one v.0 x v.2) v.1), apart_map f one xs a.1)
 
 -- lists that have nothing in common, one after the other, where a number tells from which an element is
 pub apart_flat_map : {X Y : Type 0} (f : X → List Y) (number : X → ℕ) (xs : List X) → Apart (map number xs) → ((x : X) → Contains xs x → Apart (f x))
@@ -140,8 +132,5 @@ sites_apart (On d ∷ ks) seen = tested (is_in seen d) (sites_apart ks seen) (si
     tested : (b : Bool) → Apart (sites_of_clocks seen ks) → Apart (sites_of_clocks (d ∷ seen) ks)
         → Apart (cond b (sites_of_clocks seen ks) (d ∷ sites_of_clocks (d ∷ seen) ks))
     tested true more next = more
-    tested false more next = (
-      λ w. let v = (site_is ks (d ∷ seen) d w).1 in let here = ap (λ b. b || is_in seen d) (eq-eqb d d refl) in let no : ⊥ = cc in
-          no,
-      next,
-    )
+    tested false more next =
+        (λ w. let v = (site_is ks (d ∷ seen) d w).1 in let here = ap (λ b. b || is_in seen d) (eq-eqb d d refl) in let no : ⊥ = cc in no, next)

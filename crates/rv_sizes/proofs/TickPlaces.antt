@@ -1,7 +1,7 @@
 -- The places of ticks, counted along calls.
-use Rattle.std.proofs.Common.{◌≡◌, ℕ, zero, suc, ◌+◌, ◌<◌, ◌⊎◌, inl, inr, Bool, true, false, cond, List, [], ◌∷◌, ◌++◌, map, length, get_or, refl, sym, ◌∙◌, ap}
-use Rattle.std.proofs.Common.{subst, arith, Option, Some, unwrap_or, length-append, None as Nothing}
-use Rattle.std.proofs.lemmas.List.{append_assoc}
+use Rattle.std.proofs.Common.{◌≡◌, ℕ, zero, suc, ◌+◌, ◌<◌, ◌⊎◌, inl, inr, ◌↔◌, Bool, true, false, cond, List, [], ◌∷◌, ◌++◌, map, length, get_or, refl, sym}
+use Rattle.std.proofs.Common.{◌∙◌, ap, subst, arith, Option, Some, unwrap_or, length-append, None as Nothing}
+use Rattle.std.proofs.{lemmas.List.append_assoc, lemmas.Option.none-some, lemmas.Option.same_Some}
 use Rattle.std.proofs.lemmas.List.Elements.{Contains-append_left, Contains-append_right, Contains-append_cases}
 use Rattle.std.specs.List.{Contains, flat_map}
 use Rattle.rv_tree.specs.{Tree.Tree, Tree.NodeTree, Tree.ProgramTree, Places.Identifier, Places.Sites, Places.is_same}
@@ -15,36 +15,15 @@ use Rattle.rv_sizes.proofs.TickLists.{Apart, first_in, same_length, apart_append
 use Rattle.rv_sizes.proofs.TickLists.{site_comes, sites_apart}
 use Rattle.rv_types.proofs.Members.{cons_cases, in_flat_map, in_map, in_tail, nothing_in, of_flat_map}
 use Rattle.rv_types.proofs.DifferentPlaces.{of_different, still_different}
-use Rattle.rv_base.proofs.Lists.{from_map}
+use Rattle.rv_base.proofs.Lists.{from_map, same_next}
 
--- paths that begin alike go on alike
-goes_on : (a : Sites) (r s : Sites) → a ++ r ≡ a ++ s → r ≡ s
-goes_on [] r s e = e
-goes_on (x ∷ a) r s e = goes_on a r s (ap tail_of e)
-  where
-    tail_of : Sites → Sites
-    tail_of [] = []
-    tail_of (y ∷ ys) = ys
-
-head_same : (x y : ℕ) (r s : Sites) → x ∷ r ≡ y ∷ s → x ≡ y
-head_same x y r s e = cc
-
-no_more : (x y z : ℕ) (r : Sites) → x ∷ [] ≡ y ∷ z ∷ r → ⊥
-no_more x y z r e = cc
-
-none_some : (q : Sites) → Nothing ≡ Some q → ⊥
-none_some q e = cc
-
-some_same : (p q : Sites) → Some p ≡ Some q → p ≡ q
-some_same p q e = cc
+-- a path goes on by one site or by more
+no_more : (a : Sites) (x y z : ℕ) (r : Sites) → a ++ x ∷ [] ≡ a ++ y ∷ z ∷ r → ⊥
+no_more a x y z r e = omega (arith, ap length e, length-append a (x ∷ []), length-append a (y ∷ z ∷ r))
 
 length_flat_map : {X Y : Type 0} (f : X → List Y) (g : X → ℕ) (xs : List X) → ((x : X) → length (f x) ≡ g x) → length (flat_map f xs) ≡ total g xs
 length_flat_map f g [] each = refl
-length_flat_map f g (x ∷ xs) each =
-    let here = each x in
-    let more = length_flat_map f g xs each in
-    let both = length-append (f x) (flat_map f xs) in
-    omega (arith, here, more, both)
+length_flat_map f g (x ∷ xs) each = omega (arith, each x, length_flat_map f g xs each, length-append (f x) (flat_map f xs))
 
 -- the calls of a node have different sites
 sites_differ : (cs : List CallTree) → ((i j : ℕ) (c : CallTree) → i < j → j < length cs → (get_or cs i c).site ≡ (get_or cs j c).site → ⊥)
@@ -53,17 +32,12 @@ sites_differ [] apart = tt
 sites_differ (c ∷ cs) apart = (
   λ w.
       let v = from_map (λ (c : CallTree). c.site) cs c.site w in
-      let k = v.1.0 in
-      let lt = v.1.1 in
-      apart 0 (suc k) v.0 (omega arith) (omega (arith, lt)) (sym v.2 ∙ ap (λ (d : CallTree). d.site) (sym v.1.2)),
+      apart 0 (suc v.1.0) v.0 (omega arith) (omega (arith, v.1.1)) (sym v.2 ∙ ap (λ (d : CallTree). d.site) (sym v.1.2)),
   sites_differ cs (λ i j d less lt. apart (suc i) (suc j) d (omega (arith, less)) (omega (arith, lt))),
 )
 
 no_calls : HasSites no_node
-no_calls = record {
-  beyond = λ c w. nothing_in c w;
-  apart = λ i j c less lt. absurd (omega (arith, less, lt));
-}
+no_calls = record { beyond = λ c w. nothing_in c w; apart = λ i j c less lt. absurd (omega (arith, less, lt)) }
 
 module _ (p : ProgramTree) where
   -- a name is that of a node of the program, or of the node without flows
@@ -78,37 +52,45 @@ module _ (p : ProgramTree) where
       at [] each = no_calls
       at (n ∷ ns) each = tested (is_same n.name.text f) n (node_among ns f) (each n (first_in n ns n refl)) (at ns (λ m w. each m (in_tail n ns m w)))
 
+  -- the places of the ticks on clocks of an instance's own flows
+  abbrev own_places : ℕ → Instance → List Sites
+  own_places levels i = map (λ c. i.path ++ c ∷ []) (sites_of_clocks [] (ticking p levels i.node))
+
   -- the ticks of an instance and of those below it, but for that of the instance's own base clock
   tick_places : ℕ → Instance → List Sites
   tick_places zero i = []
-  tick_places (suc levels) i =
-      map (λ c. i.path ++ c ∷ []) (sites_of_clocks [] (ticking p (suc levels) i.node))
-      ++ flat_map (λ c. tick_places levels (callee p i c)) (calls i.node)
+  tick_places (suc levels) i = own_places (suc levels) i ++ flat_map (λ c. tick_places levels (callee p i c)) (calls i.node)
+
+  -- those of the instances that it calls
+  abbrev call_places : ℕ → Instance → List Sites
+  call_places levels i = flat_map (λ c. tick_places levels (callee p i c)) (calls i.node)
 
   counted : (levels : ℕ) (i : Instance) → length (tick_places levels i) ≡ tick_total p levels i.node
   unfolding tick_places
   counted zero i = refl
   counted (suc levels) i =
-      length-append (map (λ c. i.path ++ c ∷ []) (sites_of_clocks [] (ticking p (suc levels) i.node)))
-      (flat_map (λ c. tick_places levels (callee p i c)) (calls i.node))
-      ∙ (λ t.
-      length_map (λ c. i.path ++ c ∷ []) (sites_of_clocks [] (ticking p (suc levels) i.node)) t
+      length-append (own_places (suc levels) i) (call_places levels i)
+      ∙ (λ t. length_map (λ c. i.path ++ c ∷ []) (sites_of_clocks [] (ticking p (suc levels) i.node)) t
       + length_flat_map (λ c. tick_places levels (callee p i c)) (λ (c : CallTree). tick_total p levels (node_of p c.name)) (calls i.node)
       (λ c. counted levels (callee p i c)) t)
+
+  own_is : (levels : ℕ) (i : Instance) (q : Sites) → Contains (own_places levels i) q
+      → (c : ℕ) × Contains (ticking p levels i.node) (On c) × (i.path ++ c ∷ [] ≡ q)
+  own_is levels i q own =
+      let v = from_map (λ c. i.path ++ c ∷ []) (sites_of_clocks [] (ticking p levels i.node)) q own in
+      (v.0, (site_is (ticking p levels i.node) [] v.0 v.1).0, v.2)
 
   -- they stand below the instance
   below_path : (levels : ℕ) (i : Instance) (q : Sites) → Contains (tick_places levels i) q → (x : ℕ) × (rest : Sites) × (q ≡ i.path ++ x ∷ rest)
   unfolding tick_places
   below_path zero i q w = nothing_in q w
-  below_path (suc levels) i q w =
-      elim (Contains-append_cases (map (λ c. i.path ++ c ∷ []) (sites_of_clocks [] (ticking p (suc levels) i.node)))
-      (flat_map (λ c. tick_places levels (callee p i c)) (calls i.node)) q w) [
-        | inl own ↦ let v = from_map (λ c. i.path ++ c ∷ []) (sites_of_clocks [] (ticking p (suc levels) i.node)) q own in (v.0, [], sym v.2)
-        | inr rest ↦
-            let v = of_flat_map (λ c. tick_places levels (callee p i c)) (calls i.node) q rest in
-            let b = below_path levels (callee p i v.0) q v.2 in
-            (v.0.site, b.0 ∷ b.1, b.2 ∙ append_assoc i.path (v.0.site ∷ []) (b.0 ∷ b.1))
-      ]
+  below_path (suc levels) i q w = elim (Contains-append_cases (own_places (suc levels) i) (call_places levels i) q w) [
+    | inl own ↦ let v = own_is (suc levels) i q own in (v.0, [], sym v.2)
+    | inr rest ↦
+        let v = of_flat_map (λ c. tick_places levels (callee p i c)) (calls i.node) q rest in
+        let b = below_path levels (callee p i v.0) q v.2 in
+        (v.0.site, b.0 ∷ b.1, b.2 ∙ append_assoc i.path (v.0.site ∷ []) (b.0 ∷ b.1))
+  ]
 
   -- those of a callee stand below its site
   below_call : (levels : ℕ) (i : Instance) (c : CallTree) (q : Sites) → Contains (tick_places levels (callee p i c)) q
@@ -119,21 +101,20 @@ module _ (p : ProgramTree) where
   unfolding tick_places
   all_apart sited zero i has = tt
   all_apart sited (suc levels) i has =
-      apart_append (map (λ c. i.path ++ c ∷ []) (sites_of_clocks [] (ticking p (suc levels) i.node)))
-      (flat_map (λ c. tick_places levels (callee p i c)) (calls i.node))
-      (apart_map (λ c. i.path ++ c ∷ []) (λ x y e. head_same x y [] [] (goes_on i.path (x ∷ []) (y ∷ []) e))
-      (sites_of_clocks [] (ticking p (suc levels) i.node)) (sites_apart (ticking p (suc levels) i.node) []))
+      apart_append (own_places (suc levels) i) (call_places levels i)
+      (apart_map (λ c. i.path ++ c ∷ []) (λ x y e. same_next i.path x y [] [] e) (sites_of_clocks [] (ticking p (suc levels) i.node))
+      (sites_apart (ticking p (suc levels) i.node) []))
       (apart_flat_map (λ c. tick_places levels (callee p i c)) (λ (c : CallTree). c.site) (calls i.node) (sites_differ (calls i.node) has.apart)
       (λ c w. all_apart sited levels (callee p i c) (node_sited sited c.name))
       (λ c d q w v in_c in_d.
       let a = below_call levels i c q in_c in
       let b = below_call levels i d q in_d in
-      head_same c.site d.site (a.0 ∷ a.1) (b.0 ∷ b.1) (goes_on i.path (c.site ∷ a.0 ∷ a.1) (d.site ∷ b.0 ∷ b.1) (sym a.2 ∙ b.2))))
+      same_next i.path c.site d.site (a.0 ∷ a.1) (b.0 ∷ b.1) (sym a.2 ∙ b.2)))
       (λ q own rest.
-      let v = from_map (λ c. i.path ++ c ∷ []) (sites_of_clocks [] (ticking p (suc levels) i.node)) q own in
+      let v = own_is (suc levels) i q own in
       let u = of_flat_map (λ c. tick_places levels (callee p i c)) (calls i.node) q rest in
       let b = below_call levels i u.0 q u.2 in
-      no_more v.0 u.0.site b.0 b.1 (goes_on i.path (v.0 ∷ []) (u.0.site ∷ b.0 ∷ b.1) (v.2 ∙ b.2)))
+      no_more i.path v.0 u.0.site b.0 b.1 (v.2 ∙ b.2))
 
   -- The clocks on which `->` stand.
 
@@ -142,66 +123,59 @@ module _ (p : ProgramTree) where
   Held i ks q = (k : Clock) × Contains ks k × (absolute i k ≡ Some q)
 
   -- the clocks of `->` have places where they are not main's base clock
-  arrow_held : (i : Instance) (es : List Tree) (q : Sites) → Contains (arrow_clocks i es) q → Held i (arrows i.node es) q
-  arrow_held i [] q w = nothing_in q w
-  arrow_held i (e ∷ es) q w = tested (is_arrow e) (taken Base (pace i.node e)) (absolute i (taken Base (pace i.node e))) refl w (arrow_held i es q)
+  arrow_held : (i : Instance) (es : List Tree) (q : Sites) → Contains (arrow_clocks i es) q ↔ Held i (arrows i.node es) q
+  arrow_held i [] q = (λ w. nothing_in q w, λ h. nothing_in h.0 h.1)
+  arrow_held i (e ∷ es) q = tested (is_arrow e) (taken Base (pace i.node e)) (absolute i (taken Base (pace i.node e))) refl (arrow_held i es q)
     where
-      tested : (b : Bool) (k : Clock) (o : Option Sites) → absolute i k ≡ o
+      tested : (b : Bool) (k : Clock) (o : Option Sites) → absolute i k ≡ o → Contains (arrow_clocks i es) q ↔ Held i (arrows i.node es) q
           → Contains (cond b (elim o as (λ _. List Sites) [ Nothing ↦ [] | Some p ↦ p ∷ [] ]) [] ++ arrow_clocks i es) q
-          → (Contains (arrow_clocks i es) q → Held i (arrows i.node es) q)
-          → Held i (cond b (k ∷ []) [] ++ arrows i.node es) q
-      tested true k Nothing is w more = let v = more w in (v.0, in_tail k (arrows i.node es) v.0 v.1, v.2)
-      tested true k (Some r) is w more = elim (cons_cases r (arrow_clocks i es) q w) [
-        | inl same ↦ (k, first_in k (arrows i.node es) k refl, is ∙ ap Some same)
-        | inr rest ↦ let v = more rest in (v.0, in_tail k (arrows i.node es) v.0 v.1, v.2)
-      ]
-      tested false k o is w more = more w
-
-  held_arrow : (i : Instance) (es : List Tree) (q : Sites) → Held i (arrows i.node es) q → Contains (arrow_clocks i es) q
-  held_arrow i [] q h = nothing_in h.0 h.1
-  held_arrow i (e ∷ es) q h = tested (is_arrow e) (taken Base (pace i.node e)) (absolute i (taken Base (pace i.node e))) refl h (held_arrow i es q)
-    where
-      tested : (b : Bool) (k : Clock) (o : Option Sites) → absolute i k ≡ o
-          → Held i (cond b (k ∷ []) [] ++ arrows i.node es) q
-          → (Held i (arrows i.node es) q → Contains (arrow_clocks i es) q)
-          → Contains (cond b (elim o as (λ _. List Sites) [ Nothing ↦ [] | Some p ↦ p ∷ [] ]) [] ++ arrow_clocks i es) q
-      tested true k Nothing is h more = elim (cons_cases k (arrows i.node es) h.0 h.1) [
-        | inl same ↦ absurd (none_some q (sym is ∙ ap (absolute i) same ∙ h.2))
-        | inr rest ↦ more (h.0, rest, h.2)
-      ]
-      tested true k (Some r) is h more = elim (cons_cases k (arrows i.node es) h.0 h.1) [
-        | inl same ↦ first_in r (arrow_clocks i es) q (some_same r q (sym is ∙ ap (absolute i) same ∙ h.2))
-        | inr rest ↦ in_tail r (arrow_clocks i es) q (more (h.0, rest, h.2))
-      ]
-      tested false k o is h more = more h
+          ↔ Held i (cond b (k ∷ []) [] ++ arrows i.node es) q
+      tested true k Nothing is more = (
+        λ w. let v = more.0 w in (v.0, in_tail k (arrows i.node es) v.0 v.1, v.2),
+        λ h. elim (cons_cases k (arrows i.node es) h.0 h.1) [
+          | inl same ↦ absurd (none-some q (sym is ∙ ap (absolute i) same ∙ h.2))
+          | inr rest ↦ more.1 (h.0, rest, h.2)
+        ],
+      )
+      tested true k (Some r) is more = (
+        λ w. elim (cons_cases r (arrow_clocks i es) q w) [
+          | inl same ↦ (k, first_in k (arrows i.node es) k refl, is ∙ ap Some same)
+          | inr rest ↦ let v = more.0 rest in (v.0, in_tail k (arrows i.node es) v.0 v.1, v.2)
+        ],
+        λ h. elim (cons_cases k (arrows i.node es) h.0 h.1) [
+          | inl same ↦ first_in r (arrow_clocks i es) q (same_Some r q (sym is ∙ ap (absolute i) same ∙ h.2))
+          | inr rest ↦ in_tail r (arrow_clocks i es) q (more.1 (h.0, rest, h.2))
+        ],
+      )
+      tested false k o is more = more
 
   -- A call hands its clock on where its node has a tick on the base clock.
   handed : ℕ → NodeTree → CallTree → List Clock
   handed levels n c = cond (has_base (ticking p levels (node_of p c.name))) (taken Base (pace_of_all n c.args) ∷ []) []
 
-  handed_on : (levels : ℕ) (n : NodeTree) (c : CallTree) → Contains (ticking p levels (node_of p c.name)) Base
-      → Contains (handed levels n c) (taken Base (pace_of_all n c.args))
+  handed_is : (levels : ℕ) (n : NodeTree) (c : CallTree) (k : Clock)
+      → Contains (handed levels n c) k ↔ (Contains (ticking p levels (node_of p c.name)) Base × (taken Base (pace_of_all n c.args) ≡ k))
   unfolding handed
-  handed_on levels n c w = at (has_base (ticking p levels (node_of p c.name))) (there_base (ticking p levels (node_of p c.name)) w)
-    where
-      at : (b : Bool) → b ≡ true → Contains (cond b (taken Base (pace_of_all n c.args) ∷ []) []) (taken Base (pace_of_all n c.args))
-      at true e = first_in (taken Base (pace_of_all n c.args)) [] (taken Base (pace_of_all n c.args)) refl
-      at false e = cc
-
-  was_handed : (levels : ℕ) (n : NodeTree) (c : CallTree) (k : Clock) → Contains (handed levels n c) k
-      → Contains (ticking p levels (node_of p c.name)) Base × (taken Base (pace_of_all n c.args) ≡ k)
-  unfolding handed
-  was_handed levels n c k w = at (has_base (ticking p levels (node_of p c.name))) refl w
+  handed_is levels n c k = at (has_base (ticking p levels (node_of p c.name))) refl
     where
       at : (b : Bool) → has_base (ticking p levels (node_of p c.name)) ≡ b → Contains (cond b (taken Base (pace_of_all n c.args) ∷ []) []) k
-          → Contains (ticking p levels (node_of p c.name)) Base × (taken Base (pace_of_all n c.args) ≡ k)
-      at true e w = elim (cons_cases (taken Base (pace_of_all n c.args)) [] k w)
-          [ inl same ↦ (base_there (ticking p levels (node_of p c.name)) e, same) | inr rest ↦ nothing_in k rest ]
-      at false e w = nothing_in k w
+          ↔ (Contains (ticking p levels (node_of p c.name)) Base × (taken Base (pace_of_all n c.args) ≡ k))
+      at true e = (
+        λ w. elim (cons_cases (taken Base (pace_of_all n c.args)) [] k w)
+            [ inl same ↦ (base_there (ticking p levels (node_of p c.name)) e, same) | inr rest ↦ nothing_in k rest ],
+        λ h. first_in (taken Base (pace_of_all n c.args)) [] k h.1,
+      )
+      at false e = (λ w. nothing_in k w, λ h. let there = there_base (ticking p levels (node_of p c.name)) h.0 in cc)
 
-  -- the places of all clocks on which `->` stand in an instance and those below it
+  -- the places of all clocks on which `->` stand in an instance, and in those below it
+  abbrev arrows_at : Instance → List Sites
+  arrows_at j = arrow_clocks j (node_parts j.node)
+
+  abbrev instances_below : ℕ → Instance → List Instance
+  instances_below levels i = flat_map (λ (c : CallTree). unrolled p levels (callee p i c)) (calls i.node)
+
   raw : ℕ → Instance → List Sites
-  raw levels i = flat_map (λ (j : Instance). arrow_clocks j (node_parts j.node)) (unrolled p levels i)
+  raw levels i = flat_map (λ (j : Instance). arrows_at j) (unrolled p levels i)
 
   -- a tick of a callee
   abbrev Below : ℕ → Instance → Sites → Type 0
@@ -209,74 +183,52 @@ module _ (p : ProgramTree) where
   Below (suc levels) i q = (c : CallTree) × Contains (calls i.node) c × Contains (tick_places levels (callee p i c)) q
 
   -- a place of a tick is that of a clock of the instance, or stands below
-  placed : (levels : ℕ) (i : Instance) (q : Sites) → Contains (tick_places levels i) q
-      → ((c : ℕ) × Contains (ticking p levels i.node) (On c) × (i.path ++ c ∷ [] ≡ q)) ⊎ Below levels i q
+  placed : (levels : ℕ) (i : Instance) (q : Sites) → Contains (tick_places levels i) q → Held i (ticking p levels i.node) q ⊎ Below levels i q
   unfolding tick_places
   placed zero i q w = nothing_in q w
-  placed (suc levels) i q w =
-      elim (Contains-append_cases (map (λ c. i.path ++ c ∷ []) (sites_of_clocks [] (ticking p (suc levels) i.node)))
-      (flat_map (λ c. tick_places levels (callee p i c)) (calls i.node)) q w) [
-        | inl own ↦ let v = from_map (λ c. i.path ++ c ∷ []) (sites_of_clocks [] (ticking p (suc levels) i.node)) q own in
-            inl (v.0, (site_is (ticking p (suc levels) i.node) [] v.0 v.1).0, v.2)
-        | inr rest ↦ inr (of_flat_map (λ c. tick_places levels (callee p i c)) (calls i.node) q rest)
-      ]
+  placed (suc levels) i q w = elim (Contains-append_cases (own_places (suc levels) i) (call_places levels i) q w) [
+    | inl own ↦ let v = own_is (suc levels) i q own in inl (On v.0, v.1, ap Some v.2)
+    | inr rest ↦ inr (of_flat_map (λ c. tick_places levels (callee p i c)) (calls i.node) q rest)
+  ]
 
   -- and back
   own_placed : (levels : ℕ) (i : Instance) (c : ℕ) → Contains (ticking p levels i.node) (On c) → Contains (tick_places levels i) (i.path ++ c ∷ [])
   unfolding tick_places
   own_placed zero i c w = nothing_in (On c) w
   own_placed (suc levels) i c w =
-      Contains-append_left (map (λ c. i.path ++ c ∷ []) (sites_of_clocks [] (ticking p (suc levels) i.node)))
-      (flat_map (λ c. tick_places levels (callee p i c)) (calls i.node)) (i.path ++ c ∷ [])
-      (in_map (λ c. i.path ++ c ∷ []) (sites_of_clocks [] (ticking p (suc levels) i.node)) c (site_comes (ticking p (suc levels) i.node) [] c w refl))
+      Contains-append_left (own_places (suc levels) i) (call_places levels i) (i.path ++ c ∷ []) (in_map (λ c. i.path ++ c ∷ [])
+      (sites_of_clocks [] (ticking p (suc levels) i.node)) c (site_comes (ticking p (suc levels) i.node) [] c w refl))
 
   below_placed : (levels : ℕ) (i : Instance) (q : Sites) → Below levels i q → Contains (tick_places levels i) q
   unfolding tick_places
   below_placed zero i q b = absurd b
-  below_placed (suc levels) i q b =
-      Contains-append_right (map (λ c. i.path ++ c ∷ []) (sites_of_clocks [] (ticking p (suc levels) i.node)))
-      (flat_map (λ c. tick_places levels (callee p i c)) (calls i.node)) q
+  below_placed (suc levels) i q b = Contains-append_right (own_places (suc levels) i) (call_places levels i) q
       (in_flat_map (λ c. tick_places levels (callee p i c)) (calls i.node) b.0 q b.1 b.2)
 
   -- where a `->` stands, the flow of its clock is that of a clock of the instance or a tick below it
   raw_is : (levels : ℕ) (i : Instance) (q : Sites) → Contains (raw levels i) q → Held i (ticking p levels i.node) q ⊎ Below levels i q
   unfolding raw handed
   raw_is zero i q w = nothing_in q w
-  raw_is (suc levels) i q w =
-      elim (Contains-append_cases (arrow_clocks i (node_parts i.node))
-      (flat_map (λ (j : Instance). arrow_clocks j (node_parts j.node)) (flat_map (λ (c : CallTree). unrolled p levels (callee p i c)) (calls i.node))) q w) [
-        | inl own ↦
-            let h = arrow_held i (node_parts i.node) q own in
-            inl (h.0, Contains-append_left (arrows i.node (node_parts i.node)) (flat_map (handed levels i.node) (calls i.node)) h.0 h.1, h.2)
-        | inr rest ↦
-            let v = of_flat_map (λ (j : Instance). arrow_clocks j (node_parts j.node))
-            (flat_map (λ (c : CallTree). unrolled p levels (callee p i c)) (calls i.node)) q rest in
-            let u = of_flat_map (λ (c : CallTree). unrolled p levels (callee p i c)) (calls i.node) v.0 v.1 in
-            of_call u.0 u.1 (raw_is levels (callee p i u.0) q (in_flat_map (λ (j : Instance). arrow_clocks j (node_parts j.node))
-            (unrolled p levels (callee p i u.0)) v.0 q u.2 v.2))
-      ]
+  raw_is (suc levels) i q w = elim (Contains-append_cases (arrows_at i) (flat_map (λ (j : Instance). arrows_at j) (instances_below levels i)) q w) [
+    | inl own ↦
+        let h = (arrow_held i (node_parts i.node) q).0 own in
+        inl (h.0, Contains-append_left (arrows i.node (node_parts i.node)) (flat_map (handed levels i.node) (calls i.node)) h.0 h.1, h.2)
+    | inr rest ↦
+        let v = of_flat_map (λ (j : Instance). arrows_at j) (instances_below levels i) q rest in
+        let u = of_flat_map (λ (c : CallTree). unrolled p levels (callee p i c)) (calls i.node) v.0 v.1 in
+        of_call u.0 u.1
+        (raw_is levels (callee p i u.0) q (in_flat_map (λ (j : Instance). arrows_at j) (unrolled p levels (callee p i u.0)) v.0 q u.2 v.2))
+  ]
     where
-      of_clock : (c : CallTree) → Contains (calls i.node) c → (k : Clock) → Contains (ticking p levels (node_of p c.name)) k
-          → absolute (callee p i c) k ≡ Some q
-          → Held i (ticking p (suc levels) i.node) q ⊎ Below (suc levels) i q
-      of_clock c w Base on is =
-          inl (
-            taken Base (pace_of_all i.node c.args),
-            Contains-append_right (arrows i.node (node_parts i.node)) (flat_map (handed levels i.node) (calls i.node)) (taken Base (pace_of_all i.node c.args))
-                (in_flat_map (handed levels i.node) (calls i.node) c (taken Base (pace_of_all i.node c.args)) w (handed_on levels i.node c on)),
-            is,
-          )
-      of_clock c w (On d) on is =
-          inr (
-            c,
-            w,
-            subst (Contains (tick_places levels (callee p i c))) (some_same ((callee p i c).path ++ d ∷ []) q is)
-                (own_placed levels (callee p i c) d on),
-          )
-
       of_call : (c : CallTree) → Contains (calls i.node) c → Held (callee p i c) (ticking p levels (node_of p c.name)) q ⊎ Below levels (callee p i c) q
           → Held i (ticking p (suc levels) i.node) q ⊎ Below (suc levels) i q
-      of_call c w (inl h) = of_clock c w h.0 h.1 h.2
+      of_call c w (inl (Base, on, is)) =
+          let clock = taken Base (pace_of_all i.node c.args) in
+          let there = in_flat_map (handed levels i.node) (calls i.node) c clock w ((handed_is levels i.node c clock).1 (on, refl)) in
+          inl (clock, Contains-append_right (arrows i.node (node_parts i.node)) (flat_map (handed levels i.node) (calls i.node)) clock there, is)
+      of_call c w (inl (On d, on, is)) =
+          let same = same_Some ((callee p i c).path ++ d ∷ []) q is in
+          inr (c, w, subst (Contains (tick_places levels (callee p i c))) same (own_placed levels (callee p i c) d on))
       of_call c w (inr b) = inr (c, w, below_placed levels (callee p i c) q b)
 
   -- what stands in a callee stands below the instance
@@ -284,10 +236,9 @@ module _ (p : ProgramTree) where
       → Contains (raw (suc levels) i) q
   unfolding raw
   in_call levels i c q w v =
-      let u = of_flat_map (λ (j : Instance). arrow_clocks j (node_parts j.node)) (unrolled p levels (callee p i c)) q v in
-      Contains-append_right (arrow_clocks i (node_parts i.node)) (flat_map (λ (j : Instance). arrow_clocks j (node_parts j.node))
-      (flat_map (λ (c : CallTree). unrolled p levels (callee p i c)) (calls i.node))) q
-      (in_flat_map (λ (j : Instance). arrow_clocks j (node_parts j.node)) (flat_map (λ (c : CallTree). unrolled p levels (callee p i c)) (calls i.node)) u.0 q
+      let u = of_flat_map (λ (j : Instance). arrows_at j) (unrolled p levels (callee p i c)) q v in
+      Contains-append_right (arrows_at i) (flat_map (λ (j : Instance). arrows_at j) (instances_below levels i)) q
+      (in_flat_map (λ (j : Instance). arrows_at j) (instances_below levels i) u.0 q
       (in_flat_map (λ (c : CallTree). unrolled p levels (callee p i c)) (calls i.node) c u.0 w u.1) u.2)
 
   is_raw : (levels : ℕ) (i : Instance) (q : Sites) → Held i (ticking p levels i.node) q ⊎ Below levels i q → Contains (raw levels i) q
@@ -296,51 +247,31 @@ module _ (p : ProgramTree) where
   is_raw zero i q (inr b) = absurd b
   is_raw (suc levels) i q (inl h) =
       elim (Contains-append_cases (arrows i.node (node_parts i.node)) (flat_map (handed levels i.node) (calls i.node)) h.0 h.1) [
-        | inl own ↦
-            Contains-append_left (arrow_clocks i (node_parts i.node)) (flat_map (λ (j : Instance). arrow_clocks j (node_parts j.node))
-            (flat_map (λ (c : CallTree). unrolled p levels (callee p i c)) (calls i.node))) q
-            (held_arrow i (node_parts i.node) q (h.0, own, h.2))
+        | inl own ↦ Contains-append_left (arrows_at i) (flat_map (λ (j : Instance). arrows_at j) (instances_below levels i)) q
+            ((arrow_held i (node_parts i.node) q).1 (h.0, own, h.2))
         | inr rest ↦
             let v = of_flat_map (handed levels i.node) (calls i.node) h.0 rest in
-            let u = was_handed levels i.node v.0 h.0 v.2 in
+            let u = (handed_is levels i.node v.0 h.0).0 v.2 in
             in_call levels i v.0 q v.1 (is_raw levels (callee p i v.0) q (inl (Base, u.0, ap (absolute i) u.1 ∙ h.2)))
       ]
-  is_raw (suc levels) i q (inr b) = in_call levels i b.0 q b.1 (is_raw levels (callee p i b.0) q (at (placed levels (callee p i b.0) q b.2)))
-    where
-      at : ((c : ℕ) × Contains (ticking p levels (node_of p b.0.name)) (On c) × ((callee p i b.0).path ++ c ∷ [] ≡ q)) ⊎ Below levels (callee p i b.0) q
-          → Held (callee p i b.0) (ticking p levels (node_of p b.0.name)) q ⊎ Below levels (callee p i b.0) q
-      at (inl v) = inl (On v.0, v.1, ap Some v.2)
-      at (inr v) = inr v
+  is_raw (suc levels) i q (inr b) = in_call levels i b.0 q b.1 (is_raw levels (callee p i b.0) q (placed levels (callee p i b.0) q b.2))
 
   -- main's own base clock has no flow
-  module _ (main : Identifier) (levels : ℕ) where
-    main_held : (q : Sites) → Held (main_instance p main) (ticking p levels (node_of p main)) q ⊎ Below levels (main_instance p main) q
-        → Contains (tick_places levels (main_instance p main)) q
-    main_held q (inr b) = below_placed levels (main_instance p main) q b
-    main_held q (inl h) = at h.0 h.1 h.2
-      where
-        at : (k : Clock) → Contains (ticking p levels (node_of p main)) k → absolute (main_instance p main) k ≡ Some q
-            → Contains (tick_places levels (main_instance p main)) q
-        at Base w is = absurd (none_some q is)
-        at (On c) w is = subst (Contains (tick_places levels (main_instance p main))) (some_same (c ∷ []) q is) (own_placed levels (main_instance p main) c w)
-
-    held_main : (q : Sites) → Contains (tick_places levels (main_instance p main)) q
-        → Held (main_instance p main) (ticking p levels (node_of p main)) q ⊎ Below levels (main_instance p main) q
-    held_main q w = at (placed levels (main_instance p main) q w)
-      where
-        at : ((c : ℕ) × Contains (ticking p levels (node_of p main)) (On c) × ([] ++ c ∷ [] ≡ q)) ⊎ Below levels (main_instance p main) q
-            → Held (main_instance p main) (ticking p levels (node_of p main)) q ⊎ Below levels (main_instance p main) q
-        at (inl v) = inl (On v.0, v.1, ap Some v.2)
-        at (inr v) = inr v
+  main_held : (main : Identifier) (levels : ℕ) (q : Sites)
+      → Held (main_instance p main) (ticking p levels (node_of p main)) q ⊎ Below levels (main_instance p main) q
+      → Contains (tick_places levels (main_instance p main)) q
+  main_held main levels q (inl (Base, w, is)) = absurd (none-some q is)
+  main_held main levels q (inl (On c, w, is)) =
+      subst (Contains (tick_places levels (main_instance p main))) (same_Some (c ∷ []) q is) (own_placed levels (main_instance p main) c w)
+  main_held main levels q (inr b) = below_placed levels (main_instance p main) q b
 
   -- the ticks of a program are those of its nodes, summed along calls
   pub ticks_counted : AreSited p → (main : Identifier) → length (ticks p main) ≡ tick_total p (length p.nodes) (node_of p main)
   unfolding raw
   ticks_counted sited main =
-      same_length (ticks p main) (tick_places (length p.nodes) (main_instance p main)) (different_apart (raw (length p.nodes) (main_instance p main)))
-      (all_apart sited (length p.nodes) (main_instance p main) (node_sited sited main))
-      (λ q w. main_held main (length p.nodes) q (raw_is (length p.nodes) (main_instance p main) q
-      (of_different (raw (length p.nodes) (main_instance p main)) q w)))
-      (λ q w. still_different (raw (length p.nodes) (main_instance p main)) q
-      (is_raw (length p.nodes) (main_instance p main) q (held_main main (length p.nodes) q w)))
-      ∙ counted (length p.nodes) (main_instance p main)
+      let levels = length p.nodes in
+      let i = main_instance p main in
+      same_length (ticks p main) (tick_places levels i) (different_apart (raw levels i)) (all_apart sited levels i (node_sited sited main))
+      (λ q w. main_held main levels q (raw_is levels i q (of_different (raw levels i) q w)))
+      (λ q w. still_different (raw levels i) q (is_raw levels i q (placed levels i q w)))
+      ∙ counted levels i

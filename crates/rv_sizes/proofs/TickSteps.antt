@@ -38,62 +38,51 @@ module _ (p : ProgramTree) (named : name_faults p ≡ []) (order : List ℕ) (or
       ticks_known (get_or p.nodes (get_or order j 0) no_node) (ticks_on_base (names_of p) bases) p m.0
       (λ c w.
       let e = earlier p named order ordered j lt c (subst (λ (n : NodeTree). Contains (calls n) c) (sym (at_is p named order ordered j)) w) in
-      let less = e.1 in
       let within = enough p named order ordered j lt in
-      let size = m.1 in
-      let known = t.base e.0 e.1 (omega (arith, less, lt)) in
-      ap (λ k. get_or bases k false) (sym e.2) ∙ known
+      ap (λ k. get_or bases k false) (sym e.2) ∙ t.base e.0 e.1 (omega (arith, e.1, lt))
       ∙ ap (λ (n : NodeTree). has_base (ticking p (length p.nodes) n)) (sym (at_is p named order ordered e.0))
-      ∙ ap has_base (steady p named order ordered (length p.nodes) m.0 e.0 (omega (arith, less, lt)) (omega (arith, less, within))
-      (omega (arith, less, within, size)))
+      ∙ ap has_base (steady p named order ordered (length p.nodes) m.0 e.0 (omega (arith, e.1, lt)) (omega (arith, e.1, within))
+      (omega (arith, e.1, within, m.1)))
       ∙ ap (λ (n : NodeTree). has_base (ticking p m.0 n)) (sym e.3))
       ∙ ap (λ levels. ticking p levels (get_or p.nodes (get_or order j 0) no_node)) (sym m.1)
+
+  -- what is set for the next node, and what has been set for those before it
+  one_set : {X : Type 0} (none : X) (of : NodeTree → X) (old new : List X) (j : ℕ) → length old ≡ length p.nodes → j < length order
+      → ((i : ℕ) → i < j → i < length order → get_or old (get_or order i 0) none ≡ of (get_or p.nodes (get_or order i 0) no_node))
+      → new ≡ set old (get_or order j 0) (of (get_or p.nodes (get_or order j 0) no_node)) → (i : ℕ) → i < j + 1 → i < length order
+      → get_or new (get_or order i 0) none ≡ of (get_or p.nodes (get_or order i 0) no_node)
+  one_set {X} none of old new j size lt earlier_set is i less inside = ap (λ (l : List X). get_or l (get_or order i 0) none) is ∙ elim (cases_eq i j) [
+    | inl same ↦ subst (λ i. get_or (set old (get_or order j 0) here) (get_or order i 0) none ≡ of (get_or p.nodes (get_or order i 0) no_node)) (sym same)
+        (get_or-set_same old (get_or order j 0) here none (subst (λ n. get_or order j 0 < n) (sym size) (number_within p named order ordered j lt)))
+    | inr other ↦
+        let before : i < j = omega (arith, less, other) in
+        get_or-set_other old (get_or order j 0) (get_or order i 0) here none (ordered.once i j before lt) ∙ earlier_set i before inside
+  ]
+    where
+      here : X
+      here = of (get_or p.nodes (get_or order j 0) no_node)
 
   pub ticked_step : (j : ℕ) (bases new_bases : List Bool) (own new_own : List ℕ) → AreTicked p order j bases own → j < length order
       → new_bases ≡ set bases (get_or order j 0) (has_base (ticking p (length p.nodes) (get_or p.nodes (get_or order j 0) no_node)))
       → new_own ≡ set own (get_or order j 0) (capped (own_ticks p (get_or p.nodes (get_or order j 0) no_node)))
       → AreTicked p order (j + 1) new_bases new_own
   ticked_step j bases new_bases own new_own t lt bases_are own_are = record {
-    bases_size = ap length bases_are ∙ length-set bases (get_or order j 0) base_here ∙ t.bases_size;
-    own_size = ap length own_are ∙ length-set own (get_or order j 0) count_here ∙ t.own_size;
-    base = λ i less inside. ap (λ (l : List Bool). get_or l (get_or order i 0) false) bases_are ∙ elim (cases_eq i j) [
-      | inl same ↦ subst (λ i. get_or (set bases (get_or order j 0) base_here) (get_or order i 0) false ≡ has_base
-          (ticking p (length p.nodes) (get_or p.nodes (get_or order i 0) no_node))) (sym same)
-          (get_or-set_same bases (get_or order j 0) base_here false (subst (λ n. get_or order j 0 < n) (sym t.bases_size)
-          (number_within p named order ordered j lt)))
-      | inr other ↦
-          let before : i < j = omega (arith, less, other) in
-          get_or-set_other bases (get_or order j 0) (get_or order i 0) base_here false (ordered.once i j before lt) ∙ t.base i before inside
-    ];
-    count = λ i less inside. ap (λ (l : List ℕ). get_or l (get_or order i 0) 0) own_are ∙ elim (cases_eq i j) [
-      | inl same ↦ subst (λ i. get_or (set own (get_or order j 0) count_here) (get_or order i 0) 0 ≡ capped
-          (own_ticks p (get_or p.nodes (get_or order i 0) no_node))) (sym same)
-          (get_or-set_same own (get_or order j 0) count_here 0 (subst (λ n. get_or order j 0 < n) (sym t.own_size)
-          (number_within p named order ordered j lt)))
-      | inr other ↦
-          let before : i < j = omega (arith, less, other) in
-          get_or-set_other own (get_or order j 0) (get_or order i 0) count_here 0 (ordered.once i j before lt) ∙ t.count i before inside
-    ];
+    bases_size = ap length bases_are ∙ length-set bases (get_or order j 0) _ ∙ t.bases_size;
+    own_size = ap length own_are ∙ length-set own (get_or order j 0) _ ∙ t.own_size;
+    base = one_set false (λ n. has_base (ticking p (length p.nodes) n)) bases new_bases j t.bases_size lt t.base bases_are;
+    count = one_set 0 (λ n. capped (own_ticks p n)) own new_own j t.own_size lt t.count own_are;
   }
-    where
-      base_here : Bool
-      base_here = has_base (ticking p (length p.nodes) (get_or p.nodes (get_or order j 0) no_node))
-
-      count_here : ℕ
-      count_here = capped (own_ticks p (get_or p.nodes (get_or order j 0) no_node))
 
   -- at the end all nodes have been walked over
   pub ticked_end : (j : ℕ) (bases : List Bool) (own : List ℕ) → AreTicked p order j bases own → length order ≤ j
       → own ≡ map (λ (n : NodeTree). capped (own_ticks p n)) p.nodes
   ticked_end j bases own t all =
-      same_number_lists own (map (λ (n : NodeTree). capped (own_ticks p n)) p.nodes) (t.own_size ∙ sym (length_map (λ (n : NodeTree). capped (own_ticks p n)) p.nodes))
+      same_number_lists own (map (λ (n : NodeTree). capped (own_ticks p n)) p.nodes)
+      (t.own_size ∙ sym (length_map (λ (n : NodeTree). capped (own_ticks p n)) p.nodes))
       (λ k lt.
-      let size = t.own_size in
-      let n = graph_size p named in
-      let within : k < length p.nodes = omega (arith, lt, size) in
-      let place = contains_at order k (ordered.all k (omega (arith, within, n))) in
-      let less = place.1 in
-      subst (λ u. get_or own u 0 ≡ capped (own_ticks p (get_or p.nodes u no_node))) place.2 (t.count place.0 (omega (arith, less, all)) less)
+      let within : k < length p.nodes = omega (arith, lt, t.own_size) in
+      let place = contains_at order k (ordered.all k (omega (arith, within, graph_size p named))) in
+      subst (λ u. get_or own u 0 ≡ capped (own_ticks p (get_or p.nodes u no_node))) place.2 (t.count place.0 (omega (arith, place.1, all)) place.1)
       ∙ sym (map_at (λ (n : NodeTree). capped (own_ticks p n)) p.nodes k 0 no_node within))
 
   -- The same with what the code reads.

@@ -38,7 +38,7 @@ count_step seen next (On c) ks new count all so_far is at = (λ i. cond (is i) (
     tested : (b : Bool) → count + length (cond b (sites_of_clocks seen ks) (c ∷ sites_of_clocks (c ∷ seen) ks)) ≡ all
         → cond (not b) (count + 1) count + length (sites_of_clocks (cond b seen (seen ++ c ∷ [])) ks) ≡ all
     tested true e = e
-    tested false e = let same = ap length (sites_same (seen ++ c ∷ []) (c ∷ seen) (in_last seen c) ks) in omega (arith, same, e)
+    tested false e = omega (arith, ap length (sites_same (seen ++ c ∷ []) (c ∷ seen) (in_last seen c) ks), e)
 
 pub counted_more : (ks : List Clock) (i : ℕ) (seen next : List ℕ) (new : Bool) (count all : ℕ) → i < length ks
     → count + length (sites_of_clocks seen (drop i ks)) ≡ all → new ≡ is_new_site seen (get_or ks i Base)
@@ -54,14 +54,11 @@ module _ (n : NodeTree) where
   -- an operator that is a `->`
   arrow_here : (e : Tree) → flat_map arrow_told (own_operator n e) ≡ cond (is_arrow e) (taken Base (pace n e) ∷ []) []
   arrow_here (Node at site (Binary op.Arrow a b)) = refl
-  arrow_here (Node at site (Binary o a b)) = refl
   arrow_here (Node at site form) = refl
 
   arrows_told : (es : List Tree) → flat_map arrow_told (flat_map (own_operator n) es) ≡ arrows n es
   arrows_told [] = refl
-  arrows_told (e ∷ es) =
-      flat_map-append arrow_told (own_operator n e) (flat_map (own_operator n) es)
-      ∙ (λ i. arrow_here e i ++ arrows_told es i)
+  arrows_told (e ∷ es) = flat_map-append arrow_told (own_operator n e) (flat_map (own_operator n) es) ∙ (λ i. arrow_here e i ++ arrows_told es i)
 
   calls_handed : (on_base : Identifier → Bool) (cs : List CallTree) → flat_map (handed_told on_base) (map (call_told n) cs)
       ≡ flat_map (λ (c : CallTree). cond (on_base c.name) (taken Base (pace_of_all n c.args) ∷ []) []) cs

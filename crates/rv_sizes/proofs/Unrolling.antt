@@ -1,7 +1,6 @@
 -- Sums over all instances, by the numbers of nodes.
 use Rattle.std.proofs.Common.{◌≡◌, ℕ, zero, suc, ◌+◌, ◌<◌, min, List, [], ◌∷◌, map, length, get_or, refl, sym, ◌∙◌, ap, arith}
 use Rattle.std.proofs.lemmas.List.Elements.{Contains-get_or}
-use Rattle.std.specs.List.{Contains, flat_map}
 use Rattle.rv_tree.specs.{Tree.NodeTree, Tree.ProgramTree, Places.index_of}
 use Rattle.rv_types.specs.Instances.{CallTree, calls, Instance, no_node, callee, unrolled}
 use Rattle.rv_types.specs.{Names.name_faults, Variables.total}
@@ -16,7 +15,7 @@ use Rattle.rv_types.proofs.DifferentPlaces.{total_map, total_same, total_flat_ma
 
 pub total_ones : {X : Type 0} (xs : List X) → total (λ x. 1) xs ≡ length xs
 total_ones [] = refl
-total_ones (x ∷ xs) = let h = total_ones xs in omega (arith, h)
+total_ones (x ∷ xs) = omega (arith, total_ones xs)
 
 module _ (p : ProgramTree) (named : name_faults p ≡ []) (f : NodeTree → ℕ) where
   -- the sum over an instance and those below it is that of its node
@@ -26,9 +25,7 @@ module _ (p : ProgramTree) (named : name_faults p ≡ []) (f : NodeTree → ℕ)
   unrolled_total (suc levels) i k lt is =
       let cs = calls (get_or p.nodes k no_node) in
       let own : f i.node ≡ get_or (map f p.nodes) k 0 = ap f is ∙ sym (map_at f p.nodes k 0 no_node lt) in
-      let below : total (λ (j : Instance). f j.node) (flat_map (λ (c : CallTree). unrolled p levels (callee p i c)) (calls i.node)) ≡ total
-      (λ (c : Calling). total_at (map f p.nodes) (callings_of p) levels c.callee) (get_or (callings_of p) k []) =
-      total_flat_map (λ (j : Instance). f j.node) (λ (c : CallTree). unrolled p levels (callee p i c)) (calls i.node)
+      let below = total_flat_map (λ (j : Instance). f j.node) (λ (c : CallTree). unrolled p levels (callee p i c)) (calls i.node)
       ∙ ap (λ (n : NodeTree). total (λ (c : CallTree). total (λ (j : Instance). f j.node) (unrolled p levels (callee p i c))) (calls n)) is
       ∙ total_same (λ (c : CallTree). total (λ (j : Instance). f j.node) (unrolled p levels (callee p i c)))
       (λ (c : CallTree). total_at (map f p.nodes) (callings_of p) levels (index_of (names_of p) c.name)) (calls (get_or p.nodes k no_node))
@@ -44,25 +41,17 @@ pub capped_total : {X : Type 0} (f : X → ℕ) (xs : List X) (t : List (List Ca
     → min (total_at (map (λ x. capped (f x)) xs) t levels k) heaviest ≡ min (total_at (map f xs) t levels k) heaviest
 capped_total {X = X} f xs t zero k = refl
 capped_total {X = X} f xs t (suc levels) k =
-    let own = own_capped xs k in
-    let first = total_min heaviest (λ (c : Calling). min (total_at (map (λ x. capped (f x)) xs) t levels c.callee) heaviest)
-    (λ (c : Calling). total_at (map (λ x. capped (f x)) xs) t levels c.callee) (get_or t k []) (get_or (map (λ x. capped (f x)) xs) k 0) (λ c w. refl) in
-    let second = total_min heaviest (λ (c : Calling). min (total_at (map f xs) t levels c.callee) heaviest)
-    (λ (c : Calling). total_at (map f xs) t levels c.callee) (get_or t k []) (get_or (map f xs) k 0) (λ c w. refl) in
-    let same = total_same (λ (c : Calling). min (total_at (map (λ x. capped (f x)) xs) t levels c.callee) heaviest)
-    (λ (c : Calling). min (total_at (map f xs) t levels c.callee) heaviest) (get_or t k []) (λ c w. capped_total f xs t levels c.callee) in
-    joined (get_or (map (λ x. capped (f x)) xs) k 0) (get_or (map f xs) k 0)
-    (total (λ (c : Calling). min (total_at (map (λ x. capped (f x)) xs) t levels c.callee) heaviest) (get_or t k []))
-    (total (λ (c : Calling). total_at (map (λ x. capped (f x)) xs) t levels c.callee) (get_or t k []))
-    (total (λ (c : Calling). min (total_at (map f xs) t levels c.callee) heaviest) (get_or t k []))
-    (total (λ (c : Calling). total_at (map f xs) t levels c.callee) (get_or t k []))
-    own first second same
+    let lower : ℕ → ℕ = total_at (map (λ x. capped (f x)) xs) t levels in
+    let whole : ℕ → ℕ = total_at (map f xs) t levels in
+    let first = total_min heaviest (λ (c : Calling). min (lower c.callee) heaviest) (λ (c : Calling). lower c.callee) (get_or t k [])
+    (get_or (map (λ x. capped (f x)) xs) k 0) (λ c w. refl) in
+    let second = total_min heaviest (λ (c : Calling). min (whole c.callee) heaviest) (λ (c : Calling). whole c.callee) (get_or t k [])
+    (get_or (map f xs) k 0) (λ c w. refl) in
+    let same = total_same (λ (c : Calling). min (lower c.callee) heaviest) (λ (c : Calling). min (whole c.callee) heaviest) (get_or t k [])
+    (λ c w. capped_total f xs t levels c.callee) in
+    omega (arith, own_capped xs k, first, second, same)
   where
     own_capped : (xs : List X) (k : ℕ) → get_or (map (λ x. capped (f x)) xs) k 0 ≡ min (get_or (map f xs) k 0) heaviest
     own_capped [] k = refl
     own_capped (x ∷ xs) zero = refl
     own_capped (x ∷ xs) (suc k) = own_capped xs k
-
-    joined : (a b s u v w : ℕ) → a ≡ min b heaviest → min (a + s) heaviest ≡ min (a + u) heaviest → min (b + v) heaviest ≡ min (b + w) heaviest → s ≡ v
-        → min (a + u) heaviest ≡ min (b + w) heaviest
-    joined a b s u v w e p q r = omega (arith, e, p, q, r)

@@ -1,6 +1,6 @@
 -- The variables of diagrams, summed from capped numbers.
 use Rattle.std.proofs.Common.{◌≡◌, ℕ, zero, suc, ◌+◌, ◌*◌, ◌≤◌, List, [], ◌∷◌, map, length, take, refl, ◌∙◌, ap, arith}
-use Rattle.rv_tree.specs.{Delays.Delay, Tree.NodeTree, Tree.ProgramTree}
+use Rattle.rv_tree.specs.{declared.tree.TypeDecl.TypeDecl, Delays.Delay, Tree.NodeTree, Tree.ProgramTree}
 use Rattle.rv_types.specs.{declared.typed.Kind.Kind, Variables.total, Variables.memories, Variables.memory_bits, Variables.kind_bits, Values.operand_kind}
 use Rattle.rv_instances.specs.Bits.{bits_of_all}
 use Rattle.rv_sizes.specs.{Capped.capped, Memories.memory_kinds}
@@ -23,9 +23,10 @@ bits_everywhere : (p : ProgramTree) (ns : List NodeTree) → map (λ (ks : List 
 bits_everywhere p [] = refl
 bits_everywhere p (n ∷ ns) = λ i. capped (bits_here p n i) ∷ bits_everywhere p ns i
 
-pub bits_measured : (p : ProgramTree) (kinds : List (List Kind)) (own : List ℕ) → kinds ≡ map (memory_kinds p) p.nodes
-    → own ≡ map (λ (ks : List Kind). capped (bits_of_all p.types ks)) kinds → own ≡ map (λ (n : NodeTree). capped (memory_bits p n)) p.nodes
-bits_measured p kinds own each is = is ∙ ap (map (λ (ks : List Kind). capped (bits_of_all p.types ks))) each ∙ bits_everywhere p p.nodes
+pub bits_measured : (p : ProgramTree) (types : List TypeDecl) (kinds : List (List Kind)) (own : List ℕ) → types ≡ p.types
+    → kinds ≡ map (memory_kinds p) p.nodes → own ≡ map (λ (ks : List Kind). capped (bits_of_all types ks)) kinds
+    → own ≡ map (λ (n : NodeTree). capped (memory_bits p n)) p.nodes
+bits_measured p types kinds own same each is = is ∙ (λ i. map (λ (ks : List Kind). capped (bits_of_all (same i) ks)) (each i)) ∙ bits_everywhere p p.nodes
 
 pub take_length : {X : Type 0} (n : ℕ) (xs : List X) → n ≤ length xs → length (take n xs) ≡ n
 take_length zero xs le = refl

@@ -24,21 +24,15 @@ module _ (bytes : List ℕ) (main : Identifier) where
   -- where there is a tree the text was refused for want of memory
   pub text_only : (view : Program → ProgramTree) (p : ProgramTree) (e : TextFault) → Finds view p (Err e) → text_refusal e ≡ Memory
   text_only view p text.Memory h = refl
-  text_only view p (text.BadText at) h = absurd h
-  text_only view p (text.TooDeep at) h = absurd h
-  text_only view p (text.LeftOut at) h = absurd h
+  text_only view p _ h = absurd h
 
   pub text_refused : (e : TextFault) → text_specs.Explains bytes e → HasSourceCause bytes main (text_refusal e)
   text_refused text.Memory h = tt
-  text_refused (text.BadText at) h = h
-  text_refused (text.TooDeep at) h = h
-  text_refused (text.LeftOut at) h = h
+  text_refused _ h = h
 
   text_is : (f e : TextFault) → text_specs.IsOrMemory f e → (text_refusal e ≡ Memory) ⊎ (Text f ≡ text_refusal e)
   text_is f text.Memory h = inl refl
-  text_is f (text.BadText at) h = inr (ap Text h)
-  text_is f (text.TooDeep at) h = inr (ap Text h)
-  text_is f (text.LeftOut at) h = inr (ap Text h)
+  text_is f _ h = inr (ap Text h)
 
   -- the fault of a text is answered
   pub text_only_refused : (f : SourceFault) (e : TextFault) → ((g : TextFault) → IsFault bytes g → text_specs.IsOrMemory g e)
@@ -48,84 +42,68 @@ module _ (bytes : List ℕ) (main : Identifier) where
   text_only_refused (Cause g) e faults trees h = inl (text_only program_tree h.0 e (trees h.0 h.2))
   text_only_refused Memory e faults trees h = absurd h
 
-  module _ (p : ProgramTree) (is : IsTextOf bytes p) (one : (q : ProgramTree) → IsTextOf bytes q → q ≡ p) (no_fault : (f : TextFault) → IsFault bytes f → ⊥)
-    where
-      name_memory : (e : NameFault) → e ≡ name.Memory → name_refusal e ≡ Memory
-      name_memory e h = ap name_refusal h
+  -- the bytes are the text of one tree
+  module _ (p : ProgramTree) (is : IsTextOf bytes p) (one_tree : (bytes : List ℕ) (q r : ProgramTree) → IsTextOf bytes q → IsTextOf bytes r → q ≡ r)
+      (no_tree : (bytes : List ℕ) (f : TextFault) (q : ProgramTree) → IsFault bytes f → IsTextOf bytes q → ⊥) where
+    one : (q : ProgramTree) → IsTextOf bytes q → q ≡ p
+    one q text = one_tree bytes q p text is
 
-      -- where it is settled, names were refused for want of memory
-      pub name_only : (q : ProgramTree) (t : Typed) (e : NameFault) → IsTextOf bytes q → IsSettled q main t
-          → ((u : Typed) → IsSettled p main u → e ≡ name.Memory)
-          → name_refusal e ≡ Memory
-      name_only q t e text settled only = name_memory e (only t (subst (λ r. IsSettled r main t) (one q text) settled))
+    no_fault : (f : TextFault) → IsFault bytes f → ⊥
+    no_fault f h = no_tree bytes f p h is
 
-      pub name_refused : (e : NameFault) → settled_specs.HasCause p main e → HasSourceCause bytes main (name_refusal e)
-      name_refused name.Memory h = tt
-      name_refused name.NoNode h = (p, is, h)
-      name_refused (name.UnknownName at) h = (p, is, h)
-      name_refused (name.DefinedTwice at) h = (p, is, h)
-      name_refused (name.Undefined at) h = (p, is, h)
-      name_refused (name.TypeClash at) h = (p, is, h)
-      name_refused (name.Nonlinear at) h = (p, is, h)
-      name_refused (name.ClockClash at) h = (p, is, h)
-      name_refused (name.NotObserver at) h = (p, is, h)
+    -- where it is settled, names were refused for want of memory
+    pub name_only : (q : ProgramTree) (t : Typed) (e : NameFault) → IsTextOf bytes q → IsSettled q main t
+        → ((u : Typed) → IsSettled p main u → e ≡ name.Memory) → name_refusal e ≡ Memory
+    name_only q t e text settled only = ap name_refusal (only t (subst (λ r. IsSettled r main t) (one q text) settled))
 
-      -- a fault that is first is no want of memory
-      name_is : (g e : NameFault) → IsFirstFault p main g → (e ≡ name.Memory) ⊎ (e ≡ g) → (name_refusal e ≡ Memory) ⊎ (Names g ≡ name_refusal e)
-      name_is g e first (inl memory) = inl (ap name_refusal memory)
-      name_is g name.Memory first (inr same) = inl refl
-      name_is g name.NoNode first (inr same) = inr (ap Names (sym same))
-      name_is g (name.UnknownName at) first (inr same) = inr (ap Names (sym same))
-      name_is g (name.DefinedTwice at) first (inr same) = inr (ap Names (sym same))
-      name_is g (name.Undefined at) first (inr same) = inr (ap Names (sym same))
-      name_is g (name.TypeClash at) first (inr same) = inr (ap Names (sym same))
-      name_is g (name.Nonlinear at) first (inr same) = inr (ap Names (sym same))
-      name_is g (name.ClockClash at) first (inr same) = inr (ap Names (sym same))
-      name_is g (name.NotObserver at) first (inr same) = inr (ap Names (sym same))
+    pub name_refused : (e : NameFault) → settled_specs.HasCause p main e → HasSourceCause bytes main (name_refusal e)
+    name_refused name.Memory h = tt
+    name_refused _ h = (p, is, h)
 
-      pub name_only_refused : (f : SourceFault) (e : NameFault) → ((g : NameFault) → IsFirstFault p main g → (e ≡ name.Memory) ⊎ (e ≡ g))
-          → ((t : Typed) → IsSettled p main t → e ≡ name.Memory) → IsSourceFault bytes main f → RefusesSource f (Err (name_refusal e))
-      name_only_refused (Text g) e faults only h = absurd (no_fault g h)
-      name_only_refused (Names g) e faults only h =
-          let first : IsFirstFault p main g = subst (λ q. IsFirstFault q main g) (one h.0 h.1) h.2 in
-          name_is g e first (faults g first)
-      name_only_refused (Cause g) e faults only h = inl (name_only h.0 h.1 e h.2 h.3 only)
-      name_only_refused Memory e faults only h = absurd h
+    -- a fault that is first is no want of memory
+    name_is : (g e : NameFault) → IsFirstFault p main g → (e ≡ name.Memory) ⊎ (e ≡ g) → (name_refusal e ≡ Memory) ⊎ (Names g ≡ name_refusal e)
+    name_is g e first (inl memory) = inl (ap name_refusal memory)
+    name_is g name.Memory first (inr same) = inl refl
+    name_is g _ first (inr same) = inr (ap Names (sym same))
 
-      module _ (t : Typed) (settled : IsSettled p main t) (not_both : (f : NameFault) → IsFirstFault p main f → ⊥) where
-        pub cause_refused : (e : CauseFault) → cause_specs.HasCause p (name_at p t.main) e → HasSourceCause bytes main (cause_refusal e)
-        cause_refused cause.Memory h = tt
-        cause_refused (cause.Recursive at) h = (p, t, is, settled, subst (λ x. IsCause p x (cause.Recursive at)) (main_is p main t settled) h)
-        cause_refused (cause.Cycle ps) h = (p, t, is, settled, subst (λ x. IsCause p x (cause.Cycle ps)) (main_is p main t settled) h)
-        cause_refused (cause.TooLarge q n) h = (p, t, is, settled, subst (λ x. IsCause p x (cause.TooLarge q n)) (main_is p main t settled) h)
-        cause_refused (cause.TooWide at) h = (p, t, is, settled, subst (λ x. IsCause p x (cause.TooWide at)) (main_is p main t settled) h)
+    pub name_only_refused : (f : SourceFault) (e : NameFault) → ((g : NameFault) → IsFirstFault p main g → (e ≡ name.Memory) ⊎ (e ≡ g))
+        → ((t : Typed) → IsSettled p main t → e ≡ name.Memory) → IsSourceFault bytes main f → RefusesSource f (Err (name_refusal e))
+    name_only_refused (Text g) e faults only h = absurd (no_fault g h)
+    name_only_refused (Names g) e faults only h =
+        let first : IsFirstFault p main g = subst (λ q. IsFirstFault q main g) (one h.0 h.1) h.2 in
+        name_is g e first (faults g first)
+    name_only_refused (Cause g) e faults only h = inl (name_only h.0 h.1 e h.2 h.3 only)
+    name_only_refused Memory e faults only h = absurd h
 
-        pub cause_only : (q : ProgramTree) (e : CauseFault) → IsTextOf bytes q → IsAccepted q main → (IsAccepted p (name_at p t.main) → e ≡ cause.Memory)
-            → cause_refusal e ≡ Memory
-        cause_only q e text accepted only =
-            ap cause_refusal (only (subst (λ x. IsAccepted p x) (sym (main_is p main t settled)) (subst (λ r. IsAccepted r main) (one q text) accepted)))
+    module _ (t : Typed) (settled : IsSettled p main t)
+        (never_both : (q : ProgramTree) (x : Identifier) (u : Typed) (f : NameFault) → IsSettled q x u → IsFirstFault q x f → ⊥) where
+      pub cause_refused : (e : CauseFault) → cause_specs.HasCause p (name_at p t.main) e → HasSourceCause bytes main (cause_refusal e)
+      cause_refused cause.Memory h = tt
+      cause_refused e h = (p, t, is, settled, subst (λ x. IsCause p x e) (main_is p main t settled) h)
 
-        cause_is : (g e : CauseFault) → (e ≡ cause.Memory) ⊎ cause_specs.Matches g e → RefusesSource (Cause g) (Err (cause_refusal e))
-        cause_is g e (inl memory) = inl (ap cause_refusal memory)
-        cause_is g cause.Memory (inr same) = inl refl
-        cause_is g (cause.Recursive at) (inr same) = inr same
-        cause_is g (cause.Cycle ps) (inr same) = inr same
-        cause_is g (cause.TooLarge q n) (inr same) = inr same
-        cause_is g (cause.TooWide at) (inr same) = inr same
+      pub cause_only : (q : ProgramTree) (e : CauseFault) → IsTextOf bytes q → IsAccepted q main → (IsAccepted p (name_at p t.main) → e ≡ cause.Memory)
+          → cause_refusal e ≡ Memory
+      cause_only q e text accepted only =
+          ap cause_refusal (only (subst (λ x. IsAccepted p x) (sym (main_is p main t settled)) (subst (λ r. IsAccepted r main) (one q text) accepted)))
 
-        its_cause : (q : ProgramTree) (g : CauseFault) → IsTextOf bytes q → IsCause q main g → IsCause p (name_at p t.main) g
-        its_cause q g text h = subst (λ x. IsCause p x g) (sym (main_is p main t settled)) (subst (λ r. IsCause r main g) (one q text) h)
+      cause_is : (g e : CauseFault) → (e ≡ cause.Memory) ⊎ cause_specs.Matches g e → RefusesSource (Cause g) (Err (cause_refusal e))
+      cause_is g e (inl memory) = inl (ap cause_refusal memory)
+      cause_is g cause.Memory (inr same) = inl refl
+      cause_is g _ (inr same) = inr same
 
-        pub cause_only_refused : (f : SourceFault) (e : CauseFault) → ((g : CauseFault) → IsCause p (name_at p t.main) g
-            → (e ≡ cause.Memory) ⊎ cause_specs.Matches g e) → IsSourceFault bytes main f → RefusesSource f (Err (cause_refusal e))
-        cause_only_refused (Text g) e faults h = absurd (no_fault g h)
-        cause_only_refused (Names g) e faults h = absurd (not_both g (subst (λ q. IsFirstFault q main g) (one h.0 h.1) h.2))
-        cause_only_refused (Cause g) e faults h = cause_is g e (faults g (its_cause h.0 g h.2 h.4))
-        cause_only_refused Memory e faults h = absurd h
+      its_cause : (q : ProgramTree) (g : CauseFault) → IsTextOf bytes q → IsCause q main g → IsCause p (name_at p t.main) g
+      its_cause q g text h = subst (λ x. IsCause p x g) (sym (main_is p main t settled)) (subst (λ r. IsCause r main g) (one q text) h)
 
-        -- what is accepted has no fault
-        pub not_refused : (f : SourceFault) → ((g : CauseFault) → IsCause p (name_at p t.main) g → ⊥) → IsSourceFault bytes main f → ⊥
-        not_refused (Text g) none h = no_fault g h
-        not_refused (Names g) none h = not_both g (subst (λ q. IsFirstFault q main g) (one h.0 h.1) h.2)
-        not_refused (Cause g) none h = none g (its_cause h.0 g h.2 h.4)
-        not_refused Memory none h = absurd h
+      pub cause_only_refused : (f : SourceFault) (e : CauseFault) → ((g : CauseFault) → IsCause p (name_at p t.main) g
+          → (e ≡ cause.Memory) ⊎ cause_specs.Matches g e) → IsSourceFault bytes main f → RefusesSource f (Err (cause_refusal e))
+      cause_only_refused (Text g) e faults h = absurd (no_fault g h)
+      cause_only_refused (Names g) e faults h = absurd (never_both p main t g settled (subst (λ q. IsFirstFault q main g) (one h.0 h.1) h.2))
+      cause_only_refused (Cause g) e faults h = cause_is g e (faults g (its_cause h.0 g h.2 h.4))
+      cause_only_refused Memory e faults h = absurd h
+
+      -- what is accepted has no fault
+      pub not_refused : (f : SourceFault) → ((g : CauseFault) → IsCause p (name_at p t.main) g → ⊥) → IsSourceFault bytes main f → ⊥
+      not_refused (Text g) none h = no_fault g h
+      not_refused (Names g) none h = never_both p main t g settled (subst (λ q. IsFirstFault q main g) (one h.0 h.1) h.2)
+      not_refused (Cause g) none h = none g (its_cause h.0 g h.2 h.4)
+      not_refused Memory none h = absurd h

@@ -1,40 +1,23 @@
 -- A constant expression counts as no more than its weight, and as no more than 2^40 + 1 where constants do.
-use Rattle.std.proofs.Common.{◌≡◌, ℕ, ◌+◌, ◌*◌, ◌≤◌, ◌<◌, min, max, Bool, true, false, cond, nat_le, List, [], ◌∷◌, reverse, ℤ, pos, ◌+ℤ◌, ◌-ℤ◌, ◌*ℤ◌, neg_ℤ}
-use Rattle.std.proofs.Common.{nat_abs, Option, Some, refl, arith, None as Nothing}
-use Rattle.std.proofs.{lemmas.List.Elements.All-nil, lemmas.List.Elements.All-push, lemmas.Int.ints, lemmas.Bool.Decides.nat_tests}
+use Rattle.std.proofs.Common.{ℕ, ◌≤◌, min, max, Bool, true, false, cond, List, [], ◌∷◌, reverse, pos, neg_ℤ, nat_abs, Option, Some, arith, None as Nothing}
+use Rattle.std.proofs.{lemmas.List.Elements.All-nil, lemmas.List.Elements.All-push, lemmas.Int.ints}
 use Rattle.std.specs.List.{All}
-use Rattle.rv_base.specs.{declared.value.Value.Value, declared.value.Value.TheVariants.Flag, declared.value.Value.TheVariants.Whole, Limits.heaviest}
-use Rattle.rv_base.specs.{Limits.too_heavy}
+use Rattle.rv_base.specs.{declared.value.Value.Value, declared.value.Value.TheVariants.Flag, declared.value.Value.TheVariants.Whole, Limits.too_heavy}
 use Rattle.rv_base.specs.declared.value.Value.TheVariants as value
 use Rattle.rv_tree.specs.Tree.{Tree, Form, Node, Number, Named, Minus, Binary, If, ConstantTree, ProgramTree}
-use Rattle.rv_tree.specs.{declared.tree.Op.Op, Places.Identifier, Places.is_same}
+use Rattle.rv_tree.specs.{Places.Identifier, Places.is_same}
 use Rattle.rv_tree.specs.declared.tree.Op.TheVariants as op
-use Rattle.rv_types.specs.Constants.{flag_in, whole_in, counted, counted_part, value_under, weight_under, value_of, form_value, weight_of, form_weight}
+use Rattle.rv_types.specs.Constants.{flag_in, whole_in, counted_part, value_of, form_value, weight_of, form_weight}
 use Rattle.rv_types.specs.{Kinds.LabelPlace, Kinds.label_of, Scopes.constant_value_after, Scopes.constant_values_of, Scopes.constant_values}
-use Rattle.rv_types.proofs.{ConstantValues.capped_less, ConstantValues.negated_small, Weights.difference_small, Weights.product_small, Weights.sum_small}
+use Rattle.rv_types.proofs.{ConstantValues.capped_less, ConstantValues.negated_small, Weights.counted_small, Weights.under_small}
 
 -- the magnitude of a value's integer
 abbrev pub size : Value → ℕ
 size v = nat_abs (whole_in v)
 
-counted_small : (m : ℕ) (z : ℤ) → nat_abs z ≤ m → size (counted m z) ≤ min m too_heavy
-counted_small m z h = tested (nat_le m heaviest) refl
-  where
-    tested : (b : Bool) → nat_le m heaviest ≡ b → size (cond b (Whole z) (Whole (pos too_heavy))) ≤ min m too_heavy
-    tested true e = let l : m ≤ heaviest = grind (arith, nat_tests) in omega (arith, h, l)
-    tested false e = let l : heaviest < m = grind (arith, nat_tests) in omega (arith, l)
-
-under_small : (o : Op) (x y : Value) (v w : ℕ) → size x ≤ v → size y ≤ w
-    → size (value_under (weight_under o (size x) v w) o x y) ≤ min (weight_under o (size x) v w) too_heavy
-under_small op.Plus x y v w g h = counted_small (v + w) (whole_in x +ℤ whole_in y) (sum_small (whole_in x) (whole_in y) v w g h)
-under_small op.Minus x y v w g h = counted_small (v + w) (whole_in x -ℤ whole_in y) (difference_small (whole_in x) (whole_in y) v w g h)
-under_small op.Times x y v w g h = counted_small (size x * w) (whole_in x *ℤ whole_in y) (product_small (whole_in x) (whole_in y) w h)
-under_small _ x y v w g h = omega arith
-
 part_small : (m : ℕ) (v : Value) → size v ≤ m → size (counted_part m v) ≤ min m too_heavy
 part_small m (Whole z) h = counted_small m z h
-part_small m (Flag b) h = omega arith
-part_small m (value.Label k) h = omega arith
+part_small m _ h = omega arith
 
 chosen_small : (b : Bool) (v w : Value) (m n : ℕ) → size v ≤ m → size w ≤ n → size (cond b v w) ≤ max m n
 chosen_small true v w m n g h = omega (arith, g)
@@ -47,7 +30,7 @@ module _ (known : Identifier → Value) (small : (x : Identifier) → size (know
 
     form_small : (form : Form) → size (form_value known form) ≤ min (form_weight known form) too_heavy
     form_small (Number n) = counted_small n (pos n) (omega (arith, ints))
-    form_small (Named x) = let h = small x in omega (arith, h)
+    form_small (Named x) = omega (arith, small x)
     form_small (Minus e) =
         counted_small (weight_of known e) (neg_ℤ (whole_in (value_of known e)))
         (negated_small (weight_of known e) (whole_in (value_of known e)) (capped_less (size (value_of known e)) (weight_of known e) (value_small e)))
@@ -71,14 +54,14 @@ module _ (p : ProgramTree) where
     where
       tested : (b : Bool) → ((y : Identifier) → size (constant_value_after p before y) ≤ too_heavy)
           → size (cond b (value_of (constant_value_after p before) c.body) (constant_value_after p before x)) ≤ too_heavy
-      tested true small = let h = value_small (constant_value_after p before) small c.body in omega (arith, h)
+      tested true small = omega (arith, value_small (constant_value_after p before) small c.body)
       tested false small = small x
 
   listed_small : (cs : List ConstantTree) → All (λ v. size v ≤ too_heavy) (constant_values_of p cs)
   listed_small [] = All-nil (λ v. size v ≤ too_heavy)
   listed_small (c ∷ before) =
       All-push (λ v. size v ≤ too_heavy) (constant_values_of p before) (value_of (constant_value_after p before) c.body) (listed_small before)
-      (let h = value_small (constant_value_after p before) (after_small before) c.body in omega (arith, h))
+      (omega (arith, value_small (constant_value_after p before) (after_small before) c.body))
 
   pub constants_small : All (λ v. size v ≤ too_heavy) (constant_values p)
   constants_small = listed_small (reverse p.constants)

@@ -3,7 +3,7 @@ use Rattle.std.proofs.Common.{ℕ, suc, ◌≤◌, List, [], ◌∷◌, ◌++◌
 use Rattle.std.proofs.lemmas.List.Elements.{All-nil, All-cons, All-append}
 use Rattle.std.specs.{Prelude.⊤, Prelude.Option, List.All, List.Contains, List.flat_map}
 use Rattle.rv_base.specs.Limits.{too_heavy}
-use Rattle.rv_tree.specs.Tree.{Tree, Node, Form, True, False, Number, Named, Not, Minus, Pre, Current, When, Binary, If, AtMostOne, Call, Trees, None, More}
+use Rattle.rv_tree.specs.Tree.{Tree, Node, Form, Number, Not, Minus, Pre, Current, When, Binary, If, AtMostOne, Call, Trees, None, More}
 use Rattle.rv_types.specs.Variables.{parts, form_parts, parts_of_all}
 use Rattle.rv_syntax.specs.Literals.{IsSmall, IsSmallForm, AreSmall}
 
@@ -13,29 +13,14 @@ IsSmallPart (Node at site (Number v)) = v ≤ too_heavy
 IsSmallPart _ = ⊤
 
 own_small : (at : ℕ) (site : Option ℕ) (form : Form) → IsSmallForm form → IsSmallPart (Node at site form)
-own_small at site True h = tt
-own_small at site False h = tt
 own_small at site (Number v) h = h
-own_small at site (Named x) h = tt
-own_small at site (Not e) h = tt
-own_small at site (Minus e) h = tt
-own_small at site (Pre e) h = tt
-own_small at site (Current e) h = tt
-own_small at site (When e c) h = tt
-own_small at site (Binary o a b) h = tt
-own_small at site (If a b c) h = tt
-own_small at site (AtMostOne es) h = tt
-own_small at site (Call f es) h = tt
+own_small at site _ h = tt
 
 mutual
   pub parts_small : (e : Tree) → IsSmall e → All IsSmallPart (parts e)
   parts_small (Node at site form) h = All-cons IsSmallPart (Node at site form) (form_parts form) (own_small at site form h) (form_parts_small form h)
 
   form_parts_small : (form : Form) → IsSmallForm form → All IsSmallPart (form_parts form)
-  form_parts_small True h = All-nil IsSmallPart
-  form_parts_small False h = All-nil IsSmallPart
-  form_parts_small (Number v) h = All-nil IsSmallPart
-  form_parts_small (Named x) h = All-nil IsSmallPart
   form_parts_small (Not e) h = parts_small e h
   form_parts_small (Minus e) h = parts_small e h
   form_parts_small (Pre e) h = parts_small e h
@@ -47,6 +32,7 @@ mutual
       (All-append IsSmallPart (parts b) (parts c) (parts_small b h.1) (parts_small c h.2))
   form_parts_small (AtMostOne es) h = all_parts_small es h
   form_parts_small (Call f es) h = all_parts_small es h
+  form_parts_small _ h = All-nil IsSmallPart
 
   all_parts_small : (es : Trees) → AreSmall es → All IsSmallPart (parts_of_all es)
   all_parts_small None h = All-nil IsSmallPart

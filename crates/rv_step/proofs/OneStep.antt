@@ -1,10 +1,9 @@
 -- What one step answers.
 use Rattle.std.proofs.Common.{◌≡◌, ℕ, zero, suc, ◌+◌, ◌<◌, Bool, true, false, not, ◌||◌, cond, ℤ, List, [], ◌∷◌, length, map, get_or, IsTrue, refl, sym, ◌∙◌}
 use Rattle.std.proofs.Common.{ap, subst, arith, inl, inr, Option, None as Nothing, Some}
-use Rattle.std.proofs.{lemmas.Int.ints, Math.ListN.length-map}
+use Rattle.std.proofs.{lemmas.Bool.false_from_ne_true, lemmas.Bool.true_from_ne_false, lemmas.Int.ints, Math.ListN.length-map}
 use Rattle.std.specs.Prelude.{slice_get}
-use Rattle.rv_base.specs.declared.value.Value.TheVariants.{Flag, Label, Whole}
-use Rattle.rv_base.specs.{declared.value.Place.Place, declared.value.Value.Value}
+use Rattle.rv_base.specs.{declared.value.Value.TheVariants.Flag, declared.value.Value.TheVariants.Whole, declared.value.Place.Place, declared.value.Value.Value}
 use Rattle.rv_tree.specs.Places.{Sites}
 use Rattle.rv_types.specs.declared.typed.Kind.{Kind}
 use Rattle.rv_meaning.specs.Meaning.{is_true}
@@ -15,6 +14,8 @@ use Rattle.rv_flat.specs.{declared.flat.Flat.Flat, declared.state.State.State, F
 use Rattle.rv_agreement.specs.Checks.{constant_fits}
 use Rattle.rv_step.specs.Ranges.{is_outside, is_grown, is_grown_cell, IsGrownAt}
 use Rattle.rv_flat.proofs.Earliest.{least_same}
+use Rattle.rv_base.proofs.Truths.{of_not_true}
+use Rattle.rv_types.proofs.ChainLaws.{no_flag}
 
 -- integers outside the range
 outside : (z : ℤ) → is_outside z ≡ true → IsWithin z → ⊥
@@ -24,30 +25,23 @@ pub inside : (z : ℤ) → is_outside z ≡ false → IsWithin z
 inside z e = (grind (arith, ints), grind (arith, ints))
 
 not_inside : (z : ℤ) → (IsWithin z → ⊥) → is_outside z ≡ true
-not_inside z out = tested (is_outside z) refl
-  where
-    tested : (b : Bool) → is_outside z ≡ b → b ≡ true
-    tested true e = refl
-    tested false e = absurd (out (inside z e))
+not_inside z out = true_from_ne_false (is_outside z) (λ e. out (inside z e))
 
 grown_whole : (v : Value) → is_grown v ≡ true → (z : ℤ) × (v ≡ Whole z) × (IsWithin z → ⊥)
-grown_whole (Flag b) e = let bad : false ≡ true = e in absurd (grind arith)
-grown_whole (Label l) e = let bad : false ≡ true = e in absurd (grind arith)
 grown_whole (Whole z) e = (z, refl, outside z e)
+grown_whole _ e = no_flag e
 
 grown_cell : (o : Option Value) → is_grown_cell o ≡ true → (z : ℤ) × (o ≡ Some (Whole z)) × (IsWithin z → ⊥)
-grown_cell Nothing e = let bad : false ≡ true = e in absurd (grind arith)
+grown_cell Nothing e = no_flag e
 grown_cell (Some v) e = let w = grown_whole v e in (w.0, ap (λ x. Some x) w.1, w.2)
 
 in_range : (v : Value) → is_grown v ≡ false → IsInRange v
-in_range (Flag b) e = tt
-in_range (Label l) e = tt
 in_range (Whole z) e = inside z e
+in_range _ e = tt
 
 not_grown : (v : Value) → IsInRange v → is_grown v ≡ true → ⊥
-not_grown (Flag b) r e = let bad : false ≡ true = e in absurd (grind arith)
-not_grown (Label l) r e = let bad : false ≡ true = e in absurd (grind arith)
 not_grown (Whole z) r e = outside z e r
+not_grown _ r e = no_flag e
 
 -- the ticks after an instant
 length-ticks : (row : Row) (ticked : List Bool) (k : ℕ) (cs : List (Option ℕ)) → length (ticks_from row ticked k cs) ≡ length cs
@@ -64,15 +58,11 @@ tick_at row ticked k (c ∷ cs) (suc j) lt =
 
 module _ (f : Flat) (now : State) (inputs : List Value) (row : Row) where
   -- the assertions that are false
-  no_truth : (b : Bool) → not b ≡ true → b ≡ false
-  no_truth true e = let bad : false ≡ true = e in absurd (grind arith)
-  no_truth false e = refl
-
   pub broken_places : (p : Option Place) → IsLeastOf (IsPicked (is_broken f now inputs row) (map (λ e. e.at.sites) f.assertions) (length f.assertions)) p
       → IsLeastOf (IsFlatBroken f now inputs row) p
   broken_places p least =
       least_same (IsPicked (is_broken f now inputs row) (map (λ e. e.at.sites) f.assertions) (length f.assertions)) (IsFlatBroken f now inputs row) p
-      (λ q w. (w.0, w.1, sym w.3, no_truth (is_true (value_at now inputs row (get_or (assertion_trees f) w.0 no_assertion))) w.2))
+      (λ q w. (w.0, w.1, sym w.3, of_not_true (is_true (value_at now inputs row (get_or (assertion_trees f) w.0 no_assertion))) w.2))
       (λ q w. (w.0, w.1, ap not w.3, sym w.2))
       least
 
@@ -125,11 +115,8 @@ module _ (f : Flat) (now : State) (inputs : List Value) (row : Row) where
 
       module _ (least : (q : Sites) → IsGrownAt f row kept q → ⊥) where
         kept_range : (m : ℕ) → m < length kept → IsInRange (get_or kept m (Flag false))
-        kept_range m lt = tested (is_grown (get_or kept m (Flag false))) refl
-          where
-            tested : (b : Bool) → is_grown (get_or kept m (Flag false)) ≡ b → IsInRange (get_or kept m (Flag false))
-            tested true e = absurd (least (get_or (memory_places f) m []) (inr (m, omega (arith, are.memories), e, refl)))
-            tested false e = in_range (get_or kept m (Flag false)) e
+        kept_range m lt = in_range (get_or kept m (Flag false)) (false_from_ne_true (is_grown (get_or kept m (Flag false)))
+            (λ e. least (get_or (memory_places f) m []) (inr (m, omega (arith, are.memories), e, refl))))
 
         abbrev fitting : Kind → Value → Type 0
         fitting j v = IsTrue (constant_fits (label_counts f) j v)
@@ -147,9 +134,5 @@ module _ (f : Flat) (now : State) (inputs : List Value) (row : Row) where
         pub next_state : AreTaken f now inputs row → IsState f (record { ticked = after; kept = kept })
         next_state typed = record {
           ticks = next.ticks;
-          kept = record {
-            size = are.memories ∙ sym (length-map f.memories (λ x. x.kind));
-            typed = kept_typed typed;
-            within = kept_range;
-          };
+          kept = record { size = are.memories ∙ sym (length-map f.memories (λ x. x.kind)); typed = kept_typed typed; within = kept_range };
         }

@@ -9,5 +9,4 @@ read_nothing xs i d e = sym (unwrap_or-slice_get xs i d) ∙ ap (λ o. unwrap_or
 -- what a list says of the item of a loop over it
 pub read_at : {A B : Type 0} (g : A → B) (list items : List A) (k : ℕ) (item : A) (d : B) → items ≡ list → k < length items → item ≡ get_or items k item
     → get_or (map g list) k d ≡ g item
-read_at g list items k item d e lt is =
-    ap (λ xs. get_or (map g xs) k d) (sym e) ∙ get_or-map g items k item d lt ∙ ap g (sym is)
+read_at g list items k item d e lt is = ap (λ xs. get_or (map g xs) k d) (sym e) ∙ get_or-map g items k item d lt ∙ ap g (sym is)

@@ -16,9 +16,7 @@ shown_more ms found row value shown are =
       many = are.many;
       each = λ m v is.
           let kept = are.each m v is in
-          let body = (table_of ms m).body in (
-            over_more (length row) (length longer) body (λ k lt. omega (arith, long)) kept.0,
-            kept.1
-                ∙ same_value found row longer (length row) agree body kept.0,
-          );
+          let body = (table_of ms m).body in
+          let over = over_more (length row) (length longer) body (λ k lt. omega (arith, long)) kept.0 in
+          (over, kept.1 ∙ same_value found row longer (length row) agree body kept.0);
     }

@@ -1,5 +1,5 @@
 -- How much the parts of a text's tree are at most: each token has an offset of its own, and tokens are no more than bytes.
-use Rattle.std.proofs.Common.{◌≡◌, ℕ, zero, suc, ◌+◌, ◌-◌, ◌<◌, ◌≤◌, Bool, false, cond, ltb, eqb, List, [], ◌∷◌, ◌++◌, map, length, take, get_or, refl, sym, ap}
+use Rattle.std.proofs.Common.{◌≡◌, ℕ, zero, suc, ◌+◌, ◌-◌, ◌<◌, ◌≤◌, Bool, false, cond, ltb, eqb, List, [], ◌∷◌, ◌++◌, length, take, get_or, refl, sym, ap}
 use Rattle.std.proofs.Common.{subst, arith, length-append}
 use Rattle.std.proofs.{lemmas.List.length-map, lemmas.Bool.Decides.nat_tests}
 use Rattle.std.specs.{Prelude.Option, Prelude.Some, Prelude.None, List.All, List.Contains}

@@ -11,10 +11,6 @@ abbrev pub later : ℕ → Option ℕ → Option ℕ
 later n None = None
 later n (Some m) = Some (n + m)
 
-later-none : (o : Option ℕ) → later 0 o ≡ o
-later-none None = refl
-later-none (Some m) = let e : 0 + m ≡ m = omega arith in ap (λ n. Some n) e
-
 later-one : (n : ℕ) (o : Option ℕ) → later n (one_later o) ≡ later (n + 1) o
 later-one n None = refl
 later-one n (Some m) = let e : n + (m + 1) ≡ (n + 1) + m = omega arith in ap (λ k. Some k) e
@@ -92,9 +88,8 @@ later-some None n h = cc
 later-some (Some q) n h = (q, refl, cc)
 
 first-take : (c b d : ℕ) (ds : List ℕ) (n m : ℕ) → (b == 42 && d == c) ≡ true → Some 2 ≡ Some n → n ≤ m → close_len c (take m (b ∷ d ∷ ds)) ≡ Some n
-first-take c b d ds n zero e s h = let two : 2 ≡ n = cc in absurd (omega arith)
-first-take c b d ds n (suc zero) e s h = let two : 2 ≡ n = cc in absurd (omega arith)
 first-take c b d ds n (suc (suc m)) e s h = cond-true (b == 42 && d == c) (Some 2) (one_later (close_len c (d ∷ take m ds))) e ∙ s
+first-take c b d ds n _ e s h = let two : 2 ≡ n = cc in absurd (omega arith)
 
 next-take : (c b d : ℕ) (ds : List ℕ) (p n m : ℕ) → (b == 42 && d == c) ≡ false → close_len c (take m (d ∷ ds)) ≡ Some p → p + 1 ≡ n
     → close_len c (b ∷ take m (d ∷ ds)) ≡ Some n

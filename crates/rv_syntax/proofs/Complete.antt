@@ -3,10 +3,10 @@ use Rattle.std.proofs.Common.{◌≡◌, ℕ, ◌<◌, ◌≤◌, true, false, n
 use Rattle.std.proofs.lemmas.Bool.{cases_lt, le-leb, lt-leb, and_from, and_left, and_right, cond-true}
 use Rattle.std.specs.Prelude.{Some, Ok}
 use Rattle.rv_syntax.specs.declared.token.Mark.TheVariants as mark
-use Rattle.rv_syntax.specs.Grammar.{Leaf, Yes, No, Count, Called, Callee, Function, Hash, Written, Atom, InBrackets, Before, Between, Gated, If, Given, Front}
-use Rattle.rv_syntax.specs.Grammar.{NoneBefore, Then, fixed, leaf_token, name_token, callee_token, prefix_mark, op_mark, spelling, front_spelling, Sampled}
-use Rattle.rv_syntax.specs.Grammar.{syntax_of, front_trees, level_of, Side, ToLeft, ToRight, Alone, side, left_by, right_by, left_level, right_level, level}
-use Rattle.rv_syntax.specs.Grammar.{is_open, IsGrammatical, AreGrammatical}
+use Rattle.rv_syntax.specs.Grammar.{Leaf, Yes, Callee, Function, Hash, Written, Atom, InBrackets, Before, Between, Gated, If, Given, Front, NoneBefore, Then}
+use Rattle.rv_syntax.specs.Grammar.{fixed, leaf_token, name_token, callee_token, prefix_mark, op_mark, spelling, front_spelling, Sampled, syntax_of}
+use Rattle.rv_syntax.specs.Grammar.{front_trees, level_of, Side, ToLeft, side, left_by, right_by, left_level, right_level, level, is_open, IsGrammatical}
+use Rattle.rv_syntax.specs.Grammar.{AreGrammatical}
 use Rattle.rv_syntax.specs.Machine.{start_of, next_of, Frame, Brackets, Under, After, Asked, Answered, Else, Within, need_of, need, Held, held, leaf_held, Want}
 use Rattle.rv_syntax.specs.Machine.{Have, Ends, accepts, taken, wrapped, awaited, onward, settle, begin, at_end, going, run, following}
 use Rattle.rv_syntax.specs.{declared.token.Token.Token, declared.operator.Prefix.Prefix, declared.parser.Next.Next}
@@ -22,96 +22,58 @@ operand w = held (level w) (is_open w) (syntax_of w)
 
 pub start-leaf : (l : Leaf) (at : ℕ) → start_of (leaf_token l at) ≡ start.Operand
 start-leaf Yes at = refl
-start-leaf No at = refl
-start-leaf (Count n) at = refl
-start-leaf (Called x) at = refl
+start-leaf _ at = refl
 
 pub held-leaf : (l : Leaf) (at : ℕ) → leaf_held (leaf_token l at) ≡ operand (Atom l at)
 held-leaf Yes at = refl
-held-leaf No at = refl
-held-leaf (Count n) at = refl
-held-leaf (Called x) at = refl
+held-leaf _ at = refl
 
 pub start-prefix : (p : Prefix) (at : ℕ) → start_of (fixed (prefix_mark p) at) ≡ start.Before p at
 start-prefix prefixed.Not at = refl
-start-prefix prefixed.Minus at = refl
-start-prefix prefixed.Pre at = refl
-start-prefix prefixed.Current at = refl
+start-prefix _ at = refl
 
 pub next-op : (o : Op) (at : ℕ) → next_of (fixed (op_mark o) at) ≡ next.Between o at
 next-op op.Arrow at = refl
-next-op op.Implies at = refl
-next-op op.Or at = refl
-next-op op.Xor at = refl
-next-op op.And at = refl
-next-op op.Equal at = refl
-next-op op.Differs at = refl
-next-op op.Less at = refl
-next-op op.AtMost at = refl
-next-op op.Greater at = refl
-next-op op.AtLeast at = refl
-next-op op.Plus at = refl
-next-op op.Minus at = refl
-next-op op.Times at = refl
-next-op op.Slash at = refl
-next-op op.Div at = refl
-next-op op.Mod at = refl
+next-op _ at = refl
 
 -- The token does not go on with an operand at the right end of what is written.
 abbrev pub Ends-at : Next → Written → Type 0
-Ends-at r (Atom l at) = Unit {0}
-Ends-at r (InBrackets a w b) = Unit {0}
 Ends-at r (Before p at w) = (accepts r 9 (operand w) ≡ false) × Ends-at r w
 Ends-at r (Between o at a b) = (accepts r (right_level o) (operand b) ≡ false) × Ends-at r b
-Ends-at r (Gated w at x) = Unit {0}
 Ends-at r (If i a t b e c) = (accepts r 0 (operand c) ≡ false) × Ends-at r c
-Ends-at r (Given f a front w b) = Unit {0}
+Ends-at r _ = Unit {0}
 
 -- a token that goes on with no operand
 abbrev pub IsEnd : Next → Type 0
 IsEnd (next.Between o at) = ⊥
 IsEnd (next.Gates at) = ⊥
 IsEnd next.Opens = ⊥
-IsEnd next.Closes = Unit {0}
-IsEnd next.Separates = Unit {0}
-IsEnd next.Answers = Unit {0}
-IsEnd next.Otherwise = Unit {0}
-IsEnd next.Other = Unit {0}
+IsEnd _ = Unit {0}
 
 pub accepts-end : (r : Next) (k : ℕ) (h : Held) → IsEnd r → accepts r k h ≡ false
 accepts-end (next.Between o at) k h e = absurd e
 accepts-end (next.Gates at) k h e = absurd e
 accepts-end next.Opens k h e = absurd e
-accepts-end next.Closes k h e = refl
-accepts-end next.Separates k h e = refl
-accepts-end next.Answers k h e = refl
-accepts-end next.Otherwise k h e = refl
-accepts-end next.Other k h e = refl
+accepts-end _ k h e = refl
 
 pub ends-all : (r : Next) (w : Written) → IsEnd r → Ends-at r w
-ends-all r (Atom l at) h = tt
-ends-all r (InBrackets a w b) h = tt
 ends-all r (Before p at w) h = (accepts-end r 9 (operand w) h, ends-all r w h)
 ends-all r (Between o at a b) h = (accepts-end r (right_level o) (operand b) h, ends-all r b h)
-ends-all r (Gated w at x) h = tt
 ends-all r (If i a t b e c) h = (accepts-end r 0 (operand c) h, ends-all r c h)
-ends-all r (Given f a front w b) h = tt
+ends-all r _ h = tt
 
 -- an operator that has what is written on its left takes none of it to its right
 beats-same : (x : Side) (p : ℕ) → left_by x p ≤ p → p < right_by x p
 beats-same ToLeft p h = omega arith
-beats-same ToRight p h = omega arith
-beats-same Alone p h = omega arith
+beats-same _ p h = omega arith
 
 left_by-le : (x : Side) (p : ℕ) → p ≤ left_by x p
 left_by-le ToLeft p = omega arith
-left_by-le ToRight p = omega arith
-left_by-le Alone p = omega arith
+left_by-le _ p = omega arith
 
 right_by-le : (x : Side) (p : ℕ) → p ≤ right_by x p
 right_by-le ToLeft p = omega arith
-right_by-le ToRight p = omega arith
-right_by-le Alone p = omega arith
+right_by-le _ p = omega arith
 
 beats : (p q : ℕ) → left_by (side p) p ≤ q → p < right_by (side q) q
 beats p q h =
@@ -124,45 +86,24 @@ beats p q h =
 
 pub below-eight : (o : Op) → level_of o < 8
 below-eight op.Arrow = omega arith
-below-eight op.Implies = omega arith
-below-eight op.Or = omega arith
-below-eight op.Xor = omega arith
-below-eight op.And = omega arith
-below-eight op.Equal = omega arith
-below-eight op.Differs = omega arith
-below-eight op.Less = omega arith
-below-eight op.AtMost = omega arith
-below-eight op.Greater = omega arith
-below-eight op.AtLeast = omega arith
-below-eight op.Plus = omega arith
-below-eight op.Minus = omega arith
-below-eight op.Times = omega arith
-below-eight op.Slash = omega arith
-below-eight op.Div = omega arith
-below-eight op.Mod = omega arith
+below-eight _ = omega arith
 
 -- a token after a closed operand on its left, for the operators and for `when`
 ends-left : (o : Op) (up : ℕ) (w : Written) → IsGrammatical w → left_level o ≤ level w → is_open w ≡ false → Ends-at (next.Between o up) w
-ends-left o up (Atom l at) g h c = tt
-ends-left o up (InBrackets a w b) g h c = tt
 ends-left o up (Before p at w) g h c =
     (and_right _ _ (and_left _ _ (lt-leb 9 (level_of o) (omega (arith, below-eight o)))), ends-left o up w g.1 (omega arith) c)
 ends-left o up (Between q at a b) g h c = (
   and_right _ _ (and_left _ _ (lt-leb (right_level q) (level_of o) (beats (level_of o) (level_of q) h))),
   ends-left o up b g.4 (omega (arith, right_by-le (side (level_of q)) (level_of q))) c,
 )
-ends-left o up (Gated w at x) g h c = tt
 ends-left o up (If i a t b e d) g h c = cc
-ends-left o up (Given f a front w b) g h c = tt
+ends-left o up _ g h c = tt
 
 ends-gate : (up : ℕ) (w : Written) → IsGrammatical w → 8 ≤ level w → is_open w ≡ false → Ends-at (next.Gates up) w
-ends-gate up (Atom l at) g h c = tt
-ends-gate up (InBrackets a w b) g h c = tt
 ends-gate up (Before p at w) g h c = (and_right _ _ refl, ends-gate up w g.1 (omega arith) c)
 ends-gate up (Between q at a b) g h c = absurd (omega (arith, below-eight q))
-ends-gate up (Gated w at x) g h c = tt
 ends-gate up (If i a t b e d) g h c = cc
-ends-gate up (Given f a front w b) g h c = tt
+ends-gate up _ g h c = tt
 
 -- An operand that the token does not go on with is left to the frame.
 pub pop : (ts : List Token) (h g : Held) (f : Frame) (s : List Frame) → accepts (following ts) (need_of f) h ≡ false → wrapped f h ≡ Some g

@@ -9,6 +9,7 @@ use Rattle.rv_syntax.specs.{Machine.following, Machine.run, Limited.counts, Limi
 use Rattle.rv_tree.specs.Tree.{Tree}
 use Rattle.rv_syntax.proofs.Shallow.{IsWithin, IsTooDeep, within-before, Agrees, agrees, OrDeep, reads-or-deep}
 use Rattle.rv_syntax.proofs.Standings.{Stay, stay-front, stay-spelled, behind-inside, to-shallow-text, from-shallow-text, to-deep-text}
+use Rattle.rv_syntax.proofs.Exact.{suffix}
 use Rattle.rv_syntax.proofs.Exactly.{Begins, Answers, left, with_left, ReadsAs, Exact}
 use Rattle.rv_syntax.proofs.{Complete.IsEnd, Complete.complete, Sound.Wants, Sound.Comes, Sound.comes, Sound.one-token, Nested.past_all, Nested.from-shallow}
 use Rattle.rv_syntax.proofs.{Nested.to-shallow, Nested.to-deep, OneFault.head-same}
@@ -61,16 +62,9 @@ answers ts (Err (TooDeep, rest)) c a =
     let whole = c.0 ++ c.1 ∷ [] in
     let same : a.0 ≡ c.0 = append_cancel_right a.0 c.0 rest (ap (λ z. a.0 ++ z) a.3 ∙ sym a.4 ∙ c.4) in
     let deep = subst (λ t. IsTooDeep (counts 0 []) c.0 t) (head-same a.1 c.1 a.2 c.2 (sym a.3 ∙ c.3))
-    (subst (λ z. IsTooDeep (counts 0 []) z a.1) same a.5) in (
-      c.0,
-      c.1,
-      c.2,
-      c.3,
-      c.4,
-      to-begins whole c.5,
-      shallow c.0 (stay-front c.0 (c.1 ∷ []) (stay-begun whole c.5)) (within-before (counts 0 []) c.0 c.1 deep),
-      too-deep c.0 c.1 (stay-begun whole c.5) deep,
-    )
+    (subst (λ z. IsTooDeep (counts 0 []) z a.1) same a.5) in
+    let low = shallow c.0 (stay-front c.0 (c.1 ∷ []) (stay-begun whole c.5)) (within-before (counts 0 []) c.0 c.1 deep) in
+    (c.0, c.1, c.2, c.3, c.4, to-begins whole c.5, low, too-deep c.0 c.1 (stay-begun whole c.5) deep)
 
 answers-fresh : (ts : List Token) → Answers IsExprOf (Inside outside) ts (expression ts)
 answers-fresh ts = answers ts (limited (counts 0 []) (Want []) ts) (comes ts (counts 0 []) (Wants []) tt) (agrees ts (counts 0 []) (Want []))
@@ -78,20 +72,12 @@ answers-fresh ts = answers ts (limited (counts 0 []) (Want []) ts) (comes ts (co
 answers-at : (s : Standing) → IsFresh s → (ts : List Token) → Answers IsExprOf s ts (expression ts)
 answers-at s h ts = subst (λ z. Answers IsExprOf z ts (expression ts)) (sym h) (answers-fresh ts)
 
-abbrev Suffix : List Token → Reading Tree → Type 0
-Suffix ts r = (u : List Token) × (ts ≡ u ++ left r)
-
-suffix : (ts : List Token) (r : Reading Tree) → Answers IsExprOf (Inside outside) ts r → Suffix ts r
-suffix ts (Ok x) c = (c.0, c.1)
-suffix ts (Err (Offends, rest)) c = (c.0, c.1)
-suffix ts (Err (TooDeep, rest)) c = (c.0, c.4)
-
 -- Reading is local, as it is so at the token that is left.
 local : (front : List Token) (t : Token) (rest other g : List Token) → left (expression (front ++ t ∷ rest)) ≡ g ++ t ∷ rest
     → expression (front ++ t ∷ other) ≡ with_left (g ++ t ∷ other) (expression (front ++ t ∷ rest))
 local front t rest other [] h = one-token front (counts 0 []) (Want []) t rest other h
 local front t rest other (y ∷ g) h =
-    let u = suffix (front ++ t ∷ rest) (expression (front ++ t ∷ rest)) (answers-fresh (front ++ t ∷ rest)) in
+    let u = suffix IsExprOf (Inside outside) _ (expression (front ++ t ∷ rest)) (answers-fresh (front ++ t ∷ rest)) in
     let whole : front ++ t ∷ rest ≡ (u.0 ++ y ∷ g) ++ t ∷ rest = u.1 ∙ ap (λ z. u.0 ++ z) h ∙ sym (append_assoc u.0 (y ∷ g) (t ∷ rest)) in
     let cut : front ≡ u.0 ++ y ∷ g = append_cancel_right front (u.0 ++ y ∷ g) (t ∷ rest) whole in
     let there : front ++ t ∷ rest ≡ u.0 ++ y ∷ (g ++ t ∷ rest) = u.1 ∙ ap (λ z. u.0 ++ z) h in
@@ -114,13 +100,8 @@ reads s h t w rest d f =
     (reads-from t w rest (subst Stay d.2 (stay-spelled d.0)) (expression (w ++ rest)) (reads-or-deep (counts 0 []) (Want []) w rest t (runs t w rest d f)))
 
 pub Exact-expression : Exact IsFresh IsInside IsExprOf Ended expression
-Exact-expression = record {
-  some = (Just Yes 0, spelling (Atom Yes 0), (Atom Yes 0, tt, refl, refl));
-  passes = passes;
-  answers = answers-at;
-  local = local;
-  reads = reads;
-}
+Exact-expression = record
+    { some = (Just Yes 0, spelling (Atom Yes 0), (Atom Yes 0, tt, refl, refl)); passes = passes; answers = answers-at; local = local; reads = reads }
 
 -- What is derived is read whole, whatever its nesting.
 pub read-whole : (ts : List Token) (t : Tree) → IsExprOf t ts → run (Want []) ts ≡ Ok (t, [])

@@ -45,19 +45,19 @@ shuffled false false false false h = cc
 byte-plain : (b : ℕ) → is_word_byte b ≡ true → is_name_byte b ≡ true
 byte-plain b h = shuffled (is_in_range 48 57 b) (is_in_range 65 90 b) (is_in_range 97 122 b) (b == 95) h
 
-pub word-more : (b : ℕ) (bs : List ℕ) → is_word_byte b ≡ true → prefix_len is_word_byte (b ∷ bs) ≡ suc (prefix_len is_word_byte bs)
-word-more b bs e = ap (λ c. cond c (1 + prefix_len is_word_byte bs) 0) e ∙ one-add (prefix_len is_word_byte bs)
+pub len-more : (p : ℕ → Bool) (b : ℕ) (bs : List ℕ) → p b ≡ true → prefix_len p (b ∷ bs) ≡ suc (prefix_len p bs)
+len-more p b bs e = ap (λ c. cond c (1 + prefix_len p bs) 0) e ∙ one-add (prefix_len p bs)
 
-pub word-none : (b : ℕ) (bs : List ℕ) → is_word_byte b ≡ false → prefix_len is_word_byte (b ∷ bs) ≡ 0
-word-none b bs e = ap (λ c. cond c (1 + prefix_len is_word_byte bs) 0) e
+pub len-none : (p : ℕ → Bool) (b : ℕ) (bs : List ℕ) → p b ≡ false → prefix_len p (b ∷ bs) ≡ 0
+len-none p b bs e = ap (λ c. cond c (1 + prefix_len p bs) 0) e
 
 word-plain : (bs : List ℕ) → is_name (take (word_len bs) bs) ≡ true
 word-plain [] = refl
 word-plain (b ∷ bs) =
     elim (cases_Bool (is_word_byte b)) [
-      | inl e ↦ subst (λ n. is_name (take n (b ∷ bs)) ≡ true) (sym (word-more b bs e)) (ap (λ c. c && is_name (take (word_len bs) bs)) (byte-plain b e)
-          ∙ word-plain bs)
-      | inr e ↦ subst (λ n. is_name (take n (b ∷ bs)) ≡ true) (sym (word-none b bs e)) refl
+      | inl e ↦ subst (λ n. is_name (take n (b ∷ bs)) ≡ true) (sym (len-more is_word_byte b bs e))
+          (ap (λ c. c && is_name (take (word_len bs) bs)) (byte-plain b e) ∙ word-plain bs)
+      | inr e ↦ subst (λ n. is_name (take n (b ∷ bs)) ≡ true) (sym (len-none is_word_byte b bs e)) refl
     ]
 
 -- ---- Shapes.
@@ -131,21 +131,15 @@ other-fine : (tel : Bool) (s : Shape) (w : List ℕ) → IsOther s → IsFineOpt
 other-fine tel shape.Blank w h = tt
 other-fine tel shape.Name w h = absurd h
 other-fine tel shape.Number w h = kept-fine (digits_value 10 w)
-other-fine tel (shape.Fixed m) w h = refl
 other-fine true shape.Point w h = refl
-other-fine false shape.Point w h = refl
-other-fine tel shape.LeftOut w h = refl
-other-fine tel shape.Bad w h = refl
+other-fine _ _ w h = refl
 
 plain-fine : (tel : Bool) (s : Shape) (w : List ℕ) → is_name w ≡ true → IsFineOption (kind_of tel s w)
 plain-fine tel shape.Blank w h = tt
 plain-fine tel shape.Name w h = h
 plain-fine tel shape.Number w h = kept-fine (digits_value 10 w)
-plain-fine tel (shape.Fixed m) w h = refl
 plain-fine true shape.Point w h = refl
-plain-fine false shape.Point w h = refl
-plain-fine tel shape.LeftOut w h = refl
-plain-fine tel shape.Bad w h = refl
+plain-fine _ _ w h = refl
 
 abbrev pub IsCut : Bool → List ℕ → Shape × ℕ → Type 0
 IsCut tel text k = IsFineOption (kind_of tel k.0 (take k.1 text))
@@ -185,23 +179,23 @@ Every Q (a ∷ more) = Q a × Every Q more
 pub any : {A : Type 0} (L : A → List Token → Type 0) → Keeps L (λ a. ⊤)
 any L a ts h f = tt
 
-pub gives : {B : Type 0} (b : B) (Q : B → Type 0) → Q b → Keeps (Gives b) Q
-gives b Q q c ts h f = subst Q (sym h.1) q
+pub gives : {B : Type 0} {b : B} (Q : B → Type 0) → Q b → Keeps (Gives b) Q
+gives Q q c ts h f = subst Q (sym h.1) q
 
-pub after-word : {B : Type 0} (m : Mark) (L : B → List Token → Type 0) (Q : B → Type 0) → Keeps L Q → Keeps (Word m L) Q
-after-word m L Q k b ts h f = let g = subst AreFine h.2 f in k b h.1 h.3 g.1
+pub after-word : {B : Type 0} (m : Mark) {L : B → List Token → Type 0} {Q : B → Type 0} → Keeps L Q → Keeps (Word m L) Q
+after-word m k b ts h f = let g = subst AreFine h.2 f in k b h.1 h.3 g.1
 
-pub parts : {A B : Type 0} (L : A → List Token → Type 0) (M : A → B → List Token → Type 0) (Q : A → Type 0) (R : B → Type 0) → Keeps L Q
+pub parts : {A B : Type 0} {L : A → List Token → Type 0} {M : A → B → List Token → Type 0} {Q : A → Type 0} {R : B → Type 0} → Keeps L Q
     → ((a : A) → Q a → Keeps (M a) R) → Keeps (Part L M) R
-parts L M Q R k l b ts h f = let g = subst AreFine h.3 f in l h.0 (k h.0 h.1 h.4 (fine-left h.1 h.2 g)) b h.2 h.5 (fine-right h.1 h.2 g)
+parts k l b ts h f = let g = subst AreFine h.3 f in l h.0 (k h.0 h.1 h.4 (fine-left h.1 h.2 g)) b h.2 h.5 (fine-right h.1 h.2 g)
 
-pub one-of : {A : Type 0} (L M : A → List Token → Type 0) (Q : A → Type 0) → Keeps L Q → Keeps M Q → Keeps (OneOf L M) Q
-one-of L M Q k l a ts (inl h) f = k a ts h f
-one-of L M Q k l a ts (inr h) f = l a ts h f
+pub one-of : {A : Type 0} {L M : A → List Token → Type 0} {Q : A → Type 0} → Keeps L Q → Keeps M Q → Keeps (OneOf L M) Q
+one-of k l a ts (inl h) f = k a ts h f
+one-of k l a ts (inr h) f = l a ts h f
 
-pub each : {A : Type 0} (L : A → List Token → Type 0) (Q : A → Type 0) → Keeps L Q → Keeps (Each L) (Every Q)
-each L Q k [] ts h f = tt
-each L Q k (a ∷ more) ts h f = let g = subst AreFine h.2 f in (k a h.0 h.3 (fine-left h.0 h.1 g), each L Q k more h.1 h.4 (fine-right h.0 h.1 g))
+pub each : {A : Type 0} {L : A → List Token → Type 0} {Q : A → Type 0} → Keeps L Q → Keeps (Each L) (Every Q)
+each k [] ts h f = tt
+each k (a ∷ more) ts h f = let g = subst AreFine h.2 f in (k a h.0 h.3 (fine-left h.0 h.1 g), each k more h.1 h.4 (fine-right h.0 h.1 g))
 
 -- ---- Each of a list.
 pub joined-every : {A : Type 0} (Q : A → Type 0) (xs ys : List A) → Every Q xs → Every Q ys → Every Q (xs ++ ys)

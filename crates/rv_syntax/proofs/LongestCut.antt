@@ -1,6 +1,6 @@
 -- A piece of a text is the longest front that is one, and a text is made up of such pieces.
 use Rattle.std.proofs.Common.{◌≡◌, ℕ, zero, suc, ◌+◌, ◌-◌, ◌<◌, ◌≤◌, Bool, true, false, cond, ◌||◌, List, [], ◌∷◌, ◌++◌, length, take, drop, refl, sym, ap, ◌∙◌}
-use Rattle.std.proofs.Common.{subst, inl, inr, arith, one-add}
+use Rattle.std.proofs.Common.{subst, inl, inr, arith}
 use Rattle.std.proofs.lemmas.Bool.{cases_Bool, cases_lt, and_from, and_left, and_right, eq-eqb, ne_eqb, cond-true, cond-false}
 use Rattle.std.proofs.lemmas.List.{length-append, length-drop, length-take-le, take-append-drop}
 use Rattle.std.proofs.{Math.Seq.take-length, Math.Seq.take-append_seam, Math.Seq.drop-append_seam, lemmas.List.Sums.prefix_len-le-length}
@@ -12,13 +12,7 @@ use Rattle.rv_syntax.specs.Longest.{or_bad, shape_of, tokens_of, AreTokens}
 use Rattle.rv_syntax.specs.{declared.token.Token.Token, declared.lexer.Shape.Shape, declared.lexer.Comment.Comment}
 use Rattle.rv_syntax.specs.declared.lexer.Shape.TheVariants as shape
 use Rattle.rv_syntax.specs.declared.lexer.Comment.TheVariants as comment
-use Rattle.rv_syntax.proofs.{Closing.close-fits, Closing.close-take, Lexed.lex-from, Lexed.lex-past}
-
-len-more : (p : ℕ → Bool) (b : ℕ) (bs : List ℕ) → p b ≡ true → prefix_len p (b ∷ bs) ≡ suc (prefix_len p bs)
-len-more p b bs e = ap (λ c. cond c (1 + prefix_len p bs) 0) e ∙ one-add (prefix_len p bs)
-
-len-none : (p : ℕ → Bool) (b : ℕ) (bs : List ℕ) → p b ≡ false → prefix_len p (b ∷ bs) ≡ 0
-len-none p b bs e = ap (λ c. cond c (1 + prefix_len p bs) 0) e
+use Rattle.rv_syntax.proofs.{Closing.close-fits, Closing.close-take, Lexed.lex-from, Lexed.lex-past, FineTokens.len-more, FineTokens.len-none}
 
 -- the front of bytes that pass a test, and a longer one
 every-front : (p : ℕ → Bool) (bs : List ℕ) → every p (take (prefix_len p bs) bs) ≡ true
@@ -30,13 +24,12 @@ every-front p (b ∷ bs) =
     ]
 
 every-longer : (p : ℕ → Bool) (bs : List ℕ) (m : ℕ) → prefix_len p bs < m → m ≤ length bs → every p (take m bs) ≡ false
-every-longer p [] m h l = absurd (omega arith)
-every-longer p (b ∷ bs) zero h l = absurd (omega arith)
 every-longer p (b ∷ bs) (suc m) h l =
     elim (cases_Bool (p b)) [
       | inl e ↦ and_right _ _ (every-longer p bs m (omega (arith, len-more p b bs e)) (omega arith))
       | inr e ↦ and_left _ _ e
     ]
+every-longer p _ _ h l = absurd (omega arith)
 
 front-is : (p : ℕ → Bool) (bs : List ℕ) (s : Shape) → if_every p (take (prefix_len p bs) bs) s ≡ Some s
 front-is p bs s = cond-true (every p (take (prefix_len p bs) bs)) (Some s) None (every-front p bs)
@@ -78,10 +71,8 @@ at-other b bs s e h = no-word b bs s e ∙ cond-false (is_ascii_digit b) (if_eve
 
 -- white space
 longer-space : (b : ℕ) (bs : List ℕ) → is_space b ≡ true → (m : ℕ) → 1 < m → m ≤ length (b ∷ bs) → one_piece (take m (b ∷ bs)) ≡ None
-longer-space b bs e zero h l = absurd (omega arith)
-longer-space b bs e (suc zero) h l = absurd (omega arith)
-longer-space b [] e (suc (suc m)) h l = absurd (omega arith)
 longer-space b (c ∷ cs) e (suc (suc m)) h l = at-space b (c ∷ take m cs) e
+longer-space b _ e _ h l = absurd (omega arith)
 
 longest-space : (b : ℕ) (bs : List ℕ) → is_space b ≡ true → IsLongest (b ∷ bs) (shape.Blank, 1)
 longest-space b bs e = (omega arith, at-space b [] e, longer-space b bs e)
@@ -135,12 +126,11 @@ at-comment b c bs o s e d h = at-other b (c ∷ bs) s e d ∙ ap (λ x. comment_
 longer-comment : (b c : ℕ) (cs : List ℕ) (o : Comment) (n : ℕ) → is_space b ≡ false → is_letter b ≡ false → is_ascii_digit b ≡ false → opens b c ≡ Some o
     → ((m : ℕ) → n < m → m ≤ length cs → comment_of o (take m cs) ≡ None)
     → (m : ℕ) → 2 + n < m → m ≤ length (b ∷ c ∷ cs) → one_piece (take m (b ∷ c ∷ cs)) ≡ None
-longer-comment b c cs o n s e d h f zero a l = absurd (omega arith)
-longer-comment b c cs o n s e d h f (suc zero) a l = absurd (omega arith)
 longer-comment b c cs o n s e d h f (suc (suc m)) a l =
     let from : n < m = omega arith in
     let to : m ≤ length cs = omega arith in
     at-comment b c (take m cs) o s e d h ∙ f m from to
+longer-comment b c cs o n s e d h f _ a l = absurd (omega arith)
 
 longest-comment : (b c : ℕ) (cs : List ℕ) (o : Comment) (k : Shape × ℕ) → is_space b ≡ false → is_letter b ≡ false → is_ascii_digit b ≡ false
     → opens b c ≡ Some o
@@ -192,18 +182,14 @@ at-pair b c bs s e d h = at-other b (c ∷ bs) s e d ∙ ap (λ x. comment_or_pa
 
 beyond-two : (b c : ℕ) (cs : List ℕ) → is_space b ≡ false → is_letter b ≡ false → is_ascii_digit b ≡ false → opens b c ≡ None → (m : ℕ) → 2 < m
     → m ≤ length (b ∷ c ∷ cs) → one_piece (take m (b ∷ c ∷ cs)) ≡ None
-beyond-two b c [] s e d o m h l = absurd (omega arith)
-beyond-two b c (x ∷ xs) s e d o zero h l = absurd (omega arith)
-beyond-two b c (x ∷ xs) s e d o (suc zero) h l = absurd (omega arith)
-beyond-two b c (x ∷ xs) s e d o (suc (suc zero)) h l = absurd (omega arith)
 beyond-two b c (x ∷ xs) s e d o (suc (suc (suc k))) h l = at-pair b c (x ∷ take k xs) s e d o
+beyond-two b c _ s e d o _ h l = absurd (omega arith)
 
 beyond-one : (b c : ℕ) (cs : List ℕ) → is_space b ≡ false → is_letter b ≡ false → is_ascii_digit b ≡ false → opens b c ≡ None → pair b c ≡ None
     → (m : ℕ) → 1 < m → m ≤ length (b ∷ c ∷ cs) → one_piece (take m (b ∷ c ∷ cs)) ≡ None
-beyond-one b c cs s e d o p zero h l = absurd (omega arith)
-beyond-one b c cs s e d o p (suc zero) h l = absurd (omega arith)
 beyond-one b c cs s e d o p (suc (suc zero)) h l = at-pair b c [] s e d o ∙ p
 beyond-one b c cs s e d o p (suc (suc (suc k))) h l = beyond-two b c cs s e d o (suc (suc (suc k))) (omega arith) l
+beyond-one b c cs s e d o p _ h l = absurd (omega arith)
 
 longest-pair : (b c : ℕ) (cs : List ℕ) → is_space b ≡ false → is_letter b ≡ false → is_ascii_digit b ≡ false → opens b c ≡ None → (p : Option Shape)
     → pair b c ≡ p → IsLongest (b ∷ c ∷ cs) (or_single p b)

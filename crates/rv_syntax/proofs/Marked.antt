@@ -19,61 +19,14 @@ marked n = get_or (
 
 back : (m : Mark) → marked (number_of m) ≡ m
 back mark.Node = refl
-back mark.Returns = refl
-back mark.Var = refl
-back mark.Let = refl
-back mark.Tel = refl
-back mark.Const = refl
-back mark.Type = refl
-back mark.Enum = refl
-back mark.Bool = refl
-back mark.Int = refl
-back mark.If = refl
-back mark.Then = refl
-back mark.Else = refl
-back mark.True = refl
-back mark.False = refl
-back mark.Not = refl
-back mark.And = refl
-back mark.Or = refl
-back mark.Xor = refl
-back mark.Pre = refl
-back mark.When = refl
-back mark.Current = refl
-back mark.Assert = refl
-back mark.Div = refl
-back mark.Mod = refl
-back mark.Arrow = refl
-back mark.Implies = refl
-back mark.Differs = refl
-back mark.AtMost = refl
-back mark.AtLeast = refl
-back mark.Less = refl
-back mark.Greater = refl
-back mark.Equal = refl
-back mark.Plus = refl
-back mark.Minus = refl
-back mark.Times = refl
-back mark.Slash = refl
-back mark.Open = refl
-back mark.Close = refl
-back mark.Comma = refl
-back mark.Semi = refl
-back mark.Colon = refl
-back mark.OpenBrace = refl
-back mark.CloseBrace = refl
-back mark.Hash = refl
-back mark.Dot = refl
+back _ = refl
 
 same-mark : (a b : Mark) → nat_eq (number_of a) (number_of b) ≡ true → a ≡ b
 same-mark a b h = sym (back a) ∙ ap marked (eqb-true (number_of a) (number_of b) h) ∙ back b
 
 kind-mark : (m : Mark) (k : Kind) → kind_is m k ≡ true → k ≡ kind.Fixed m
 kind-mark m (kind.Fixed f) h = ap kind.Fixed (same-mark f m h)
-kind-mark m (kind.Name x) h = cc
-kind-mark m (kind.Number n) h = cc
-kind-mark m kind.LeftOut h = cc
-kind-mark m kind.Bad h = cc
+kind-mark m _ h = cc
 
 pub token-mark : (m : Mark) (t : Token) → is_mark m t ≡ true → t ≡ fixed m t.at
 token-mark m t h = ap (λ k. record { kind = k; at = t.at }) (kind-mark m t.kind h)

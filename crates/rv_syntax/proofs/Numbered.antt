@@ -4,8 +4,8 @@ use Rattle.std.proofs.Common.{arith}
 use Rattle.std.proofs.{lemmas.List.length-map, lemmas.List.map-append, lemmas.List.get_or_default, lemmas.Bool.cases_order, lemmas.Bool.Decides.nat_tests}
 use Rattle.std.specs.{Prelude.Option, Prelude.Some, List.Contains}
 use Rattle.rv_base.specs.Limits.{source_limit}
-use Rattle.rv_tree.specs.Tree.{Tree, Node, Form, True, False, Number, Named, Not, Minus, Pre, Current, When, Binary, If, AtMostOne, Call, Trees, None, More}
-use Rattle.rv_tree.specs.Tree.{EquationTree, AssertionTree, NodeTree, ProgramTree}
+use Rattle.rv_tree.specs.Tree.{Tree, Node, Form, Not, Minus, Pre, Current, When, Binary, If, AtMostOne, Call, Trees, None, More, EquationTree, AssertionTree}
+use Rattle.rv_tree.specs.Tree.{NodeTree, ProgramTree}
 use Rattle.rv_tree.specs.Delays.{Delay, delays, delays_of_all, delays_in_equations, delays_in_assertions, node_delays, IsNumbered}
 use Rattle.rv_tree.specs.Sites.{compared, offsets, form_offsets, trees_offsets, equation_offsets, assertion_offsets, node_offsets, earlier, numbered_from}
 use Rattle.rv_tree.specs.Sites.{site_at, compared_site, sited, sited_node, sited_trees, sited_equation, sited_assertion, with_sites}
@@ -22,16 +22,11 @@ use Rattle.rv_base.proofs.Lists.{from_map}
 abbrev numbered : (ℕ → ℕ) → ℕ → SitedPart
 numbered f at = part at (Some (f at))
 
-both : {A : Type 0} (g : ℕ → A) (ps qs : List A) (xs ys : List ℕ) → ps ≡ map g xs → qs ≡ map g ys → ps ++ qs ≡ map g (xs ++ ys)
-both g ps qs xs ys p q = ap (λ l. l ++ qs) p ∙ ap (λ l. map g xs ++ l) q ∙ sym (map-append g xs ys)
+both : {A : Type 0} (g : ℕ → A) {ps qs : List A} (xs ys : List ℕ) → ps ≡ map g xs → qs ≡ map g ys → ps ++ qs ≡ map g (xs ++ ys)
+both g {qs = qs} xs ys p q = ap (λ l. l ++ qs) p ∙ ap (λ l. map g xs ++ l) q ∙ sym (map-append g xs ys)
 
 comparison-numbered : (f : ℕ → ℕ) (o : Op) (at : ℕ) → comparison o at (compared_site o (f at)) ≡ map (numbered f) (compared o at)
 comparison-numbered f op.Equal at = refl
-comparison-numbered f op.Differs at = refl
-comparison-numbered f op.Less at = refl
-comparison-numbered f op.AtMost at = refl
-comparison-numbered f op.Greater at = refl
-comparison-numbered f op.AtLeast at = refl
 comparison-numbered f _ at = refl
 
 mutual
@@ -39,49 +34,31 @@ mutual
   parts-numbered f (Node at site form) = form-numbered f at form
 
   form-numbered : (f : ℕ → ℕ) (at : ℕ) (form : Form) → parts (sited_node f at form) ≡ map (numbered f) (form_offsets at form)
-  form-numbered f at True = refl
-  form-numbered f at False = refl
-  form-numbered f at (Number n) = refl
-  form-numbered f at (Named x) = refl
   form-numbered f at (Not t) = parts-numbered f t
   form-numbered f at (Minus t) = parts-numbered f t
   form-numbered f at (Pre t) = ap (λ l. numbered f at ∷ l) (parts-numbered f t)
   form-numbered f at (Current t) = ap (λ l. numbered f at ∷ l) (parts-numbered f t)
   form-numbered f at (When t c) = parts-numbered f t
-  form-numbered f at (Binary o a b) =
-      both (numbered f) (parts (sited f a)) (comparison o at (compared_site o (f at)) ++ parts (sited f b)) (offsets a) (compared o at ++ offsets b)
-      (parts-numbered f a)
-      (both (numbered f) (comparison o at (compared_site o (f at))) (parts (sited f b)) (compared o at) (offsets b) (comparison-numbered f o at)
-      (parts-numbered f b))
-  form-numbered f at (If a b c) =
-      both (numbered f) (parts (sited f a)) (parts (sited f b) ++ parts (sited f c)) (offsets a) (offsets b ++ offsets c) (parts-numbered f a)
-      (both (numbered f) (parts (sited f b)) (parts (sited f c)) (offsets b) (offsets c) (parts-numbered f b) (parts-numbered f c))
+  form-numbered f at (Binary o a b) = both (numbered f) _ _ (parts-numbered f a) (both (numbered f) _ _ (comparison-numbered f o at) (parts-numbered f b))
+  form-numbered f at (If a b c) = both (numbered f) _ _ (parts-numbered f a) (both (numbered f) _ _ (parts-numbered f b) (parts-numbered f c))
   form-numbered f at (AtMostOne ts) = trees-numbered f ts
   form-numbered f at (Call g ts) = ap (λ l. numbered f at ∷ l) (trees-numbered f ts)
+  form-numbered f at _ = refl
 
   trees-numbered : (f : ℕ → ℕ) (ts : Trees) → trees_parts (sited_trees f ts) ≡ map (numbered f) (trees_offsets ts)
   trees-numbered f None = refl
-  trees-numbered f (More t ts) = both (numbered f) (parts (sited f t)) (trees_parts (sited_trees f ts)) (offsets t) (trees_offsets ts) (parts-numbered f t)
-      (trees-numbered f ts)
+  trees-numbered f (More t ts) = both (numbered f) _ _ (parts-numbered f t) (trees-numbered f ts)
 
 equations-numbered : (f : ℕ → ℕ) (qs : List EquationTree) → equation_parts (map (sited_equation f) qs) ≡ map (numbered f) (equation_offsets qs)
 equations-numbered f [] = refl
-equations-numbered f (q ∷ qs) =
-    both (numbered f) (parts (sited f q.right)) (equation_parts (map (sited_equation f) qs)) (offsets q.right) (equation_offsets qs) (parts-numbered f q.right)
-    (equations-numbered f qs)
+equations-numbered f (q ∷ qs) = both (numbered f) _ _ (parts-numbered f q.right) (equations-numbered f qs)
 
 assertions-numbered : (f : ℕ → ℕ) (more : List AssertionTree) → assertion_parts (map (sited_assertion f) more) ≡ map (numbered f) (assertion_offsets more)
 assertions-numbered f [] = refl
-assertions-numbered f (a ∷ more) =
-    ap (λ l. numbered f a.at ∷ l)
-    (both (numbered f) (parts (sited f a.body)) (assertion_parts (map (sited_assertion f) more)) (offsets a.body) (assertion_offsets more)
-    (parts-numbered f a.body) (assertions-numbered f more))
+assertions-numbered f (a ∷ more) = ap (λ l. numbered f a.at ∷ l) (both (numbered f) _ _ (parts-numbered f a.body) (assertions-numbered f more))
 
 node-numbered : (n : NodeTree) → node_parts (with_sites n) ≡ map (numbered (site_at n)) (node_offsets n)
-node-numbered n =
-    both (numbered (site_at n)) (equation_parts (map (sited_equation (site_at n)) n.equations))
-    (assertion_parts (map (sited_assertion (site_at n)) n.assertions))
-    (equation_offsets n.equations) (assertion_offsets n.assertions) (equations-numbered (site_at n) n.equations) (assertions-numbered (site_at n) n.assertions)
+node-numbered n = both (numbered (site_at n)) _ _ (equations-numbered (site_at n) n.equations) (assertions-numbered (site_at n) n.assertions)
 
 -- ---- The `pre` and `current` among them.
 abbrev mutual
@@ -89,10 +66,6 @@ abbrev mutual
   delayed (Node at site form) = form_delayed at form
 
   form_delayed : ℕ → Form → List ℕ
-  form_delayed at True = []
-  form_delayed at False = []
-  form_delayed at (Number n) = []
-  form_delayed at (Named x) = []
   form_delayed at (Not t) = delayed t
   form_delayed at (Minus t) = delayed t
   form_delayed at (Pre t) = at ∷ delayed t
@@ -102,6 +75,7 @@ abbrev mutual
   form_delayed at (If a b c) = delayed a ++ (delayed b ++ delayed c)
   form_delayed at (AtMostOne ts) = trees_delayed ts
   form_delayed at (Call f ts) = trees_delayed ts
+  form_delayed at _ = []
 
   trees_delayed : Trees → List ℕ
   trees_delayed None = []
@@ -126,8 +100,7 @@ site_given f at = Some (f at)
 
 both-given : (f : ℕ → ℕ) (ds es : List Delay) (xs ys : List ℕ) → map site_had ds ≡ map (site_given f) xs → map site_had es ≡ map (site_given f) ys
     → map site_had (ds ++ es) ≡ map (site_given f) (xs ++ ys)
-both-given f ds es xs ys p q =
-    map-append site_had ds es ∙ ap (λ l. l ++ map site_had es) p ∙ ap (λ l. map (site_given f) xs ++ l) q ∙ sym (map-append (site_given f) xs ys)
+both-given f ds es xs ys p q = map-append site_had ds es ∙ both (site_given f) xs ys p q
 
 -- each has the site that f gives its offset
 mutual
@@ -135,45 +108,33 @@ mutual
   given f (Node at site form) = form-given f at form
 
   form-given : (f : ℕ → ℕ) (at : ℕ) (form : Form) → map site_had (delays (sited_node f at form)) ≡ map (site_given f) (form_delayed at form)
-  form-given f at True = refl
-  form-given f at False = refl
-  form-given f at (Number n) = refl
-  form-given f at (Named x) = refl
   form-given f at (Not t) = given f t
   form-given f at (Minus t) = given f t
   form-given f at (Pre t) = ap (λ l. Some (f at) ∷ l) (given f t)
   form-given f at (Current t) = ap (λ l. Some (f at) ∷ l) (given f t)
   form-given f at (When t c) = given f t
-  form-given f at (Binary o a b) = both-given f (delays (sited f a)) (delays (sited f b)) (delayed a) (delayed b) (given f a) (given f b)
-  form-given f at (If a b c) =
-      both-given f (delays (sited f a)) (delays (sited f b) ++ delays (sited f c)) (delayed a) (delayed b ++ delayed c) (given f a)
-      (both-given f (delays (sited f b)) (delays (sited f c)) (delayed b) (delayed c) (given f b) (given f c))
+  form-given f at (Binary o a b) = both-given f _ _ _ _ (given f a) (given f b)
+  form-given f at (If a b c) = both-given f _ _ _ _ (given f a) (both-given f _ _ _ _ (given f b) (given f c))
   form-given f at (AtMostOne ts) = trees-given f ts
   form-given f at (Call g ts) = trees-given f ts
+  form-given f at _ = refl
 
   trees-given : (f : ℕ → ℕ) (ts : Trees) → map site_had (delays_of_all (sited_trees f ts)) ≡ map (site_given f) (trees_delayed ts)
   trees-given f None = refl
-  trees-given f (More t ts) = both-given f (delays (sited f t)) (delays_of_all (sited_trees f ts)) (delayed t) (trees_delayed ts) (given f t) (trees-given f ts)
+  trees-given f (More t ts) = both-given f _ _ _ _ (given f t) (trees-given f ts)
 
 equations-given : (f : ℕ → ℕ) (qs : List EquationTree) → map site_had (delays_in_equations (map (sited_equation f) qs)) ≡ map (site_given f)
     (equations_delayed qs)
 equations-given f [] = refl
-equations-given f (q ∷ qs) =
-    both-given f (delays (sited f q.right)) (delays_in_equations (map (sited_equation f) qs)) (delayed q.right) (equations_delayed qs) (given f q.right)
-    (equations-given f qs)
+equations-given f (q ∷ qs) = both-given f _ _ _ _ (given f q.right) (equations-given f qs)
 
 assertions-given : (f : ℕ → ℕ) (more : List AssertionTree) → map site_had (delays_in_assertions (map (sited_assertion f) more)) ≡ map (site_given f)
     (assertions_delayed more)
 assertions-given f [] = refl
-assertions-given f (a ∷ more) =
-    both-given f (delays (sited f a.body)) (delays_in_assertions (map (sited_assertion f) more)) (delayed a.body) (assertions_delayed more) (given f a.body)
-    (assertions-given f more)
+assertions-given f (a ∷ more) = both-given f _ _ _ _ (given f a.body) (assertions-given f more)
 
 node-given : (n : NodeTree) → map site_had (node_delays (with_sites n)) ≡ map (site_given (site_at n)) (node_delayed n)
-node-given n =
-    both-given (site_at n) (delays_in_equations (map (sited_equation (site_at n)) n.equations))
-    (delays_in_assertions (map (sited_assertion (site_at n)) n.assertions))
-    (equations_delayed n.equations) (assertions_delayed n.assertions) (equations-given (site_at n) n.equations) (assertions-given (site_at n) n.assertions)
+node-given n = both-given (site_at n) _ _ _ _ (equations-given (site_at n) n.equations) (assertions-given (site_at n) n.assertions)
 
 -- they are some of all
 module _ (f : ℕ → ℕ) where
@@ -188,41 +149,34 @@ module _ (f : ℕ → ℕ) where
     fewer (Node at site form) = form-fewer at form
 
     form-fewer : (at : ℕ) (form : Form) → all_of f (form_delayed at form) ≤ all_of f (form_offsets at form)
-    form-fewer at True = omega arith
-    form-fewer at False = omega arith
-    form-fewer at (Number n) = omega arith
-    form-fewer at (Named x) = omega arith
     form-fewer at (Not t) = fewer t
     form-fewer at (Minus t) = fewer t
     form-fewer at (Pre t) = omega (arith, fewer t)
     form-fewer at (Current t) = omega (arith, fewer t)
     form-fewer at (When t c) = fewer t
-    form-fewer at (Binary o a b) = fewer-both (delayed a) (delayed b) (offsets a) (compared o at ++ offsets b) (fewer a)
-        (fewer-with (delayed b) (compared o at) (offsets b) (fewer b))
-    form-fewer at (If a b c) = fewer-both (delayed a) (delayed b ++ delayed c) (offsets a) (offsets b ++ offsets c) (fewer a)
-        (fewer-both (delayed b) (delayed c) (offsets b) (offsets c) (fewer b) (fewer c))
+    form-fewer at (Binary o a b) = fewer-both _ _ _ _ (fewer a) (fewer-with _ _ _ (fewer b))
+    form-fewer at (If a b c) = fewer-both _ _ _ _ (fewer a) (fewer-both _ _ _ _ (fewer b) (fewer c))
     form-fewer at (AtMostOne ts) = trees-fewer ts
     form-fewer at (Call g ts) = omega (arith, trees-fewer ts)
+    form-fewer at _ = omega arith
 
     trees-fewer : (ts : Trees) → all_of f (trees_delayed ts) ≤ all_of f (trees_offsets ts)
     trees-fewer None = omega arith
-    trees-fewer (More t ts) = fewer-both (delayed t) (trees_delayed ts) (offsets t) (trees_offsets ts) (fewer t) (trees-fewer ts)
+    trees-fewer (More t ts) = fewer-both _ _ _ _ (fewer t) (trees-fewer ts)
 
   equations-fewer : (qs : List EquationTree) → all_of f (equations_delayed qs) ≤ all_of f (equation_offsets qs)
   equations-fewer [] = omega arith
-  equations-fewer (q ∷ qs) = fewer-both (delayed q.right) (equations_delayed qs) (offsets q.right) (equation_offsets qs) (fewer q.right) (equations-fewer qs)
+  equations-fewer (q ∷ qs) = fewer-both _ _ _ _ (fewer q.right) (equations-fewer qs)
 
   assertions-fewer : (more : List AssertionTree) → all_of f (assertions_delayed more) ≤ all_of f (assertion_offsets more)
   assertions-fewer [] = omega arith
   assertions-fewer (a ∷ more) =
       let rest : all_of f (delayed a.body ++ assertions_delayed more) ≤ all_of f (offsets a.body ++ assertion_offsets more) =
-      fewer-both (delayed a.body) (assertions_delayed more) (offsets a.body) (assertion_offsets more) (fewer a.body) (assertions-fewer more) in
+      fewer-both _ _ _ _ (fewer a.body) (assertions-fewer more) in
       omega (arith, rest)
 
   node-fewer : (n : NodeTree) → all_of f (node_delayed n) ≤ all_of f (node_offsets n)
-  node-fewer n =
-      fewer-both (equations_delayed n.equations) (assertions_delayed n.assertions) (equation_offsets n.equations) (assertion_offsets n.assertions)
-      (equations-fewer n.equations) (assertions-fewer n.assertions)
+  node-fewer n = fewer-both _ _ _ _ (equations-fewer n.equations) (assertions-fewer n.assertions)
 
 -- ---- Offsets, and how many are less.
 less-step : (x y z : ℕ) → x < y → cond (ltb z x) 1 0 + alone x z ≤ cond (ltb z y) 1 0
@@ -383,7 +337,8 @@ numbered-text bytes t n le x h =
     let from = from_map with_sites p.nodes n (subst (λ (u : ProgramTree). Contains u.nodes n) x.1 h) in
     let m : NodeTree = from.0 in
     let few : length (flows m) ≤ source_limit = omega (arith, node-weighs m, one-of (of_node each) p.nodes m from.1, program-short bytes p x.2) in
-    let once : (y : ℕ) → all_of (alone y) (node_offsets m) ≤ 1 = λ y. omega (
+    let once : (y : ℕ) → all_of (alone y) (node_offsets m) ≤ 1 = λ y.
+    omega (
       arith,
       all_of-append (alone y) (equation_offsets m.equations) (assertion_offsets m.assertions),
       one-of (of_node (alone y)) p.nodes m from.1,

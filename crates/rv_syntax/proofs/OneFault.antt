@@ -7,6 +7,7 @@ use Rattle.rv_syntax.specs.Faults.{BeginsProgram, IsDead, is_left_out, Offends, 
 use Rattle.rv_syntax.specs.{declared.token.Token.Token, declared.fault.TextFault.TextFault, Lexing.tokens, ProgramText.IsProgram, ProgramText.IsTextOf}
 use Rattle.rv_syntax.specs.declared.fault.TextFault.TheVariants as fault
 use Rattle.rv_tree.specs.Tree.{ProgramTree}
+use Rattle.rv_syntax.proofs.Exact.{shallow-first}
 
 -- ---- Cuts.
 abbrev tail : List Token → List Token
@@ -44,10 +45,6 @@ Bars ts = IsDead ts ⊎ (limit < depth (behind_all ts Outside))
 pub begins-before : (front more : List Token) → BeginsProgram (front ++ more) → BeginsProgram front
 begins-before front more b = (more ++ b.0, b.1, subst (IsProgram b.1) (append_assoc front more b.0) b.2)
 
-shallow-before : (s : Standing) (front more : List Token) → IsShallowText s (front ++ more) → IsShallowText s front
-shallow-before s [] more h = tt
-shallow-before s (t ∷ ts) more h = (h.0, shallow-before (behind t s) ts more h.1)
-
 shallow-last : (s : Standing) (front : List Token) (t : Token) → IsShallowText s (front ++ t ∷ []) → depth (behind_all (front ++ t ∷ []) s) ≤ limit
 shallow-last s [] t h = h.0
 shallow-last s (x ∷ front) t h = shallow-last (behind x s) front t h.1
@@ -55,7 +52,7 @@ shallow-last s (x ∷ front) t h = shallow-last (behind x s) front t h.1
 barred : (front : List Token) (t : Token) (more : List Token) → Bars (front ++ t ∷ []) → Fine ((front ++ t ∷ []) ++ more) → ⊥
 barred front t more (inl dead) h = dead (begins-before (front ++ t ∷ []) more h.0)
 barred front t more (inr deep) h =
-    let low : depth (behind_all (front ++ t ∷ []) Outside) ≤ limit = shallow-last Outside front t (shallow-before Outside (front ++ t ∷ []) more h.1) in
+    let low : depth (behind_all (front ++ t ∷ []) Outside) ≤ limit = shallow-last Outside front t (shallow-first (front ++ t ∷ []) more Outside h.1) in
     omega arith
 
 barred-at : (ts front : List Token) (t : Token) (more : List Token) → ts ≡ (front ++ t ∷ []) ++ more → Bars (front ++ t ∷ []) → Fine ts → ⊥
@@ -78,9 +75,8 @@ Why Bad front t = IsDead (front ++ t ∷ []) × (is_left_out front t ≡ false)
 Why Deep front t = BeginsProgram (front ++ t ∷ []) × (limit < depth (behind_all (front ++ t ∷ []) Outside))
 
 bars : (k : Kind) (front : List Token) (t : Token) → Why k front t → Bars (front ++ t ∷ [])
-bars LeftOut front t h = inl h.0
-bars Bad front t h = inl h.0
 bars Deep front t h = inr h.1
+bars _ front t h = inl h.0
 
 one-kind : (k l : Kind) (front : List Token) (t : Token) → Why k front t → Why l front t → k ≡ l
 one-kind LeftOut LeftOut front t h g = refl

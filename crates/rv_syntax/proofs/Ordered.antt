@@ -4,7 +4,7 @@ use Rattle.std.proofs.Common.{inr, arith}
 use Rattle.std.specs.{Prelude.Option, Prelude.Some, Prelude.None, List.All}
 use Rattle.rv_syntax.specs.declared.token.Mark.TheVariants as mark
 use Rattle.rv_syntax.specs.Lexing.{cut, kind_of, emitted, ends_in_tel, lex, tokens}
-use Rattle.rv_syntax.specs.ProgramText.{IsConstant, IsConstants, Section, Types, Constants, OneNode, IsSection, constants_of, IsProgram}
+use Rattle.rv_syntax.specs.ProgramText.{IsConstant, IsConstants, Section, Types, Constants, IsSection, constants_of, IsProgram}
 use Rattle.rv_syntax.specs.{declared.token.Kind.Kind, declared.token.Token.Token, TextTrees.IsTreeOfText, Grammar.fixed, Grammar.name_token, Rules.Each}
 use Rattle.rv_tree.specs.Tree.{ConstantTree, ProgramTree}
 
@@ -104,9 +104,8 @@ orders-constants cs ts h from to rising =
     (orders-each many.0 many.1 many.4 parts.0 later.0 later.1)))
 
 abbrev constants_in : Section → List ConstantTree
-constants_in (Types ds) = []
 constants_in (Constants cs) = cs
-constants_in (OneNode n) = []
+constants_in _ = []
 
 orders-section : Orders IsSection constants_in
 orders-section s ts (inl h) from to rising = subst (λ l. Rising constant_at from l to) (sym (ap constants_in h.5.1)) (rising-some token_at from to ts rising)
@@ -119,8 +118,7 @@ orders-section s ts (inr (inr h)) from to rising = subst (λ l. Rising constant_
 
 constants-more : (s : Section) (more : List Section) → constants_of (s ∷ more) ≡ constants_in s ++ constants_of more
 constants-more (Types ds) more = refl
-constants-more (Constants cs) more = refl
-constants-more (OneNode n) more = refl
+constants-more _ more = refl
 
 orders-sections : Orders (Each IsSection) constants_of
 orders-sections [] ts h from to rising = rising-some token_at from to ts rising

@@ -2,13 +2,13 @@
 -- `when`, behind the word `node`, a name and `(` there is no `)`, and up to the next `var` or `let` no `when`.
 use Rattle.std.proofs.Common.{inl, inr, ◌≡◌, ℕ, Bool, true, false, List, [], ◌∷◌, ◌++◌, refl, sym, ap, ◌∙◌, subst, append_assoc}
 use Rattle.std.specs.Prelude.{◌⊎◌, ◌&&◌, ◌||◌, Some, None as Nothing}
-use Rattle.rv_syntax.specs.Grammar.{Leaf, Yes, No, Count, Called, Callee, Function, Hash, Written, Atom, InBrackets, Before, Between, Gated, If, Given, Front}
-use Rattle.rv_syntax.specs.Grammar.{NoneBefore, Then, fixed, name_token, leaf_token, callee_token, prefix_mark, op_mark, spelling, front_spelling}
+use Rattle.rv_syntax.specs.Grammar.{Leaf, Yes, Callee, Function, Hash, Written, Atom, InBrackets, Before, Between, Gated, If, Given, Front, NoneBefore, Then}
+use Rattle.rv_syntax.specs.Grammar.{fixed, name_token, leaf_token, callee_token, prefix_mark, op_mark, spelling, front_spelling}
 use Rattle.rv_syntax.specs.Rules.{Gives, Word, Only, Marked, Maybe, Part, OneOf, Each}
 use Rattle.rv_syntax.specs.ProgramText.{IsName, IsNames, IsKind, IsEnumeration, IsTypeBody, IsType, IsTypes, IsRight, IsConstant, IsConstants, IsGroup, IsDecls}
 use Rattle.rv_syntax.specs.ProgramText.{IsClock, IsLocal, IsVar, IsLefts, IsItem, IsInputs, IsOutputs, IsBody, IsNode, IsSection, IsProgram}
-use Rattle.rv_syntax.specs.Faults.{IsDead, kind_is, is_name, is_when, is_open, is_close, is_not, is_node, headed, still_headed, nothing_before, one_later}
-use Rattle.rv_syntax.specs.Faults.{looked_back, kind_left_out, negates_clock, calls_clock, has_no_inputs, clocks_port, is_left_out}
+use Rattle.rv_syntax.specs.Faults.{IsDead, kind_is, is_name, is_when, is_open, is_close, is_not, is_node, still_headed, nothing_before, one_later, looked_back}
+use Rattle.rv_syntax.specs.Faults.{kind_left_out, negates_clock, calls_clock, has_no_inputs, clocks_port, is_left_out}
 use Rattle.rv_syntax.specs.{declared.token.Mark.Mark, declared.token.Kind.Kind, declared.token.Token.Token, declared.operator.Prefix.Prefix, Nesting.IsExprOf}
 use Rattle.rv_syntax.specs.declared.token.Mark.TheVariants as mark
 use Rattle.rv_syntax.specs.declared.token.Kind.TheVariants as kind
@@ -114,9 +114,7 @@ eased t ts h = record {
 
 eases-leaf : (l : Leaf) (at : ℕ) → Eases (leaf_token l at)
 eases-leaf Yes at = (refl, refl, refl)
-eases-leaf No at = (refl, refl, refl)
-eases-leaf (Count n) at = (refl, refl, refl)
-eases-leaf (Called x) at = (refl, refl, refl)
+eases-leaf _ at = (refl, refl, refl)
 
 eases-callee : (f : Callee) → Eases (callee_token f)
 eases-callee (Function x) = (refl, refl, refl)
@@ -124,47 +122,15 @@ eases-callee (Hash at) = (refl, refl, refl)
 
 eases-prefix : (p : Prefix) (at : ℕ) → Eases (fixed (prefix_mark p) at)
 eases-prefix prefixed.Not at = (refl, refl, refl)
-eases-prefix prefixed.Minus at = (refl, refl, refl)
-eases-prefix prefixed.Pre at = (refl, refl, refl)
-eases-prefix prefixed.Current at = (refl, refl, refl)
+eases-prefix _ at = (refl, refl, refl)
 
 eases-op : (o : Op) (at : ℕ) → Eases (fixed (op_mark o) at)
 eases-op op.Arrow at = (refl, refl, refl)
-eases-op op.Implies at = (refl, refl, refl)
-eases-op op.Or at = (refl, refl, refl)
-eases-op op.Xor at = (refl, refl, refl)
-eases-op op.And at = (refl, refl, refl)
-eases-op op.Equal at = (refl, refl, refl)
-eases-op op.Differs at = (refl, refl, refl)
-eases-op op.Less at = (refl, refl, refl)
-eases-op op.AtMost at = (refl, refl, refl)
-eases-op op.Greater at = (refl, refl, refl)
-eases-op op.AtLeast at = (refl, refl, refl)
-eases-op op.Plus at = (refl, refl, refl)
-eases-op op.Minus at = (refl, refl, refl)
-eases-op op.Times at = (refl, refl, refl)
-eases-op op.Slash at = (refl, refl, refl)
-eases-op op.Div at = (refl, refl, refl)
-eases-op op.Mod at = (refl, refl, refl)
+eases-op _ at = (refl, refl, refl)
 
 op-unopened : (o : Op) (at : ℕ) (ts : List Token) → Unopened (fixed (op_mark o) at ∷ ts)
 op-unopened op.Arrow at ts = refl
-op-unopened op.Implies at ts = refl
-op-unopened op.Or at ts = refl
-op-unopened op.Xor at ts = refl
-op-unopened op.And at ts = refl
-op-unopened op.Equal at ts = refl
-op-unopened op.Differs at ts = refl
-op-unopened op.Less at ts = refl
-op-unopened op.AtMost at ts = refl
-op-unopened op.Greater at ts = refl
-op-unopened op.AtLeast at ts = refl
-op-unopened op.Plus at ts = refl
-op-unopened op.Minus at ts = refl
-op-unopened op.Times at ts = refl
-op-unopened op.Slash at ts = refl
-op-unopened op.Div at ts = refl
-op-unopened op.Mod at ts = refl
+op-unopened _ at ts = refl
 
 -- ---- Expressions, before tokens that begin with no `(`.
 abbrev Ready : List Token → Type 0
@@ -228,7 +194,7 @@ is_quiet mark.Var = false
 is_quiet mark.Let = false
 is_quiet _ = true
 
-module _ (P : List Token → Type 0) (c : Closed P) where
+module _ {P : List Token → Type 0} (c : Closed P) where
   gives : {B : Type 0} (b : B) → All P (Gives b)
   gives b a w h = subst P (sym h.0) c.none
 
@@ -298,12 +264,6 @@ calm-heads : (ts us : List Token) → Calm ts → Heads us → Heads (ts ++ us)
 calm-heads [] us h k = k
 calm-heads (t ∷ ts) us h k = inr (h.0, calm-heads ts us h.1 k)
 
-calm-inputs : All Calm IsInputs
-calm-inputs = inputs Calm calm calm-name calm-quiet
-
-calm-outputs : All Calm IsOutputs
-calm-outputs = outputs Calm calm calm-name calm-quiet
-
 var-heads : (r : List Token) → Heads r → (ds : List (List Decl)) (w : List Token) → Each IsVar ds w → Heads (w ++ r)
 var-heads r k [] w h = subst (λ z. Heads (z ++ r)) (sym h) k
 var-heads r k (d ∷ ds) w h =
@@ -328,53 +288,29 @@ eases-quiet _ e at = (refl, refl, refl)
 placed-quiet : (m : Mark) → is_quiet m ≡ true → (at : ℕ) → Placed (fixed m at ∷ [])
 placed-quiet m e at = one-placed (fixed m at) (eases-quiet m e at)
 
-ends : {B : Type 0} (b : B) → All Placed (Gives b)
-ends b = gives Placed placed b
-
-joins : {A B : Type 0} {K : A → List Token → Type 0} {M : A → B → List Token → Type 0} → All Placed K → ((a : A) → All Placed (M a)) → All Placed (Part K M)
-joins f g = part Placed placed f g
-
 says : {B : Type 0} {L : B → List Token → Type 0} (m : Mark) → is_quiet m ≡ true → All Placed L → All Placed (Word m L)
-says m e f = word Placed placed m (placed-quiet m e) f
-
-repeats : {A : Type 0} {K : A → List Token → Type 0} → All Placed K → All Placed (Each K)
-repeats f = each Placed placed f
-
-may : {A : Type 0} {K : A → List Token → Type 0} → All Placed K → All Placed (Maybe K)
-may f = maybe Placed placed f
-
-placed-semi : All Placed (Only mark.Semi)
-placed-semi = only Placed placed mark.Semi (placed-quiet mark.Semi refl)
-
-placed-dot : All Placed (Only mark.Dot)
-placed-dot = only Placed placed mark.Dot (placed-quiet mark.Dot refl)
+says m e f = word placed m (placed-quiet m e) f
 
 placed-names : All Placed IsNames
-placed-names = names Placed placed placed-name placed-quiet
+placed-names = names placed placed-name placed-quiet
 
 placed-kind : All Placed IsKind
-placed-kind = kinds Placed placed placed-name placed-quiet
+placed-kind = kinds placed placed-name placed-quiet
 
 placed-group : All Placed IsGroup
-placed-group = group Placed placed placed-name placed-quiet
-
-placed-inputs : All Placed IsInputs
-placed-inputs = inputs Placed placed placed-name placed-quiet
-
-placed-outputs : All Placed IsOutputs
-placed-outputs = outputs Placed placed placed-name placed-quiet
+placed-group = group placed placed-name placed-quiet
 
 placed-enumeration : All Placed IsEnumeration
-placed-enumeration = says mark.Enum refl (says mark.OpenBrace refl (joins placed-names (λ xs. says mark.CloseBrace refl (ends _))))
+placed-enumeration = says mark.Enum refl (says mark.OpenBrace refl (part placed placed-names (λ xs. says mark.CloseBrace refl (gives placed _))))
 
 placed-type_body : All Placed IsTypeBody
-placed-type_body = either Placed placed placed-enumeration (joins placed-kind (λ k. ends _))
+placed-type_body = either placed placed-enumeration (part placed placed-kind (λ k. gives placed _))
 
 placed-type : All Placed IsType
-placed-type = joins placed-name (λ x. says mark.Equal refl (joins placed-type_body (λ b. says mark.Semi refl (ends _))))
+placed-type = part placed placed-name (λ x. says mark.Equal refl (part placed placed-type_body (λ b. says mark.Semi refl (gives placed _))))
 
 placed-types : All Placed IsTypes
-placed-types = says mark.Type refl (joins placed-type (λ d. joins (repeats placed-type) (λ more. ends _)))
+placed-types = says mark.Type refl (part placed placed-type (λ d. part placed (each placed placed-type) (λ more. gives placed _)))
 
 -- a part that may end in `when` and a name, before what begins with no `(`
 abbrev AllReady : {A : Type 0} → (A → List Token → Type 0) → Type 0
@@ -400,37 +336,40 @@ ready-maybe_clock Nothing w h us p n = subst (λ z. Placed (z ++ us)) (sym h) p
 ready-maybe_clock (Some x) w h us p n = ready-clock x w h us p n
 
 placed-right : All Placed IsRight
-placed-right = says mark.Equal refl (before ready-expr (λ e. says mark.Semi refl (ends _)) (λ e. semi-first _))
+placed-right = says mark.Equal refl (before ready-expr (λ e. says mark.Semi refl (gives placed _)) (λ e. semi-first _))
 
 placed-constant : All Placed IsConstant
-placed-constant = joins placed-name (λ x. joins (may (says mark.Colon refl placed-kind)) (λ k. joins placed-right (λ e. ends _)))
+placed-constant = part placed placed-name (λ x. part placed (maybe placed (says mark.Colon refl placed-kind)) (λ k.
+    part placed placed-right (λ e. gives placed _)))
 
 placed-constants : All Placed IsConstants
-placed-constants = says mark.Const refl (joins placed-constant (λ c. joins (repeats placed-constant) (λ more. ends _)))
+placed-constants = says mark.Const refl (part placed placed-constant (λ c. part placed (each placed placed-constant) (λ more. gives placed _)))
 
 placed-local : All Placed IsLocal
-placed-local = either Placed placed
-    (joins placed-group (λ g. before ready-maybe_clock (λ c. says mark.Semi refl (ends _)) (λ c. semi-first _)))
-    (says mark.Open refl (joins placed-group (λ g. says mark.Close refl (before ready-clock (λ c. says mark.Semi refl (ends _)) (λ c. semi-first _)))))
+placed-local = either placed
+    (part placed placed-group (λ g. before ready-maybe_clock (λ c. says mark.Semi refl (gives placed _)) (λ c. semi-first _)))
+    (says mark.Open refl (part placed placed-group (λ g. says mark.Close refl
+    (before ready-clock (λ c. says mark.Semi refl (gives placed _)) (λ c. semi-first _)))))
 
 placed-var : All Placed IsVar
-placed-var = word Placed placed mark.Var (λ at. one-placed (fixed mark.Var at) (refl, refl, refl))
-    (joins placed-local (λ ds. joins (repeats placed-local) (λ more. ends _)))
+placed-var = word placed mark.Var (λ at. one-placed (fixed mark.Var at) (refl, refl, refl))
+    (part placed placed-local (λ ds. part placed (each placed placed-local) (λ more. gives placed _)))
 
 placed-lefts : All Placed IsLefts
-placed-lefts = either Placed placed placed-names (says mark.Open refl (joins placed-names (λ xs. says mark.Close refl (ends _))))
+placed-lefts = either placed placed-names (says mark.Open refl (part placed placed-names (λ xs. says mark.Close refl (gives placed _))))
 
 placed-assert : All Placed (Marked mark.Assert)
 placed-assert at w h = subst Placed (sym h) (placed-quiet mark.Assert refl at)
 
 placed-item : All Placed IsItem
-placed-item = either Placed placed
-    (joins placed-lefts (λ xs. joins placed-right (λ e. ends _)))
-    (joins placed-assert (λ at. before ready-expr (λ e. says mark.Semi refl (ends _)) (λ e. semi-first _)))
+placed-item = either placed
+    (part placed placed-lefts (λ xs. part placed placed-right (λ e. gives placed _)))
+    (part placed placed-assert (λ at. before ready-expr (λ e. says mark.Semi refl (gives placed _)) (λ e. semi-first _)))
 
 placed-body : All Placed IsBody
-placed-body = word Placed placed mark.Let (λ at. one-placed (fixed mark.Let at) (refl, refl, refl))
-    (joins (repeats placed-item) (λ is. says mark.Tel refl (joins (may (either Placed placed placed-semi placed-dot)) (λ end. ends _))))
+placed-body = word placed mark.Let (λ at. one-placed (fixed mark.Let at) (refl, refl, refl))
+    (part placed (each placed placed-item) (λ is. says mark.Tel refl (part placed (maybe placed (either placed
+    (only placed mark.Semi (placed-quiet mark.Semi refl)) (only placed mark.Dot (placed-quiet mark.Dot refl)))) (λ end. gives placed _))))
 
 -- ---- A node.
 first-part : {A B : Type 0} {K : A → List Token → Type 0} (M : A → B → List Token → Type 0) → All Unclosed K → All Unclosed (Part K M)
@@ -439,14 +378,8 @@ first-part M f b w h = subst Unclosed (sym h.3) (unclosed-more h.1 h.2 (f h.0 h.
 first-name : All Unclosed IsName
 first-name x w h = subst Unclosed (sym h) refl
 
-first-names : All Unclosed IsNames
-first-names = first-part _ first-name
-
-first-group : All Unclosed IsGroup
-first-group = first-part _ first-names
-
 first-decls : All Unclosed IsDecls
-first-decls = first-part _ first-group
+first-decls = first-part _ (first-part _ (first-part _ first-name))
 
 after-name : All AfterName IsInputs
 after-name ds w h = subst AfterName (sym h.2) (subst Unclosed (sym h.3.3) (unclosed-more h.3.1 h.3.2 (first-decls h.3.0 h.3.1 h.3.4)))
@@ -461,21 +394,21 @@ placed-node n w h =
     let let_heads : Heads body.1 = subst Heads (sym body.4.2) (inl refl) in
     let body_heads : Heads vars.2 = subst Heads (sym body.3) (heads-more body.1 body.2 let_heads) in
     let vars_heads : Heads outs.2 = subst Heads (sym vars.3) (var-heads vars.2 body_heads vars.0 vars.1 vars.4) in
-    let outs_heads : Heads ins.2 = subst Heads (sym outs.3) (calm-heads outs.1 outs.2 (calm-outputs outs.0 outs.1 outs.4) vars_heads) in
-    let ins_heads : Heads h.2 = subst Heads (sym ins.3) (calm-heads ins.1 ins.2 (calm-inputs ins.0 ins.1 ins.4) outs_heads) in
+    let outs_heads : Heads ins.2 = subst Heads (sym outs.3) (calm-heads outs.1 outs.2 (outputs calm calm-name calm-quiet outs.0 outs.1 outs.4) vars_heads) in
+    let ins_heads : Heads h.2 = subst Heads (sym ins.3) (calm-heads ins.1 ins.2 (inputs calm calm-name calm-quiet ins.0 ins.1 ins.4) outs_heads) in
     let after : AfterName h.2 = subst AfterName (sym ins.3) (name-more ins.1 ins.2 (after-name ins.0 ins.1 ins.4)) in
-    let rest : Placed h.2 = joins placed-inputs (λ is. joins placed-outputs (λ os. joins (repeats placed-var) (λ vs. joins placed-body (λ bs. ends _)))) n h.2
-    ins in
+    let rest : Placed h.2 = part placed (inputs placed placed-name placed-quiet) (λ is. part placed (outputs placed placed-name placed-quiet) (λ os.
+    part placed (each placed placed-var) (λ vs. part placed placed-body (λ bs. gives placed _)))) n h.2 ins in
     let first : Fits (fixed mark.Node h.4.0) (name_token h.0 ∷ h.2) = record
     { known = refl; clock = λ e. cc; inputs = λ e. after; header = λ e. inr (refl, ins_heads) } in
     subst Placed (sym (h.3 ∙ ap (λ z. z ++ h.2) title)) (first, (eased (name_token h.0) h.2 (refl, refl, refl), rest))
 
 placed-section : All Placed IsSection
-placed-section = either Placed placed (joins placed-types (λ ds. ends _))
-    (either Placed placed (joins placed-constants (λ cs. ends _)) (joins placed-node (λ n. ends _)))
+placed-section = either placed (part placed placed-types (λ ds. gives placed _))
+    (either placed (part placed placed-constants (λ cs. gives placed _)) (part placed placed-node (λ n. gives placed _)))
 
 placed-program : All Placed IsProgram
-placed-program = joins (repeats placed-section) (λ ss. ends _)
+placed-program = part placed (each placed placed-section) (λ ss. gives placed _)
 
 -- ---- So nothing is left out in its place.
 -- what the tokens read so far ask of those that follow
@@ -487,18 +420,11 @@ record Asks (b : fault.Before) (ts : List Token) : Type 0 where
   inputs : kind_is is_node b.third ≡ true → Unclosed ts
   header : b.in_header ≡ true → Heads ts
 
-headed-cases : (m : Mark) (h : Bool) → headed m h ≡ true → (is_node m ≡ true) ⊎ ((h ≡ true) × (ends_header m ≡ false))
-headed-cases mark.Node h e = inl refl
-headed-cases mark.Var h e = cc
-headed-cases mark.Let h e = cc
-headed-cases _ h e = inr (e, refl)
-
 header-cases : (k : Kind) (h : Bool) → still_headed k h ≡ true → (kind_is is_node k ≡ true) ⊎ ((h ≡ true) × (kind_is ends_header k ≡ false))
-header-cases (kind.Fixed m) h e = headed-cases m h e
-header-cases (kind.Name x) h e = inr (e, refl)
-header-cases (kind.Number n) h e = inr (e, refl)
-header-cases kind.LeftOut h e = inr (e, refl)
-header-cases kind.Bad h e = inr (e, refl)
+header-cases (kind.Fixed mark.Node) h e = inl refl
+header-cases (kind.Fixed mark.Var) h e = cc
+header-cases (kind.Fixed mark.Let) h e = cc
+header-cases _ h e = inr (e, refl)
 
 heads-rest : (t : Token) (ts : List Token) → kind_is ends_header t.kind ≡ false → Heads (t ∷ ts) → Heads ts
 heads-rest t ts e (inl h) = absurd (clash (kind_is ends_header t.kind) h e)
@@ -520,11 +446,9 @@ asks-later b t ts a f = record {
 }
 
 name-fits : (k : Kind) → is_name k ≡ true → (kind_is is_not k || kind_is is_open k) ≡ false
-name-fits (kind.Name x) e = refl
 name-fits (kind.Fixed m) e = cc
 name-fits (kind.Number n) e = cc
-name-fits kind.LeftOut e = refl
-name-fits kind.Bad e = refl
+name-fits _ e = refl
 
 both-false : (v o : Bool) → (v ≡ true → o ≡ false) → (v && o) ≡ false
 both-false true o f = f refl
@@ -544,17 +468,10 @@ fourth-false false n m o f = refl
 none-true : (a b c d e : Bool) → a ≡ false → b ≡ false → c ≡ false → d ≡ false → e ≡ false → (a || b || c || d || e) ≡ false
 none-true a b c d e p q r s t = cc
 
-end-is-no-when : (m : Mark) → ends_header m ≡ true → is_when m ≡ false
-end-is-no-when mark.Var e = refl
-end-is-no-when mark.Let e = refl
-end-is-no-when _ e = cc
-
 no-when-kind : (k : Kind) → kind_is ends_header k ≡ true → kind_is is_when k ≡ false
-no-when-kind (kind.Fixed m) e = end-is-no-when m e
-no-when-kind (kind.Name x) e = refl
-no-when-kind (kind.Number n) e = refl
-no-when-kind kind.LeftOut e = refl
-no-when-kind kind.Bad e = refl
+no-when-kind (kind.Fixed mark.Var) e = refl
+no-when-kind (kind.Fixed mark.Let) e = refl
+no-when-kind _ e = cc
 
 no-when : (t : Token) (ts : List Token) → Heads (t ∷ ts) → kind_is is_when t.kind ≡ false
 no-when t ts (inl e) = no-when-kind t.kind e

@@ -5,10 +5,9 @@ use Rattle.rv_tree.specs.{declared.tree.Decl.Decl, declared.tree.Name.Name, decl
 use Rattle.rv_tree.specs.{declared.tree.TypeBody.TheVariants.Labels, declared.tree.TypeDecl.TypeDecl, declared.tree.TypeName.TypeName, Groups.Group}
 use Rattle.rv_tree.specs.{Groups.flow, Groups.flows_of, Sites.with_sites, Tree.NodeTree, Tree.ProgramTree, Words.is_name, Words.HasPlainNames}
 use Rattle.rv_syntax.specs.declared.token.Mark.TheVariants as mark
-use Rattle.rv_syntax.specs.ProgramText.{IsBody, IsConstants, IsDecls, IsEnumeration, IsGroup, IsInputs, IsKind, IsName, IsNames, IsNode, IsOutputs, IsProgram}
-use Rattle.rv_syntax.specs.ProgramText.{IsSection, IsTextOf, IsTitle, IsType, IsTypeBody, IsTypes, IsVar, Section, Types, Constants, OneNode, all_flows}
-use Rattle.rv_syntax.specs.ProgramText.{node_of, nodes_of, program_of, type_of, types_of}
-use Rattle.rv_syntax.specs.{Lexing.tokens, Rules.Each, Rules.Gives, Rules.Maybe, Rules.OneOf, Rules.Only, Rules.Part, Rules.Word}
+use Rattle.rv_syntax.specs.ProgramText.{IsDecls, IsEnumeration, IsGroup, IsInputs, IsName, IsNames, IsNode, IsProgram, IsSection, IsTextOf, IsType, IsTypeBody}
+use Rattle.rv_syntax.specs.ProgramText.{IsTypes, Section, Types, Constants, OneNode, all_flows, nodes_of, types_of}
+use Rattle.rv_syntax.specs.{Lexing.tokens}
 use Rattle.rv_syntax.proofs.FineTokens.{AreFine, Keeps, Every, any, gives, after-word, parts, one-of, each, lex-fine, joined-every, every-of}
 use Rattle.rv_base.proofs.Lists.{from_map}
 
@@ -20,11 +19,7 @@ name : Keeps IsName IsPlainName
 name x ts h f = let g = subst AreFine h f in g.0
 
 names : Keeps IsNames (Every IsPlainName)
-names =
-    parts IsName (λ x. Part (Each (Word mark.Comma IsName)) (λ more. Gives (x ∷ more))) IsPlainName (Every IsPlainName) name
-    (λ x p. parts (Each (Word mark.Comma IsName)) (λ more. Gives (x ∷ more)) (Every IsPlainName) (Every IsPlainName)
-    (each (Word mark.Comma IsName) IsPlainName (after-word mark.Comma IsName IsPlainName name))
-    (λ more q. gives (x ∷ more) (Every IsPlainName) (p, q)))
+names = parts name (λ x p. parts (each (after-word mark.Comma name)) (λ more q. gives _ (p, q)))
 
 -- ---- Types.
 abbrev pub HasLabels : TypeBody → Type 0
@@ -35,30 +30,16 @@ abbrev pub IsPlainType : TypeDecl → Type 0
 IsPlainType d = HasLabels d.body
 
 enumeration : Keeps IsEnumeration HasLabels
-enumeration =
-    after-word mark.Enum (Word mark.OpenBrace (Part IsNames (λ xs. Word mark.CloseBrace (Gives (Labels xs))))) HasLabels
-    (after-word mark.OpenBrace (Part IsNames (λ xs. Word mark.CloseBrace (Gives (Labels xs)))) HasLabels
-    (parts IsNames (λ xs. Word mark.CloseBrace (Gives (Labels xs))) (Every IsPlainName) HasLabels names
-    (λ xs p. after-word mark.CloseBrace (Gives (Labels xs)) HasLabels (gives (Labels xs) HasLabels p))))
+enumeration = after-word mark.Enum (after-word mark.OpenBrace (parts names (λ xs p. after-word mark.CloseBrace (gives _ p))))
 
 type-body : Keeps IsTypeBody HasLabels
-type-body =
-    one-of IsEnumeration (Part IsKind (λ k. Gives (Alias k))) HasLabels enumeration
-    (parts IsKind (λ k. Gives (Alias k)) (λ k. ⊤) HasLabels (any IsKind) (λ k u. gives (Alias k) HasLabels tt))
+type-body = one-of enumeration (parts (any _) (λ k u. gives _ tt))
 
 one-type : Keeps IsType IsPlainType
-one-type =
-    parts IsName (λ x. Word mark.Equal (Part IsTypeBody (λ body. Word mark.Semi (Gives (type_of x body))))) (λ x. ⊤) IsPlainType (any IsName)
-    (λ x u. after-word mark.Equal (Part IsTypeBody (λ body. Word mark.Semi (Gives (type_of x body)))) IsPlainType
-    (parts IsTypeBody (λ body. Word mark.Semi (Gives (type_of x body))) HasLabels IsPlainType type-body
-    (λ body p. after-word mark.Semi (Gives (type_of x body)) IsPlainType (gives (type_of x body) IsPlainType p))))
+one-type = parts (any _) (λ x u. after-word mark.Equal (parts type-body (λ body p. after-word mark.Semi (gives _ p))))
 
 types : Keeps IsTypes (Every IsPlainType)
-types =
-    after-word mark.Type (Part IsType (λ d. Part (Each IsType) (λ more. Gives (d ∷ more)))) (Every IsPlainType)
-    (parts IsType (λ d. Part (Each IsType) (λ more. Gives (d ∷ more))) IsPlainType (Every IsPlainType) one-type
-    (λ d p. parts (Each IsType) (λ more. Gives (d ∷ more)) (Every IsPlainType) (Every IsPlainType) (each IsType IsPlainType one-type)
-    (λ more q. gives (d ∷ more) (Every IsPlainType) (p, q))))
+types = after-word mark.Type (parts one-type (λ d p. parts (each one-type) (λ more q. gives _ (p, q))))
 
 -- ---- Nodes.
 abbrev pub IsPlainDecl : Decl → Type 0
@@ -76,40 +57,20 @@ all-plain [] h = tt
 all-plain (g ∷ more) h = joined-every IsPlainDecl (flows_of g Nothing) (all_flows more) (flows-plain g.1 g.0 h.0) (all-plain more h.1)
 
 group : Keeps IsGroup IsPlainGroup
-group =
-    parts IsNames (λ xs. Word mark.Colon (Part IsKind (λ k. Gives (xs, k)))) (Every IsPlainName) IsPlainGroup names
-    (λ xs p. after-word mark.Colon (Part IsKind (λ k. Gives (xs, k))) IsPlainGroup
-    (parts IsKind (λ k. Gives (xs, k)) (λ k. ⊤) IsPlainGroup (any IsKind) (λ k u. gives (xs, k) IsPlainGroup p)))
+group = parts names (λ xs p. after-word mark.Colon (parts (any _) (λ k u. gives _ p)))
 
 decls : Keeps IsDecls (Every IsPlainDecl)
-decls =
-    parts IsGroup (λ g. Part (Each (Word mark.Semi IsGroup)) (λ more. Part (Maybe (Only mark.Semi)) (λ end. Gives (all_flows (g ∷ more))))) IsPlainGroup
-    (Every IsPlainDecl) group
-    (λ g p. parts (Each (Word mark.Semi IsGroup)) (λ more. Part (Maybe (Only mark.Semi)) (λ end. Gives (all_flows (g ∷ more)))) (Every IsPlainGroup)
-    (Every IsPlainDecl) (each (Word mark.Semi IsGroup) IsPlainGroup (after-word mark.Semi IsGroup IsPlainGroup group))
-    (λ more q. parts (Maybe (Only mark.Semi)) (λ end. Gives (all_flows (g ∷ more))) (λ end. ⊤) (Every IsPlainDecl) (any (Maybe (Only mark.Semi)))
-    (λ end u. gives (all_flows (g ∷ more)) (Every IsPlainDecl) (all-plain (g ∷ more) (p, q)))))
+decls = parts group (λ g p. parts (each (after-word mark.Semi group)) (λ more q. parts (any _) (λ end u. gives _ (all-plain (g ∷ more) (p, q)))))
 
 inputs : Keeps IsInputs (Every IsPlainDecl)
-inputs =
-    after-word mark.Open (Part IsDecls (λ ds. Word mark.Close (Gives ds))) (Every IsPlainDecl)
-    (parts IsDecls (λ ds. Word mark.Close (Gives ds)) (Every IsPlainDecl) (Every IsPlainDecl) decls
-    (λ ds p. after-word mark.Close (Gives ds) (Every IsPlainDecl) (gives ds (Every IsPlainDecl) p)))
+inputs = after-word mark.Open (parts decls (λ ds p. after-word mark.Close (gives _ p)))
 
 abbrev pub IsPlainNode : NodeTree → Type 0
 IsPlainNode n = IsPlainName n.name × Every IsPlainDecl n.inputs
 
 node : Keeps IsNode IsPlainNode
-node =
-    parts IsTitle (λ x. Part IsInputs (λ ins. Part IsOutputs (λ outs. Part (Each IsVar)
-    (λ vars. Part IsBody (λ items. Gives (node_of x ins outs vars items)))))) IsPlainName IsPlainNode (after-word mark.Node IsName IsPlainName name)
-    (λ x p. parts IsInputs (λ ins. Part IsOutputs (λ outs. Part (Each IsVar) (λ vars. Part IsBody (λ items. Gives (node_of x ins outs vars items)))))
-    (Every IsPlainDecl) IsPlainNode inputs
-    (λ ins q. parts IsOutputs (λ outs. Part (Each IsVar) (λ vars. Part IsBody (λ items. Gives (node_of x ins outs vars items)))) (λ outs. ⊤) IsPlainNode
-    (any IsOutputs)
-    (λ outs u. parts (Each IsVar) (λ vars. Part IsBody (λ items. Gives (node_of x ins outs vars items))) (λ vars. ⊤) IsPlainNode (any (Each IsVar))
-    (λ vars v. parts IsBody (λ items. Gives (node_of x ins outs vars items)) (λ items. ⊤) IsPlainNode (any IsBody)
-    (λ items w. gives (node_of x ins outs vars items) IsPlainNode (p, q))))))
+node = parts (after-word mark.Node name) (λ x p. parts inputs (λ ins q. parts (any _) (λ outs u. parts (any _) (λ vars v. parts (any _) (λ items w.
+    gives _ (p, q))))))
 
 -- ---- Programs.
 abbrev pub IsPlainSection : Section → Type 0
@@ -118,12 +79,7 @@ IsPlainSection (Constants cs) = ⊤
 IsPlainSection (OneNode n) = IsPlainNode n
 
 section : Keeps IsSection IsPlainSection
-section =
-    one-of (Part IsTypes (λ ds. Gives (Types ds))) (OneOf (Part IsConstants (λ cs. Gives (Constants cs))) (Part IsNode (λ n. Gives (OneNode n)))) IsPlainSection
-    (parts IsTypes (λ ds. Gives (Types ds)) (Every IsPlainType) IsPlainSection types (λ ds p. gives (Types ds) IsPlainSection p))
-    (one-of (Part IsConstants (λ cs. Gives (Constants cs))) (Part IsNode (λ n. Gives (OneNode n))) IsPlainSection
-    (parts IsConstants (λ cs. Gives (Constants cs)) (λ cs. ⊤) IsPlainSection (any IsConstants) (λ cs u. gives (Constants cs) IsPlainSection tt))
-    (parts IsNode (λ n. Gives (OneNode n)) IsPlainNode IsPlainSection node (λ n p. gives (OneNode n) IsPlainSection p)))
+section = one-of (parts types (λ ds p. gives _ p)) (one-of (parts (any _) (λ cs u. gives _ tt)) (parts node (λ n p. gives _ p)))
 
 abbrev pub IsPlainProgram : ProgramTree → Type 0
 IsPlainProgram p = Every IsPlainType p.types × Every IsPlainNode p.nodes
@@ -131,19 +87,15 @@ IsPlainProgram p = Every IsPlainType p.types × Every IsPlainNode p.nodes
 types-plain : (sections : List Section) → Every IsPlainSection sections → Every IsPlainType (types_of sections)
 types-plain [] h = tt
 types-plain (Types ds ∷ more) h = joined-every IsPlainType ds (types_of more) h.0 (types-plain more h.1)
-types-plain (Constants cs ∷ more) h = types-plain more h.1
-types-plain (OneNode n ∷ more) h = types-plain more h.1
+types-plain (_ ∷ more) h = types-plain more h.1
 
 nodes-plain : (sections : List Section) → Every IsPlainSection sections → Every IsPlainNode (nodes_of sections)
 nodes-plain [] h = tt
-nodes-plain (Types ds ∷ more) h = nodes-plain more h.1
-nodes-plain (Constants cs ∷ more) h = nodes-plain more h.1
 nodes-plain (OneNode n ∷ more) h = (h.0, nodes-plain more h.1)
+nodes-plain (_ ∷ more) h = nodes-plain more h.1
 
 program : Keeps IsProgram IsPlainProgram
-program =
-    parts (Each IsSection) (λ sections. Gives (program_of sections)) (Every IsPlainSection) IsPlainProgram (each IsSection IsPlainSection section)
-    (λ sections p. gives (program_of sections) IsPlainProgram (types-plain sections p, nodes-plain sections p))
+program = parts (each section) (λ sections p. gives _ (types-plain sections p, nodes-plain sections p))
 
 pub plain-text : (bytes : List ℕ) (t : ProgramTree) → IsTextOf bytes t → HasPlainNames t
 plain-text bytes t h =

@@ -2,7 +2,7 @@
 use Rattle.std.proofs.Common.{inl, inr, ◌≡◌, ◌≤◌, Bool, true, false, cond, List, [], ◌∷◌, ◌++◌, length, refl, sym, ap, ◌∙◌, subst, arith, length-append}
 use Rattle.std.proofs.lemmas.Bool.{leb-true, leb-false}
 use Rattle.std.specs.Prelude.{◌⊎◌, nat_le, Ok, Err, ◌<◌}
-use Rattle.rv_syntax.specs.Machine.{State, Move, To, Ends, Fails, step, finish, Reading, run}
+use Rattle.rv_syntax.specs.Machine.{State, Move, To, step, finish, Reading, run}
 use Rattle.rv_syntax.specs.{declared.token.Token.Token, declared.fault.Why.TheVariants.Offends, declared.fault.Why.TheVariants.TooDeep, Nesting.weight}
 use Rattle.rv_syntax.specs.{Nesting.limit, Limited.Counts, Limited.count, Limited.Limited, Limited.at_end, Limited.going, Limited.limited}
 use Rattle.rv_tree.specs.Tree.{Tree}
@@ -25,14 +25,12 @@ left (Err rest) = rest
 
 short-end : (m : Move) → length (left (free.at_end m)) ≤ 0
 short-end (To st) = omega arith
-short-end (Ends e) = omega arith
-short-end Fails = omega arith
+short-end _ = omega arith
 
 short-going : (m : Move) (t : Token) (ts : List Token) → ((st : State) → length (left (run st ts)) ≤ length ts)
     → length (left (free.going m (λ q. run q ts) (t ∷ ts))) ≤ length (t ∷ ts)
 short-going (To st) t ts again = let h = again st in omega arith
-short-going (Ends e) t ts again = omega arith
-short-going Fails t ts again = omega arith
+short-going _ t ts again = omega arith
 
 left-short : (ts : List Token) (st : State) → length (left (run st ts)) ≤ length ts
 unfolding run
@@ -49,14 +47,12 @@ Agrees c ts r (Err (TooDeep, rest)) =
 
 agrees-end : (c : Counts) (m : Move) → Agrees c [] (free.at_end m) (at_end m)
 agrees-end c (To st) = (refl, ([], refl, tt))
-agrees-end c (Ends t) = (refl, ([], refl, tt))
-agrees-end c Fails = (refl, ([], refl, tt))
+agrees-end c _ = (refl, ([], refl, tt))
 
 agrees-later : (c : Counts) (t : Token) (ts : List Token) (r : Reading) → (count (weight t) c).now ≤ limit → (l : Limited) → Agrees (count (weight t) c) ts r l
     → Agrees c (t ∷ ts) r l
-agrees-later c t ts r h (Ok x) a = (a.0, (t ∷ a.1.0, ap (λ l. t ∷ l) a.1.1, (h, a.1.2)))
-agrees-later c t ts r h (Err (Offends, rest)) a = (a.0, (t ∷ a.1.0, ap (λ l. t ∷ l) a.1.1, (h, a.1.2)))
 agrees-later c t ts r h (Err (TooDeep, rest)) a = (t ∷ a.0, a.1, a.2, a.3, ap (λ l. t ∷ l) a.4, (h, a.5), a.6)
+agrees-later c t ts r h _ a = (a.0, (t ∷ a.1.0, ap (λ l. t ∷ l) a.1.1, (h, a.1.2)))
 
 agrees-choice : (c : Counts) (t : Token) (ts : List Token) (r : Reading) (l : Limited) → length (left r) ≤ length ts → (b : Bool)
     → nat_le (count (weight t) c).now limit ≡ b → Agrees (count (weight t) c) ts r l → Agrees c (t ∷ ts) r (cond b l (Err (TooDeep, t ∷ ts)))
@@ -68,8 +64,7 @@ agrees-going : (c : Counts) (t : Token) (ts : List Token) → ((st : State) → 
     → Agrees c (t ∷ ts) (free.going m (λ q. run q ts) (t ∷ ts)) (going m (count (weight t) c) (λ q. limited (count (weight t) c) q ts) (t ∷ ts))
 agrees-going c t ts again (To st) = agrees-choice c t ts (run st ts) (limited (count (weight t) c) st ts) (left-short ts st)
     (nat_le (count (weight t) c).now limit) refl (again st)
-agrees-going c t ts again (Ends e) = (refl, ([], refl, tt))
-agrees-going c t ts again Fails = (refl, ([], refl, tt))
+agrees-going c t ts again _ = (refl, ([], refl, tt))
 
 pub agrees : (ts : List Token) (c : Counts) (st : State) → Agrees c ts (run st ts) (limited c st ts)
 unfolding run limited

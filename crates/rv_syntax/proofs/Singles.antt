@@ -1,10 +1,9 @@
 -- What takes one token within an expression reads it as a rule does.
 use Rattle.std.proofs.Common.{◌≡◌, ℕ, true, false, cond, List, [], ◌∷◌, length, refl, sym, ap, ◌∙◌}
 use Rattle.std.specs.Prelude.{Some, None, Result, Ok, Err, ⊤}
-use Rattle.rv_syntax.specs.Marks.{is_mark, is_name, has_mark, kind_named, kind_name, name_of}
-use Rattle.rv_syntax.specs.Reads.{Ahead, tail, same, Reads, TakesName, Passes}
-use Rattle.rv_syntax.specs.{declared.token.Mark.Mark, declared.token.Kind.Kind, declared.token.Token.Token, declared.fault.Stop.Stop}
-use Rattle.rv_syntax.specs.{declared.fault.Why.TheVariants.Offends, Parse.one_of, Parse.one, Parse.starts}
+use Rattle.rv_syntax.specs.{Marks.is_mark, Marks.is_name, Marks.has_mark, Marks.kind_named, Marks.kind_name, Marks.name_of, Reads.Ahead, Reads.tail, Reads.same}
+use Rattle.rv_syntax.specs.{Reads.Reads, Reads.TakesName, Reads.Passes, declared.token.Mark.Mark, declared.token.Kind.Kind, declared.token.Token.Token}
+use Rattle.rv_syntax.specs.{declared.fault.Stop.Stop, declared.fault.Why.TheVariants.Offends, Parse.one_of, Parse.one, Parse.starts}
 use Rattle.rv_syntax.specs.declared.token.Kind.TheVariants as kind
 use Rattle.rv_tree.specs.declared.tree.Name.{Name}
 use Rattle.rv_syntax.specs.declared.fault.Stop.TheVariants as stop
@@ -12,10 +11,7 @@ use Rattle.rv_syntax.specs.declared.fault.Stop.TheVariants as stop
 none-named : (k : Kind) (at : ℕ) (ts : List Token) → kind_named k ≡ false
     → one_of (kind_name k at) (record { kind = k; at = at }) ts ≡ Err (Offends, record { kind = k; at = at } ∷ ts)
 none-named (kind.Name x) at ts h = cc
-none-named (kind.Fixed m) at ts h = refl
-none-named (kind.Number n) at ts h = refl
-none-named kind.LeftOut at ts h = refl
-none-named kind.Bad at ts h = refl
+none-named _ at ts h = refl
 
 no-name : (ts : List Token) → starts is_name ts ≡ false → one name_of ts ≡ Err (Offends, ts)
 no-name [] h = refl
@@ -26,8 +22,7 @@ named old new (Ok x) p = ap (one name_of) p.0
 named old new (Err stop.Memory) p = tt
 named old new (Err (stop.Token why left)) p = (
   p.0 ∙ ap (λ a. length a.rest) (sym p.2),
-  no-name old.rest p.3 ∙ ap (λ a. Err (Offends, a.rest)) (sym p.2)
-      ∙ ap (λ w. Err (w, new.rest)) (sym p.1),
+  no-name old.rest p.3 ∙ ap (λ a. Err (Offends, a.rest)) (sym p.2) ∙ ap (λ w. Err (w, new.rest)) (sym p.1),
 )
 
 is-one : (m : Mark) (ts : List Token) → starts (is_mark m) ts ≡ true → one (has_mark m) ts ≡ Ok (tt, tail ts)
@@ -43,6 +38,5 @@ passed m old new (Ok u) p = is-one m old.rest p.0 ∙ ap (λ l. Ok (tt, l)) (sym
 passed m old new (Err stop.Memory) p = tt
 passed m old new (Err (stop.Token why left)) p = (
   p.0 ∙ ap (λ a. length a.rest) (sym p.2),
-  not-one m old.rest p.3 ∙ ap (λ a. Err (Offends, a.rest)) (sym p.2)
-      ∙ ap (λ w. Err (w, new.rest)) (sym p.1),
+  not-one m old.rest p.3 ∙ ap (λ a. Err (Offends, a.rest)) (sym p.2) ∙ ap (λ w. Err (w, new.rest)) (sym p.1),
 )

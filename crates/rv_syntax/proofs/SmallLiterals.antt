@@ -6,15 +6,12 @@ use Rattle.rv_base.specs.Limits.{too_heavy}
 use Rattle.rv_tree.specs.Sites.{sited, sited_node, sited_trees, sited_equation, sited_assertion, site_at, with_sites}
 use Rattle.rv_tree.specs.Tree.{Tree, Node, Form, Trees, trees, EquationTree, AssertionTree, ConstantTree, NodeTree, ProgramTree}
 use Rattle.rv_tree.specs.Tree as tree
-use Rattle.rv_syntax.specs.Grammar.{Leaf, Yes, No, Count, Called, Callee, Function, Hash, Written, Atom, InBrackets, Before, Between, Gated, If, Given, Front}
-use Rattle.rv_syntax.specs.Grammar.{NoneBefore, Then, fixed, leaf_token, op_mark, name_token, spelling, front_spelling, syntax_of, front_trees, Just, Applied}
-use Rattle.rv_syntax.specs.Grammar.{Invoked}
-use Rattle.rv_syntax.specs.Literals.{IsSmall, IsSmallForm, AreSmall, HasSmallLiterals}
-use Rattle.rv_syntax.specs.ProgramText.{IsBody, IsConstant, IsConstants, IsInputs, IsItem, IsKind, IsLefts, IsName, IsNode, IsOutputs, IsProgram, IsRight}
-use Rattle.rv_syntax.specs.ProgramText.{IsSection, IsTextOf, IsTitle, IsTypes, IsVar, Item, Equates, Assumes, Section, Types, Constants, OneNode, equation_of}
-use Rattle.rv_syntax.specs.ProgramText.{equations_of, assertion_of, assertions_of, constant_of, constants_of, node_of, nodes_of, program_of}
-use Rattle.rv_syntax.specs.Rules.{Each, Gives, Marked, Maybe, OneOf, Only, Part, Word}
-use Rattle.rv_syntax.specs.{declared.operator.Prefix.Prefix, Lexing.tokens, Nesting.IsExprOf}
+use Rattle.rv_syntax.specs.Grammar.{Leaf, Count, Callee, Function, Hash, Written, Atom, InBrackets, Before, Between, Gated, If, Given, Front, NoneBefore, Then}
+use Rattle.rv_syntax.specs.Grammar.{fixed, leaf_token, op_mark, name_token, spelling, front_spelling, syntax_of, front_trees, Just, Applied, Invoked}
+use Rattle.rv_syntax.specs.ProgramText.{IsBody, IsConstant, IsConstants, IsItem, IsNode, IsProgram, IsRight, IsSection, IsTextOf, Item, Equates, Assumes}
+use Rattle.rv_syntax.specs.ProgramText.{Section, Types, Constants, OneNode, equations_of, assertions_of, constants_of, nodes_of}
+use Rattle.rv_syntax.specs.{Literals.IsSmall, Literals.IsSmallForm, Literals.AreSmall, Literals.HasSmallLiterals, declared.operator.Prefix.Prefix}
+use Rattle.rv_syntax.specs.{Lexing.tokens, Nesting.IsExprOf}
 use Rattle.rv_syntax.specs.declared.operator.Prefix.TheVariants as prefixed
 use Rattle.rv_syntax.specs.declared.token.Mark.TheVariants as mark
 use Rattle.rv_syntax.proofs.FineTokens.{AreFine, fine-left, fine-right, Keeps, Every, any, gives, after-word, parts, one-of, each, lex-fine, joined-every}
@@ -26,16 +23,12 @@ number-small : (n : ℕ) → nat_le n too_heavy ≡ true → n ≤ too_heavy
 number-small n h = grind (arith, nat_tests)
 
 leaf-small : (l : Leaf) (at : ℕ) → AreFine (leaf_token l at ∷ []) → IsSmall (Just l at)
-leaf-small Yes at f = tt
-leaf-small No at f = tt
 leaf-small (Count n) at f = number-small n f.0
-leaf-small (Called x) at f = tt
+leaf-small _ at f = tt
 
 applied-small : (p : Prefix) (at : ℕ) (t : Tree) → IsSmall t → IsSmall (Applied p at t)
 applied-small prefixed.Not at t h = h
-applied-small prefixed.Minus at t h = h
-applied-small prefixed.Pre at t h = h
-applied-small prefixed.Current at t h = h
+applied-small _ at t h = h
 
 trees-small : (ts : List Tree) → Every IsSmall ts → AreSmall (trees ts)
 trees-small [] h = tt
@@ -80,27 +73,17 @@ expression : Keeps IsExprOf IsSmall
 expression t ts h f = subst IsSmall h.3 (written-small h.0 (subst AreFine (sym h.2) f))
 
 right : Keeps IsRight IsSmall
-right =
-    after-word mark.Equal (Part IsExprOf (λ e. Word mark.Semi (Gives e))) IsSmall
-    (parts IsExprOf (λ e. Word mark.Semi (Gives e)) IsSmall IsSmall expression (λ e p. after-word mark.Semi (Gives e) IsSmall (gives e IsSmall p)))
+right = after-word mark.Equal (parts expression (λ e p. after-word mark.Semi (gives _ p)))
 
 -- ---- Constants.
 abbrev pub IsSmallConstant : ConstantTree → Type 0
 IsSmallConstant c = IsSmall c.body
 
 constant : Keeps IsConstant IsSmallConstant
-constant =
-    parts IsName (λ x. Part (Maybe (Word mark.Colon IsKind)) (λ k. Part IsRight (λ e. Gives (constant_of x k e)))) (λ x. ⊤) IsSmallConstant (any IsName)
-    (λ x u. parts (Maybe (Word mark.Colon IsKind)) (λ k. Part IsRight (λ e. Gives (constant_of x k e))) (λ k. ⊤) IsSmallConstant
-    (any (Maybe (Word mark.Colon IsKind)))
-    (λ k v. parts IsRight (λ e. Gives (constant_of x k e)) IsSmall IsSmallConstant right (λ e p. gives (constant_of x k e) IsSmallConstant p)))
+constant = parts (any _) (λ x u. parts (any _) (λ k v. parts right (λ e p. gives _ p)))
 
 constants : Keeps IsConstants (Every IsSmallConstant)
-constants =
-    after-word mark.Const (Part IsConstant (λ c. Part (Each IsConstant) (λ more. Gives (c ∷ more)))) (Every IsSmallConstant)
-    (parts IsConstant (λ c. Part (Each IsConstant) (λ more. Gives (c ∷ more))) IsSmallConstant (Every IsSmallConstant) constant
-    (λ c p. parts (Each IsConstant) (λ more. Gives (c ∷ more)) (Every IsSmallConstant) (Every IsSmallConstant) (each IsConstant IsSmallConstant constant)
-    (λ more q. gives (c ∷ more) (Every IsSmallConstant) (p, q))))
+constants = after-word mark.Const (parts constant (λ c p. parts (each constant) (λ more q. gives _ (p, q))))
 
 -- ---- Nodes.
 abbrev pub IsSmallEquation : EquationTree → Type 0
@@ -114,26 +97,10 @@ IsSmallItem (Equates q) = IsSmallEquation q
 IsSmallItem (Assumes a) = IsSmallAssertion a
 
 item : Keeps IsItem IsSmallItem
-item =
-    one-of (Part IsLefts (λ xs. Part IsRight (λ e. Gives (Equates (equation_of xs e)))))
-    (Part (Marked mark.Assert) (λ at. Part IsExprOf (λ e. Word mark.Semi (Gives (Assumes (assertion_of at e)))))) IsSmallItem
-    (parts IsLefts (λ xs. Part IsRight (λ e. Gives (Equates (equation_of xs e)))) (λ xs. ⊤) IsSmallItem (any IsLefts)
-    (λ xs u. parts IsRight (λ e. Gives (Equates (equation_of xs e))) IsSmall IsSmallItem right (λ e p. gives (Equates (equation_of xs e)) IsSmallItem p)))
-    (parts (Marked mark.Assert) (λ at. Part IsExprOf (λ e. Word mark.Semi (Gives (Assumes (assertion_of at e))))) (λ at. ⊤) IsSmallItem
-    (any (Marked mark.Assert))
-    (λ at u. parts IsExprOf (λ e. Word mark.Semi (Gives (Assumes (assertion_of at e)))) IsSmall IsSmallItem expression
-    (λ e p. after-word mark.Semi (Gives (Assumes (assertion_of at e))) IsSmallItem (gives (Assumes (assertion_of at e)) IsSmallItem p))))
+item = one-of (parts (any _) (λ xs u. parts right (λ e p. gives _ p))) (parts (any _) (λ at u. parts expression (λ e p. after-word mark.Semi (gives _ p))))
 
 body : Keeps IsBody (Every IsSmallItem)
-body =
-    after-word mark.Let (Part (Each IsItem) (λ items. Word mark.Tel (Part (Maybe (OneOf (Only mark.Semi) (Only mark.Dot))) (λ end. Gives items))))
-    (Every IsSmallItem)
-    (parts (Each IsItem) (λ items. Word mark.Tel (Part (Maybe (OneOf (Only mark.Semi) (Only mark.Dot))) (λ end. Gives items))) (Every IsSmallItem)
-    (Every IsSmallItem) (each IsItem IsSmallItem item)
-    (λ items p. after-word mark.Tel (Part (Maybe (OneOf (Only mark.Semi) (Only mark.Dot))) (λ end. Gives items)) (Every IsSmallItem)
-    (parts (Maybe (OneOf (Only mark.Semi) (Only mark.Dot))) (λ end. Gives items) (λ end. ⊤) (Every IsSmallItem)
-    (any (Maybe (OneOf (Only mark.Semi) (Only mark.Dot))))
-    (λ end u. gives items (Every IsSmallItem) p))))
+body = after-word mark.Let (parts (each item) (λ items p. after-word mark.Tel (parts (any _) (λ end u. gives _ p))))
 
 equations-small : (items : List Item) → Every IsSmallItem items → Every IsSmallEquation (equations_of items)
 equations-small [] h = tt
@@ -149,16 +116,8 @@ abbrev pub IsSmallNode : NodeTree → Type 0
 IsSmallNode n = Every IsSmallEquation n.equations × Every IsSmallAssertion n.assertions
 
 node : Keeps IsNode IsSmallNode
-node =
-    parts IsTitle (λ x. Part IsInputs (λ ins. Part IsOutputs (λ outs. Part (Each IsVar)
-    (λ vars. Part IsBody (λ items. Gives (node_of x ins outs vars items)))))) (λ x. ⊤) IsSmallNode (any IsTitle)
-    (λ x u. parts IsInputs (λ ins. Part IsOutputs (λ outs. Part (Each IsVar) (λ vars. Part IsBody (λ items. Gives (node_of x ins outs vars items)))))
-    (λ ins. ⊤) IsSmallNode (any IsInputs)
-    (λ ins v. parts IsOutputs (λ outs. Part (Each IsVar) (λ vars. Part IsBody (λ items. Gives (node_of x ins outs vars items)))) (λ outs. ⊤) IsSmallNode
-    (any IsOutputs)
-    (λ outs w. parts (Each IsVar) (λ vars. Part IsBody (λ items. Gives (node_of x ins outs vars items))) (λ vars. ⊤) IsSmallNode (any (Each IsVar))
-    (λ vars z. parts IsBody (λ items. Gives (node_of x ins outs vars items)) (Every IsSmallItem) IsSmallNode body
-    (λ items p. gives (node_of x ins outs vars items) IsSmallNode (equations-small items p, assertions-small items p))))))
+node = parts (any _) (λ x u. parts (any _) (λ ins v. parts (any _) (λ outs w. parts (any _) (λ vars z. parts body (λ items p.
+    gives _ (equations-small items p, assertions-small items p))))))
 
 -- ---- Programs.
 abbrev pub IsSmallSection : Section → Type 0
@@ -167,32 +126,23 @@ IsSmallSection (Constants cs) = Every IsSmallConstant cs
 IsSmallSection (OneNode n) = IsSmallNode n
 
 section : Keeps IsSection IsSmallSection
-section =
-    one-of (Part IsTypes (λ ds. Gives (Types ds))) (OneOf (Part IsConstants (λ cs. Gives (Constants cs))) (Part IsNode (λ n. Gives (OneNode n)))) IsSmallSection
-    (parts IsTypes (λ ds. Gives (Types ds)) (λ ds. ⊤) IsSmallSection (any IsTypes) (λ ds u. gives (Types ds) IsSmallSection tt))
-    (one-of (Part IsConstants (λ cs. Gives (Constants cs))) (Part IsNode (λ n. Gives (OneNode n))) IsSmallSection
-    (parts IsConstants (λ cs. Gives (Constants cs)) (Every IsSmallConstant) IsSmallSection constants (λ cs p. gives (Constants cs) IsSmallSection p))
-    (parts IsNode (λ n. Gives (OneNode n)) IsSmallNode IsSmallSection node (λ n p. gives (OneNode n) IsSmallSection p)))
+section = one-of (parts (any _) (λ ds u. gives _ tt)) (one-of (parts constants (λ cs p. gives _ p)) (parts node (λ n p. gives _ p)))
 
 abbrev pub IsSmallProgram : ProgramTree → Type 0
 IsSmallProgram p = Every IsSmallConstant p.constants × Every IsSmallNode p.nodes
 
 constants-small : (sections : List Section) → Every IsSmallSection sections → Every IsSmallConstant (constants_of sections)
 constants-small [] h = tt
-constants-small (Types ds ∷ more) h = constants-small more h.1
 constants-small (Constants cs ∷ more) h = joined-every IsSmallConstant cs (constants_of more) h.0 (constants-small more h.1)
-constants-small (OneNode n ∷ more) h = constants-small more h.1
+constants-small (_ ∷ more) h = constants-small more h.1
 
 nodes-small : (sections : List Section) → Every IsSmallSection sections → Every IsSmallNode (nodes_of sections)
 nodes-small [] h = tt
-nodes-small (Types ds ∷ more) h = nodes-small more h.1
-nodes-small (Constants cs ∷ more) h = nodes-small more h.1
 nodes-small (OneNode n ∷ more) h = (h.0, nodes-small more h.1)
+nodes-small (_ ∷ more) h = nodes-small more h.1
 
 program : Keeps IsProgram IsSmallProgram
-program =
-    parts (Each IsSection) (λ sections. Gives (program_of sections)) (Every IsSmallSection) IsSmallProgram (each IsSection IsSmallSection section)
-    (λ sections p. gives (program_of sections) IsSmallProgram (constants-small sections p, nodes-small sections p))
+program = parts (each section) (λ sections p. gives _ (constants-small sections p, nodes-small sections p))
 
 -- ---- Sites change no literal.
 module _ (f : ℕ → ℕ) where
@@ -201,10 +151,7 @@ module _ (f : ℕ → ℕ) where
     sited-small (Node at site form) h = sited-form at form h
 
     sited-form : (at : ℕ) (form : Form) → IsSmallForm form → IsSmall (sited_node f at form)
-    sited-form at tree.True h = tt
-    sited-form at tree.False h = tt
     sited-form at (tree.Number v) h = h
-    sited-form at (tree.Named x) h = tt
     sited-form at (tree.Not e) h = sited-small e h
     sited-form at (tree.Minus e) h = sited-small e h
     sited-form at (tree.Pre e) h = sited-small e h
@@ -214,6 +161,7 @@ module _ (f : ℕ → ℕ) where
     sited-form at (tree.If a b c) h = (sited-small a h.0, sited-small b h.1, sited-small c h.2)
     sited-form at (tree.AtMostOne es) h = sited-all es h
     sited-form at (tree.Call g es) h = sited-all es h
+    sited-form at _ h = tt
 
     sited-all : (es : Trees) → AreSmall es → AreSmall (sited_trees f es)
     sited-all tree.None h = tt

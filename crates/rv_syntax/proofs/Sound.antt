@@ -10,9 +10,9 @@ use Rattle.rv_syntax.specs.Machine.{start_of, next_of, Frame, Brackets, Under, A
 use Rattle.rv_syntax.specs.Machine.{Hashed, Move, To, Ends, Fails, callee_of, accepts, taken, closed, answered, otherwise, argued, settle, begin, clocked}
 use Rattle.rv_syntax.specs.Machine.{opened, step, finish}
 use Rattle.rv_syntax.specs.Limited.{Counts, count, Limited, at_end, going, limited}
-use Rattle.rv_syntax.specs.{declared.token.Mark.Mark, declared.token.Kind.Kind, declared.token.Token.Token, declared.operator.Prefix.Prefix}
-use Rattle.rv_syntax.specs.{declared.parser.Start.Start, declared.parser.Next.Next, declared.fault.Why.TheVariants.Offends}
-use Rattle.rv_syntax.specs.{declared.fault.Why.TheVariants.TooDeep, Nesting.weight, Nesting.limit, Marks.kind_name}
+use Rattle.rv_syntax.specs.{declared.token.Kind.Kind, declared.token.Token.Token, declared.operator.Prefix.Prefix, declared.parser.Start.Start}
+use Rattle.rv_syntax.specs.{declared.parser.Next.Next, declared.fault.Why.TheVariants.Offends, declared.fault.Why.TheVariants.TooDeep, Nesting.weight}
+use Rattle.rv_syntax.specs.{Nesting.limit, Marks.kind_name}
 use Rattle.rv_syntax.specs.declared.token.Mark.TheVariants as mark
 use Rattle.rv_syntax.specs.declared.token.Kind.TheVariants as kind
 use Rattle.rv_tree.specs.declared.tree.Op.{Op}
@@ -64,32 +64,11 @@ AreFine (Args f o front ∷ h) = AreGrammatical front × AreFine h
 
 right-low : (o : Op) → right_level o ≤ 9
 right-low op.Arrow = omega arith
-right-low op.Implies = omega arith
-right-low op.Or = omega arith
-right-low op.Xor = omega arith
-right-low op.And = omega arith
-right-low op.Equal = omega arith
-right-low op.Differs = omega arith
-right-low op.Less = omega arith
-right-low op.AtMost = omega arith
-right-low op.Greater = omega arith
-right-low op.AtLeast = omega arith
-right-low op.Plus = omega arith
-right-low op.Minus = omega arith
-right-low op.Times = omega arith
-right-low op.Slash = omega arith
-right-low op.Div = omega arith
-right-low op.Mod = omega arith
+right-low _ = omega arith
 
 need-low : (h : List Item) → need (frames h) ≤ 9
-need-low [] = omega arith
-need-low (Open at ∷ h) = omega arith
-need-low (Over p at ∷ h) = omega arith
 need-low (Left o at w ∷ h) = right-low o
-need-low (Cond i ∷ h) = omega arith
-need-low (Chose i a t ∷ h) = omega arith
-need-low (Other i a t b e ∷ h) = omega arith
-need-low (Args f o front ∷ h) = omega arith
+need-low _ = omega arith
 
 -- The tokens begin an expression.
 pub record Begins (ts : List Token) : Type 0 where
@@ -99,19 +78,12 @@ pub record Begins (ts : List Token) : Type 0 where
   pub spelled : spelling whole ≡ ts ++ more
 
 shorten : (ts us after : List Token) → Begins us → us ≡ ts ++ after → Begins ts
-shorten ts us after b e = record {
-  more = after ++ b.more;
-  whole = b.whole;
-  fine = b.fine;
-  spelled = b.spelled ∙ ap (λ l. l ++ b.more) e
-      ∙ append_assoc ts after b.more;
-}
+shorten ts us after b e =
+    record { more = after ++ b.more; whole = b.whole; fine = b.fine; spelled = b.spelled ∙ ap (λ l. l ++ b.more) e ∙ append_assoc ts after b.more }
 
 atom-high : (l : Leaf) (h : List Item) → need (frames h) ≤ leaf_level l
 atom-high Yes h = omega (arith, need-low h)
-atom-high No h = omega (arith, need-low h)
-atom-high (Count n) h = omega (arith, need-low h)
-atom-high (Called x) h = omega (arith, need-low h)
+atom-high _ h = omega (arith, need-low h)
 
 -- An operand in its place begins an expression.
 begins-has : (h : List Item) (w : Written) → AreFine h → IsGrammatical w → need (frames h) ≤ level w → Begins (before h ++ spelling w)
@@ -179,24 +151,12 @@ Starts (start.Asks at) t = t ≡ fixed mark.If at
 Starts (start.Counts at) t = t ≡ fixed mark.Hash at
 Starts start.Other t = Unit {0}
 
-starts-mark : (m : Mark) (at : ℕ) → Starts (start_of (fixed m at)) (fixed m at)
-starts-mark mark.True at = (Yes, refl, refl)
-starts-mark mark.False at = (No, refl, refl)
-starts-mark mark.Not at = refl
-starts-mark mark.Minus at = refl
-starts-mark mark.Pre at = refl
-starts-mark mark.Current at = refl
-starts-mark mark.Open at = refl
-starts-mark mark.If at = refl
-starts-mark mark.Hash at = refl
-starts-mark _ at = tt
-
 starts-kind : (k : Kind) (at : ℕ) → Starts (start_of (record { kind = k; at = at })) (record { kind = k; at = at })
 starts-kind (kind.Name x) at = (Called x, refl, refl)
 starts-kind (kind.Number n) at = (Count n, refl, refl)
-starts-kind (kind.Fixed m) at = starts-mark m at
-starts-kind kind.LeftOut at = tt
-starts-kind kind.Bad at = tt
+starts-kind (kind.Fixed mark.True) at = (Yes, refl, refl)
+starts-kind (kind.Fixed mark.False) at = (No, refl, refl)
+starts-kind _ at = search
 
 -- the token after an operand
 abbrev Follows : Next → Token → Type 0
@@ -209,38 +169,9 @@ Follows next.Answers t = t ≡ fixed mark.Then t.at
 Follows next.Otherwise t = t ≡ fixed mark.Else t.at
 Follows next.Other t = Unit {0}
 
-follows-mark : (m : Mark) (at : ℕ) → Follows (next_of (fixed m at)) (fixed m at)
-follows-mark mark.Arrow at = refl
-follows-mark mark.Implies at = refl
-follows-mark mark.Or at = refl
-follows-mark mark.Xor at = refl
-follows-mark mark.And at = refl
-follows-mark mark.Equal at = refl
-follows-mark mark.Differs at = refl
-follows-mark mark.Less at = refl
-follows-mark mark.AtMost at = refl
-follows-mark mark.Greater at = refl
-follows-mark mark.AtLeast at = refl
-follows-mark mark.Plus at = refl
-follows-mark mark.Minus at = refl
-follows-mark mark.Times at = refl
-follows-mark mark.Slash at = refl
-follows-mark mark.Div at = refl
-follows-mark mark.Mod at = refl
-follows-mark mark.When at = refl
-follows-mark mark.Open at = refl
-follows-mark mark.Close at = refl
-follows-mark mark.Comma at = refl
-follows-mark mark.Then at = refl
-follows-mark mark.Else at = refl
-follows-mark _ at = tt
-
 follows-kind : (k : Kind) (at : ℕ) → Follows (next_of (record { kind = k; at = at })) (record { kind = k; at = at })
-follows-kind (kind.Fixed m) at = follows-mark m at
-follows-kind (kind.Name x) at = tt
-follows-kind (kind.Number n) at = tt
-follows-kind kind.LeftOut at = tt
-follows-kind kind.Bad at = tt
+follows-kind (kind.Fixed mark.Arrow) at = refl
+follows-kind _ at = search
 
 pick : {A : Type 0} (P : A → Type 0) (b : Bool) (x y : A) → (b ≡ true → P x) → (b ≡ false → P y) → P (cond b x y)
 pick P true x y f g = f refl
@@ -248,16 +179,9 @@ pick P false x y f g = g refl
 
 -- only a name is of level 11
 named : (w : Written) → level w ≡ 11 → spelling w ≡ callee_token (callee_of (syntax_of w)) ∷ []
-named (Atom Yes at) e = absurd (omega arith)
-named (Atom No at) e = absurd (omega arith)
-named (Atom (Count n) at) e = absurd (omega arith)
 named (Atom (Called x) at) e = refl
-named (InBrackets a w b) e = absurd (omega arith)
-named (Before p at w) e = absurd (omega arith)
 named (Between o at a b) e = absurd (omega (arith, below-eight o))
-named (Gated w at x) e = absurd (omega arith)
-named (If i a t b x c) e = absurd (omega arith)
-named (Given f a front w b) e = absurd (omega arith)
+named _ e = absurd (omega arith)
 
 leads-call : (at : ℕ) (w : Written) (h : List Item) → IsFine (Has w h) → level w ≡ 11
     → Leads (read (Has w h)) (fixed mark.Open at) (To (Want (Within (callee_of (syntax_of w)) [] ∷ frames h)))
@@ -289,11 +213,7 @@ leads-taken t (next.Gates at) e w h f a =
     )
 leads-taken t next.Opens e w h f a =
     subst (λ x. Leads (read (Has w h)) x (To (Want (Within (callee_of (syntax_of w)) [] ∷ frames h)))) (sym e) (leads-call t.at w h f (eqb-true (level w) 11 a))
-leads-taken t next.Closes e w h f a = tt
-leads-taken t next.Separates e w h f a = tt
-leads-taken t next.Answers e w h f a = tt
-leads-taken t next.Otherwise e w h f a = tt
-leads-taken t next.Other e w h f a = tt
+leads-taken t _ e w h f a = tt
 
 -- the token at the end of what was read
 one-more : (ts us : List Token) (x t : Token) → t ≡ x → ts ≡ us ++ x ∷ [] → ts ≡ us ++ t ∷ []
@@ -319,13 +239,8 @@ leads-argued : (t : Token) (r : Next) → Follows r t → (c : Callee) (o : ℕ)
     → IsGrammatical w
     → Leads (read (Has w (Args c o front ∷ h))) t (argued r c (front_trees front) (syntax_of w) (frames h))
 leads-argued t next.Separates e c o front w h f g = (Wants (Args c o (Then front w t.at) ∷ h), ((f.0, g), f.1), refl, one-more _ _ _ t e (simp append_assoc))
-leads-argued t next.Closes e c o front w h f g = (
-  Has (Given c o front w t.at) h,
-  (f.1, (f.0, g), omega (arith, need-low h)),
-  refl,
-  one-more _ _ _ t e
-      (simp append_assoc),
-)
+leads-argued t next.Closes e c o front w h f g =
+    (Has (Given c o front w t.at) h, (f.1, (f.0, g), omega (arith, need-low h)), refl, one-more _ _ _ t e (simp append_assoc))
 leads-argued t _ e c o front w h f g = tt
 
 leads-settle : (t : Token) (r : Next) → Follows r t → (h : List Item) (w : Written) → IsFine (Has w h)
@@ -369,10 +284,7 @@ leads-begin t start.Other e h f = tt
 leads-clocked : (k : Kind) (up at : ℕ) (w : Written) (h : List Item) → IsFine (Clocks at w h)
     → Leads (read (Clocks at w h)) (record { kind = k; at = up }) (clocked (kind_name k up) at (syntax_of w) (frames h))
 leads-clocked (kind.Name x) up at w h f = (Has (Gated w at (record { text = x; at = up })) h, (f.0, (f.3, f.4, f.1), f.2), refl, simp append_assoc)
-leads-clocked (kind.Fixed m) up at w h f = tt
-leads-clocked (kind.Number n) up at w h f = tt
-leads-clocked kind.LeftOut up at w h f = tt
-leads-clocked kind.Bad up at w h f = tt
+leads-clocked _ up at w h f = tt
 
 leads-opened : (t : Token) (r : Start) → Starts r t → (at : ℕ) (h : List Item) → AreFine h → Leads (read (Hashes at h)) t (opened r at (frames h))
 leads-opened t start.Opens e at h f = (Wants (Args (Hash at) t.at NoneBefore ∷ h), (tt, f), refl, one-more _ _ _ t e (simp append_assoc))
@@ -385,10 +297,8 @@ leads t (Clocks at w h) f = leads-clocked t.kind t.at at w h f
 leads t (Hashes at h) f = leads-opened t (start_of t) (starts-kind t.kind t.at) at h f
 
 leads-finish : (x : Place) → IsFine x → Leads (read x) (fixed mark.Semi 0) (finish (state_of x))
-leads-finish (Wants h) f = tt
 leads-finish (Has w h) f = leads-settle (fixed mark.Semi 0) next.Other tt h w f
-leads-finish (Clocks at w h) f = tt
-leads-finish (Hashes at h) f = tt
+leads-finish _ f = tt
 
 -- What reading comes to, after the tokens that were read. The token that is nested too deep goes on with an expression.
 abbrev pub Comes : List Token → List Token → Limited → Type 0
@@ -407,9 +317,8 @@ begins-here : (x : Place) → IsFine x → Begins (read x ++ [])
 begins-here x f = subst Begins (sym (append-nil (read x))) (begins x f)
 
 comes-end : (x : Place) → IsFine x → (m : Move) → Leads (read x) (fixed mark.Semi 0) m → Comes (read x) [] (at_end m)
-comes-end x f (To st) l = ([], refl, begins-here x f)
 comes-end x f (Ends e) l = (l.0, l.1, l.2, ap (λ ts. ts ++ []) (sym l.3))
-comes-end x f Fails l = ([], refl, begins-here x f)
+comes-end x f _ l = ([], refl, begins-here x f)
 
 comes-going : (x : Place) → IsFine x → (c : Counts) (t : Token) (ts : List Token) → ((y : Place) → IsFine y → Comes (read y) ts (limited c (state_of y) ts))
     → (m : Move) → Leads (read x) t m
@@ -430,8 +339,7 @@ comes (t ∷ ts) c x f = comes-going x f (count (weight t) c) t ts (comes ts (co
 -- One token decides: what is read up to a token does not depend on what follows that token.
 short-end : (m : Move) → length (left (at_end m)) ≤ 0
 short-end (To st) = omega arith
-short-end (Ends e) = omega arith
-short-end Fails = omega arith
+short-end _ = omega arith
 
 short-choice : (b : Bool) (t : Token) (ts : List Token) (r : Limited) → length (left r) ≤ length ts
     → length (left (cond b r (Err (TooDeep, t ∷ ts)))) ≤ length (t ∷ ts)
@@ -441,8 +349,7 @@ short-choice false t ts r h = omega arith
 short-going : (m : Move) (c : Counts) (t : Token) (ts : List Token) → ((st : State) → length (left (limited c st ts)) ≤ length ts)
     → length (left (going m c (λ next. limited c next ts) (t ∷ ts))) ≤ length (t ∷ ts)
 short-going (To st) c t ts again = short-choice (nat_le c.now limit) t ts (limited c st ts) (again st)
-short-going (Ends e) c t ts again = omega arith
-short-going Fails c t ts again = omega arith
+short-going _ c t ts again = omega arith
 
 pub left-short : (ts : List Token) (c : Counts) (st : State) → length (left (limited c st ts)) ≤ length ts
 unfolding limited
@@ -458,8 +365,7 @@ choice-here false t rest other r q le h = refl
 one-here : (m : Move) (c : Counts) (t : Token) (rest other : List Token) → left (going m c (λ next. limited c next rest) (t ∷ rest)) ≡ t ∷ rest
     → going m c (λ next. limited c next other) (t ∷ other) ≡ with_left (t ∷ other) (going m c (λ next. limited c next rest) (t ∷ rest))
 one-here (To st) c t rest other h = choice-here (nat_le c.now limit) t rest other (limited c st rest) (limited c st other) (left-short rest c st) h
-one-here (Ends e) c t rest other h = refl
-one-here Fails c t rest other h = refl
+one-here _ c t rest other h = refl
 
 too-long : (front : List Token) (x t : Token) (rest : List Token) → x ∷ (front ++ t ∷ rest) ≡ t ∷ rest → ⊥
 too-long front x t rest h = omega (arith, ap length h, length-append front (t ∷ rest))

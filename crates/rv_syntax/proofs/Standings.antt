@@ -2,8 +2,8 @@
 use Rattle.std.proofs.Common.{◌≡◌, ◌≤◌, ℕ, List, [], ◌∷◌, ◌++◌, refl, sym, ap, ◌∙◌, subst}
 use Rattle.std.specs.Prelude.{◌<◌}
 use Rattle.rv_syntax.specs.declared.token.Mark.TheVariants as mark
-use Rattle.rv_syntax.specs.Grammar.{Leaf, Yes, No, Count, Called, Callee, Function, Hash, Written, Atom, InBrackets, Before, Between, Gated, If, Given, Front}
-use Rattle.rv_syntax.specs.Grammar.{NoneBefore, Then, fixed, leaf_token, callee_token, prefix_mark, op_mark, spelling, front_spelling}
+use Rattle.rv_syntax.specs.Grammar.{Leaf, Yes, Callee, Function, Hash, Written, Atom, InBrackets, Before, Between, Gated, If, Given, Front, NoneBefore, Then}
+use Rattle.rv_syntax.specs.Grammar.{fixed, leaf_token, callee_token, prefix_mark, op_mark, spelling, front_spelling}
 use Rattle.rv_syntax.specs.Nesting.{Parts, past, limit, nesting, IsShallow, Inside, behind, behind_all, depth, IsShallowText}
 use Rattle.rv_syntax.specs.{declared.token.Token.Token, declared.operator.Prefix.Prefix}
 use Rattle.rv_tree.specs.declared.tree.Op.{Op}
@@ -29,9 +29,7 @@ stay-front (t ∷ ts) us h = (h.0, stay-front ts us h.1)
 
 stays-leaf : (l : Leaf) (at : ℕ) → Stays (leaf_token l at)
 stays-leaf Yes at ns = refl
-stays-leaf No at ns = refl
-stays-leaf (Count n) at ns = refl
-stays-leaf (Called x) at ns = refl
+stays-leaf _ at ns = refl
 
 stays-callee : (f : Callee) → Stays (callee_token f)
 stays-callee (Function x) ns = refl
@@ -39,28 +37,11 @@ stays-callee (Hash at) ns = refl
 
 stays-prefix : (p : Prefix) (at : ℕ) → Stays (fixed (prefix_mark p) at)
 stays-prefix prefixed.Not at ns = refl
-stays-prefix prefixed.Minus at ns = refl
-stays-prefix prefixed.Pre at ns = refl
-stays-prefix prefixed.Current at ns = refl
+stays-prefix _ at ns = refl
 
 stays-op : (o : Op) (at : ℕ) → Stays (fixed (op_mark o) at)
 stays-op op.Arrow at ns = refl
-stays-op op.Implies at ns = refl
-stays-op op.Or at ns = refl
-stays-op op.Xor at ns = refl
-stays-op op.And at ns = refl
-stays-op op.Equal at ns = refl
-stays-op op.Differs at ns = refl
-stays-op op.Less at ns = refl
-stays-op op.AtMost at ns = refl
-stays-op op.Greater at ns = refl
-stays-op op.AtLeast at ns = refl
-stays-op op.Plus at ns = refl
-stays-op op.Minus at ns = refl
-stays-op op.Times at ns = refl
-stays-op op.Slash at ns = refl
-stays-op op.Div at ns = refl
-stays-op op.Mod at ns = refl
+stays-op _ at ns = refl
 
 mutual
   pub stay-spelled : (w : Written) → Stay (spelling w)

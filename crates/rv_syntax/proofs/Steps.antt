@@ -2,17 +2,16 @@
 use Rattle.std.proofs.Common.{◌≡◌, ℕ, ◌+◌, ◌<◌, ◌≤◌, Bool, true, false, cond, List, [], ◌∷◌, ◌++◌, length, refl, sym, ap, ◌∙◌, subst, arith}
 use Rattle.std.proofs.lemmas.Bool.{le-leb, lt-leb, and_parts}
 use Rattle.std.specs.Prelude.{Some, None, Result, Ok, Err, IfOk, IfErr, nat_le}
-use Rattle.rv_syntax.specs.declared.fault.Why.TheVariants.{Offends, TooDeep}
 use Rattle.rv_syntax.specs.Grammar.{Yes, Called, Callee, Function, Hash, fixed, name_token, Just, Sampled, Invoked}
 use Rattle.rv_syntax.specs.Nesting.{Weight, Operator, Opening, Plain, mark_weight, weight, limit}
-use Rattle.rv_syntax.specs.Marks.{is_mark, is_name, kind_is, kind_name}
-use Rattle.rv_syntax.specs.Machine.{mark_start, start_of, mark_next, kind_next, next_of, leaf_tree, Frame, Brackets, Under, After, Asked, Answered, Else}
-use Rattle.rv_syntax.specs.Machine.{Within, need_of, need, Held, held, whole, leaf_held, State, Want, Have, Clock, Hashed, To, Ends, Fails, accepts, taken}
-use Rattle.rv_syntax.specs.Machine.{wrapped, closed, answered, otherwise, argued, awaited, onward, settle, begin, clocked, opened, step, starting, following}
+use Rattle.rv_syntax.specs.Machine.{start_of, mark_next, kind_next, next_of, leaf_tree, Frame, Brackets, After, Asked, Answered, Else, Within, need_of, need}
+use Rattle.rv_syntax.specs.Machine.{Held, held, whole, leaf_held, State, Want, Have, Clock, Hashed, To, Ends, Fails, accepts, taken, wrapped, closed, answered}
+use Rattle.rv_syntax.specs.Machine.{otherwise, argued, awaited, onward, settle, begin, clocked, opened, step, starting, following}
 use Rattle.rv_syntax.specs.Limited.{Counts, counts, count, at_end, going, limited, Limited, meets, left_to, leave}
 use Rattle.rv_syntax.specs.Reads.{Ahead, tail, Stops, Around, from, Wanting, Calling, argued_from, TakesLeaf, starts_call, link_next, linked, SeesLink, Enters}
 use Rattle.rv_syntax.specs.Reads.{TakesName, Passes, TakesMark, Part, Test, Yes, mark_behind, frame_of, next_frame, Choosing, held_of, ReadsAs}
-use Rattle.rv_syntax.specs.{declared.token.Mark.Mark, declared.token.Kind.Kind, declared.token.Token.Token, declared.parser.Start.Start}
+use Rattle.rv_syntax.specs.{declared.fault.Why.TheVariants.Offends, declared.fault.Why.TheVariants.TooDeep, Marks.is_mark, Marks.is_name, Marks.kind_is}
+use Rattle.rv_syntax.specs.{Marks.kind_name, declared.token.Mark.Mark, declared.token.Kind.Kind, declared.token.Token.Token, declared.parser.Start.Start}
 use Rattle.rv_syntax.specs.{declared.parser.Next.Next, declared.parser.Link.Link, declared.parser.Operand.Operand, declared.fault.Stop.Stop, Parse.starts}
 use Rattle.rv_syntax.specs.declared.token.Mark.TheVariants as mark
 use Rattle.rv_syntax.specs.declared.token.Kind.TheVariants as kind
@@ -28,30 +27,13 @@ use Rattle.rv_base.proofs.Truths.{clash}
 -- What a token is says what it is to the nesting.
 abbrev pub Weighs : Start → Weight → Type 0
 Weighs start.Operand w = w ≡ Plain
-Weighs (start.Before p at) w = w ≡ Operator
 Weighs start.Opens w = w ≡ Opening
-Weighs (start.Asks at) w = w ≡ Operator
-Weighs (start.Counts at) w = w ≡ Operator
 Weighs start.Other w = Unit {0}
-
-weighs-mark : (m : Mark) (at : ℕ) → Weighs (mark_start m at) (mark_weight m)
-weighs-mark mark.True at = refl
-weighs-mark mark.False at = refl
-weighs-mark mark.Not at = refl
-weighs-mark mark.Minus at = refl
-weighs-mark mark.Pre at = refl
-weighs-mark mark.Current at = refl
-weighs-mark mark.Open at = refl
-weighs-mark mark.If at = refl
-weighs-mark mark.Hash at = refl
-weighs-mark _ at = tt
+Weighs _ w = w ≡ Operator
 
 weighs-kind : (k : Kind) (at : ℕ) → Weighs (start_of (record { kind = k; at = at })) (weight (record { kind = k; at = at }))
-weighs-kind (kind.Name x) at = refl
-weighs-kind (kind.Number n) at = refl
-weighs-kind (kind.Fixed m) at = weighs-mark m at
-weighs-kind kind.LeftOut at = tt
-weighs-kind kind.Bad at = tt
+weighs-kind (kind.Fixed mark.True) at = refl
+weighs-kind _ at = search
 
 weighs-as : (t : Token) (r : Start) → start_of t ≡ r → Weighs r (weight t)
 weighs-as t r h = subst (λ q. Weighs q (weight t)) h (weighs-kind t.kind t.at)
@@ -62,33 +44,9 @@ Heavy (next.Between o at) w = w ≡ Operator
 Heavy (next.Gates at) w = w ≡ Operator
 Heavy _ w = Unit {0}
 
-heavy-mark : (m : Mark) (at : ℕ) → Heavy (mark_next m at) (mark_weight m)
-heavy-mark mark.Arrow at = refl
-heavy-mark mark.Implies at = refl
-heavy-mark mark.Or at = refl
-heavy-mark mark.Xor at = refl
-heavy-mark mark.And at = refl
-heavy-mark mark.Equal at = refl
-heavy-mark mark.Differs at = refl
-heavy-mark mark.Less at = refl
-heavy-mark mark.AtMost at = refl
-heavy-mark mark.Greater at = refl
-heavy-mark mark.AtLeast at = refl
-heavy-mark mark.Plus at = refl
-heavy-mark mark.Minus at = refl
-heavy-mark mark.Times at = refl
-heavy-mark mark.Slash at = refl
-heavy-mark mark.Div at = refl
-heavy-mark mark.Mod at = refl
-heavy-mark mark.When at = refl
-heavy-mark _ at = tt
-
 heavy-kind : (k : Kind) (at : ℕ) → Heavy (kind_next k at) (weight (record { kind = k; at = at }))
-heavy-kind (kind.Fixed m) at = heavy-mark m at
-heavy-kind (kind.Name x) at = tt
-heavy-kind (kind.Number n) at = tt
-heavy-kind kind.LeftOut at = tt
-heavy-kind kind.Bad at = tt
+heavy-kind (kind.Fixed mark.Arrow) at = refl
+heavy-kind _ at = search
 
 heavy-link : (l : Link) (w : Weight) → Heavy (link_next l) w → w ≡ Operator
 heavy-link (link.Between o at) w h = h
@@ -98,11 +56,11 @@ heavy-as : (t : Token) (l : Link) → next_of t ≡ link_next l → weight t ≡
 heavy-as t l h = heavy-link l (weight t) (subst (λ q. Heavy q (weight t)) h (heavy-kind t.kind t.at))
 
 -- within the limit a move goes on, and beyond it the token is too deep
-within : (d : ℕ) (x y : Limited) → d ≤ limit → cond (nat_le d limit) x y ≡ x
-within d x y h = ap (λ b. cond b x y) (le-leb d limit h)
+within : (d : ℕ) {x : Limited} (y : Limited) → d ≤ limit → cond (nat_le d limit) x y ≡ x
+within d {x = x} y h = ap (λ b. cond b x y) (le-leb d limit h)
 
-beyond : (d : ℕ) (x y : Limited) → limit < d → cond (nat_le d limit) x y ≡ y
-beyond d x y h = ap (λ b. cond b x y) (lt-leb d limit h)
+beyond : (d : ℕ) (x : Limited) {y : Limited} → limit < d → cond (nat_le d limit) x y ≡ y
+beyond d x {y = y} h = ap (λ b. cond b x y) (lt-leb d limit h)
 
 moves : (t : Token) (ts : List Token) (c d : Counts) (st q : State) → step st t ≡ To q → count (weight t) c ≡ d
     → limited c st (t ∷ ts) ≡ cond (nat_le d.now limit) (limited d q ts) (Err (TooDeep, t ∷ ts))
@@ -113,11 +71,7 @@ moves t ts c d st q e w =
 
 goes : (t : Token) (ts : List Token) (c d : Counts) (st q : State) → step st t ≡ To q → count (weight t) c ≡ d → d.now ≤ limit
     → limited c st (t ∷ ts) ≡ limited d q ts
-goes t ts c d st q e w le = moves t ts c d st q e w ∙ within d.now (limited d q ts) (Err (TooDeep, t ∷ ts)) le
-
-deep : (t : Token) (ts : List Token) (c d : Counts) (st q : State) → step st t ≡ To q → count (weight t) c ≡ d → limit < d.now
-    → limited c st (t ∷ ts) ≡ Err (TooDeep, t ∷ ts)
-deep t ts c d st q e w lt = moves t ts c d st q e w ∙ beyond d.now (limited d q ts) (Err (TooDeep, t ∷ ts)) lt
+goes t ts c d st q e w le = moves t ts c d st q e w ∙ within d.now _ le
 
 fails : (t : Token) (ts : List Token) (c : Counts) (st : State) → step st t ≡ Fails → limited c st (t ∷ ts) ≡ Err (Offends, t ∷ ts)
 unfolding limited
@@ -126,9 +80,9 @@ fails t ts c st e = ap (λ m. going m (count (weight t) c) (λ z. limited (count
 fails-to : (q : State) → Fails ≡ To q → ⊥
 fails-to q h = cc
 
-pub moved : (st : State) (ss : List ℕ) (old new : Ahead) (d : ℕ) (ts : List Token) → new.rest ≡ ts → new.depth ≡ d
+moved : (st : State) (ss : List ℕ) {d : ℕ} {ts : List Token} (new : Ahead) → new.rest ≡ ts → new.depth ≡ d
     → limited (counts d ss) st ts ≡ limited (counts new.depth ss) st new.rest
-moved st ss old new d ts h k = ap (λ x. limited (counts x ss) st ts) (sym k) ∙ ap (λ l. limited (counts new.depth ss) st l) (sym h)
+moved st ss {ts = ts} new h k = ap (λ x. limited (counts x ss) st ts) (sym k) ∙ ap (λ l. limited (counts new.depth ss) st l) (sym h)
 
 -- ---- Where an operand is wanted.
 begins-so : (t : Token) (r : Start) (s : List Frame) (q : State) → start_of t ≡ r → ((h : Held) → begin r h s ≡ To q) → step (Want s) t ≡ To q
@@ -140,39 +94,40 @@ weighed t r v c h f = ap (λ w. count w c) (f (weight t) (weighs-as t r h))
 none-here : (r : Start) (s : List Frame) (q : State) → start.Other ≡ r → ((h : Held) → begin r h s ≡ To q) → ⊥
 none-here r s q h b = fails-to q (ap (λ x. begin x (whole (Just Yes 0)) s) h ∙ b (whole (Just Yes 0)))
 
-start-goes : (ts : List Token) (c : Counts) (s : List Frame) (r : Start) (q : State) (v : Weight) → starting ts ≡ r → ((h : Held) → begin r h s ≡ To q)
+-- a token that begins an operand goes on, unless it is too deep
+start-moves : (ts : List Token) (c : Counts) (s : List Frame) (r : Start) (q : State) (v : Weight) → starting ts ≡ r → ((h : Held) → begin r h s ≡ To q)
     → ((w : Weight) → Weighs r w → w ≡ v)
-    → (count v c).now ≤ limit → limited c (Want s) ts ≡ limited (count v c) q (tail ts)
-start-goes [] c s r q v h b f le = absurd (none-here r s q h b)
-start-goes (t ∷ ts) c s r q v h b f le = goes t ts c (count v c) (Want s) q (begins-so t r s q h b) (weighed t r v c h f) le
-
-start-deep : (ts : List Token) (c : Counts) (s : List Frame) (r : Start) (q : State) (v : Weight) → starting ts ≡ r → ((h : Held) → begin r h s ≡ To q)
-    → ((w : Weight) → Weighs r w → w ≡ v)
-    → limit < (count v c).now → limited c (Want s) ts ≡ Err (TooDeep, ts)
-start-deep [] c s r q v h b f lt = absurd (none-here r s q h b)
-start-deep (t ∷ ts) c s r q v h b f lt = deep t ts c (count v c) (Want s) q (begins-so t r s q h b) (weighed t r v c h f) lt
+    → limited c (Want s) ts ≡ cond (nat_le (count v c).now limit) (limited (count v c) q (tail ts)) (Err (TooDeep, ts))
+start-moves [] c s r q v h b f = absurd (none-here r s q h b)
+start-moves (t ∷ ts) c s r q v h b f = moves t ts c (count v c) (Want s) q (begins-so t r s q h b) (weighed t r v c h f)
 
 -- an operator token, before and behind it
-module _ (old : Ahead) (r : Start) (q : List Frame → State) (is : starting old.rest ≡ r) (b : (h : Held) (s : List Frame) → begin r h s ≡ To (q s))
+module _ (old : Ahead) {r : Start} {q : List Frame → State} (is : starting old.rest ≡ r) (b : (h : Held) (s : List Frame) → begin r h s ≡ To (q s))
     (f : (w : Weight) → Weighs r w → w ≡ Operator) where
+  operator-moves : (x : Around)
+      → from old Want x ≡ cond (nat_le (old.depth + 1) limit) (limited (counts (old.depth + 1) x.outside) (q x.frames) (tail old.rest))
+      (Err (TooDeep, old.rest))
+  operator-moves x = start-moves old.rest (counts old.depth x.outside) x.frames r (q x.frames) Operator is (λ h. b h x.frames) f
+
   pub operator-goes : (mid : Ahead) → Enters old (Ok tt) mid → (x : Around) → from old Want x ≡ from mid q x
-  operator-goes mid n x =
-      start-goes old.rest (counts old.depth x.outside) x.frames r (q x.frames) Operator is (λ h. b h x.frames) f (omega (arith, n.0))
-      ∙ moved (q x.frames) x.outside old mid (old.depth + 1) (tail old.rest) n.1 n.2
+  operator-goes mid n x = operator-moves x ∙ within (old.depth + 1) _ (omega (arith, n.0)) ∙ moved _ _ mid n.1 n.2
 
   pub operator-deep : limit ≤ old.depth → (x : Around) → from old Want x ≡ Err (TooDeep, old.rest)
-  operator-deep le x = start-deep old.rest (counts old.depth x.outside) x.frames r (q x.frames) Operator is (λ h. b h x.frames) f (omega arith)
+  operator-deep le x = operator-moves x ∙ beyond (old.depth + 1) _ (omega arith)
 
 -- an opening bracket
-pub bracket-goes : (old mid : Ahead) → starting old.rest ≡ start.Opens → Enters old (Ok tt) mid → (x : Around)
-    → from old Want x ≡ limited (counts mid.depth (old.depth ∷ x.outside)) (Want (Brackets ∷ x.frames)) mid.rest
-bracket-goes old mid is n x =
-    start-goes old.rest (counts old.depth x.outside) x.frames start.Opens (Want (Brackets ∷ x.frames)) Opening is (λ h. refl) (λ w e. e) (omega (arith, n.0))
-    ∙ moved (Want (Brackets ∷ x.frames)) (old.depth ∷ x.outside) old mid (old.depth + 1) (tail old.rest) n.1 n.2
+module _ (old : Ahead) (is : starting old.rest ≡ start.Opens) where
+  bracket-moves : (x : Around) → from old Want x
+      ≡ cond (nat_le (old.depth + 1) limit) (limited (counts (old.depth + 1) (old.depth ∷ x.outside)) (Want (Brackets ∷ x.frames)) (tail old.rest))
+      (Err (TooDeep, old.rest))
+  bracket-moves x = start-moves old.rest (counts old.depth x.outside) x.frames start.Opens (Want (Brackets ∷ x.frames)) Opening is (λ h. refl) (λ w e. e)
 
-pub bracket-deep : (old : Ahead) → starting old.rest ≡ start.Opens → limit ≤ old.depth → (x : Around) → from old Want x ≡ Err (TooDeep, old.rest)
-bracket-deep old is le x = start-deep old.rest (counts old.depth x.outside) x.frames start.Opens (Want (Brackets ∷ x.frames)) Opening is (λ h. refl) (λ w e. e)
-    (omega arith)
+  pub bracket-goes : (mid : Ahead) → Enters old (Ok tt) mid → (x : Around)
+      → from old Want x ≡ limited (counts mid.depth (old.depth ∷ x.outside)) (Want (Brackets ∷ x.frames)) mid.rest
+  bracket-goes mid n x = bracket-moves x ∙ within (old.depth + 1) _ (omega (arith, n.0)) ∙ moved _ _ mid n.1 n.2
+
+  pub bracket-deep : limit ≤ old.depth → (x : Around) → from old Want x ≡ Err (TooDeep, old.rest)
+  bracket-deep le x = bracket-moves x ∙ beyond (old.depth + 1) _ (omega arith)
 
 -- a token that begins no operand
 none-at : (ts : List Token) (c : Counts) (s : List Frame) → starting ts ≡ start.Other → limited c (Want s) ts ≡ Err (Offends, ts)
@@ -185,30 +140,9 @@ none-begins old is x = none-at old.rest (counts old.depth x.outside) x.frames is
 
 -- A name that is no call is an operand as any other.
 accepts-name : (r : Next) (k : ℕ) (b : Bool) (e : Tree) → (r ≡ next.Opens → ⊥) → accepts r k (held 11 b e) ≡ accepts r k (held 10 b e)
-accepts-name (next.Between op.Arrow at) k b e h = refl
-accepts-name (next.Between op.Implies at) k b e h = refl
-accepts-name (next.Between op.Or at) k b e h = refl
-accepts-name (next.Between op.Xor at) k b e h = refl
-accepts-name (next.Between op.And at) k b e h = refl
-accepts-name (next.Between op.Equal at) k b e h = refl
-accepts-name (next.Between op.Differs at) k b e h = refl
-accepts-name (next.Between op.Less at) k b e h = refl
-accepts-name (next.Between op.AtMost at) k b e h = refl
-accepts-name (next.Between op.Greater at) k b e h = refl
-accepts-name (next.Between op.AtLeast at) k b e h = refl
-accepts-name (next.Between op.Plus at) k b e h = refl
-accepts-name (next.Between op.Minus at) k b e h = refl
-accepts-name (next.Between op.Times at) k b e h = refl
-accepts-name (next.Between op.Slash at) k b e h = refl
-accepts-name (next.Between op.Div at) k b e h = refl
-accepts-name (next.Between op.Mod at) k b e h = refl
-accepts-name (next.Gates at) k b e h = refl
 accepts-name next.Opens k b e h = absurd (h refl)
-accepts-name next.Closes k b e h = refl
-accepts-name next.Separates k b e h = refl
-accepts-name next.Answers k b e h = refl
-accepts-name next.Otherwise k b e h = refl
-accepts-name next.Other k b e h = refl
+accepts-name (next.Between op.Arrow at) k b e h = refl
+accepts-name _ k b e h = refl
 
 taken-name : (r : Next) (b : Bool) (e : Tree) (s : List Frame) → (r ≡ next.Opens → ⊥) → taken r (held 11 b e) s ≡ taken r (held 10 b e) s
 taken-name next.Opens b e s h = absurd (h refl)
@@ -216,12 +150,7 @@ taken-name _ b e s h = refl
 
 wrapped-name : (f : Frame) (b : Bool) (e : Tree) → wrapped f (held 11 b e) ≡ wrapped f (held 10 b e)
 wrapped-name Brackets b e = refl
-wrapped-name (Under p at) b e = refl
-wrapped-name (After o at l) b e = refl
-wrapped-name (Asked at) b e = refl
-wrapped-name (Answered at a) b e = refl
-wrapped-name (Else at x y) b e = refl
-wrapped-name (Within g ts) b e = refl
+wrapped-name _ b e = refl
 
 settle-name : (r : Next) (b : Bool) (e : Tree) (s : List Frame) → (r ≡ next.Opens → ⊥) → settle r (held 11 b e) s ≡ settle r (held 10 b e) s
 settle-name r b e [] h =
@@ -242,33 +171,19 @@ unfolding limited
 as-name [] c e s h = ap at_end (settle-name next.Other false e s other-opens)
 as-name (t ∷ ts) c e s h = ap (λ m. going m (count (weight t) c) (λ z. limited (count (weight t) c) z ts) (t ∷ ts)) (settle-name (next_of t) false e s h)
 
-opens-mark : (m : Mark) (at : ℕ) → mark_next m at ≡ next.Opens → kind_is mark.Open (kind.Fixed m) ≡ true
-opens-mark mark.Open at h = refl
-opens-mark _ at h = cc
-
 opens-kind : (k : Kind) (at : ℕ) → kind_next k at ≡ next.Opens → kind_is mark.Open k ≡ true
-opens-kind (kind.Fixed m) at h = opens-mark m at h
-opens-kind (kind.Name x) at h = cc
-opens-kind (kind.Number n) at h = cc
-opens-kind kind.LeftOut at h = cc
-opens-kind kind.Bad at h = cc
+opens-kind (kind.Fixed mark.Open) at h = refl
+opens-kind _ at h = cc
 
 opens-list : (ts : List Token) → following ts ≡ next.Opens → starts (is_mark mark.Open) ts ≡ true
 opens-list [] h = cc
 opens-list (t ∷ ts) h = opens-kind t.kind t.at h
 
-leaf-mark : (m : Mark) (at : ℕ) (ts : List Token) (c : Counts) (s : List Frame)
-    → limited c (Have (leaf_held (fixed m at)) s) ts ≡ limited c (Have (held 10 false (leaf_tree (fixed m at))) s) ts
-leaf-mark mark.True at ts c s = refl
-leaf-mark _ at ts c s = refl
-
 leaf-at : (k : Kind) (at : ℕ) (ts : List Token) (c : Counts) (s : List Frame) → starts_call (record { kind = k; at = at } ∷ ts) ≡ false
     → limited c (Have (leaf_held (record { kind = k; at = at })) s) ts ≡ limited c (Have (held 10 false (leaf_tree (record { kind = k; at = at }))) s) ts
 leaf-at (kind.Name x) at ts c s h = as-name ts c (Just (Called x) at) s (λ o. clash (starts (is_mark mark.Open) ts) (opens-list ts o) h)
-leaf-at (kind.Number n) at ts c s h = refl
-leaf-at (kind.Fixed m) at ts c s h = leaf-mark m at ts c s
-leaf-at kind.LeftOut at ts c s h = refl
-leaf-at kind.Bad at ts c s h = refl
+leaf-at (kind.Fixed mark.True) at ts c s h = refl
+leaf-at _ at ts c s h = refl
 
 pub leaf-goes : (old new : Ahead) (t : Token) (e : Tree) → starting old.rest ≡ start.Operand → starts_call old.rest ≡ false → old.rest ≡ t ∷ new.rest
     → new.depth ≡ old.depth → old.depth ≤ limit → e ≡ leaf_tree t
@@ -281,7 +196,7 @@ leaf-goes old new t e is n r d le v x =
     (ap (λ w. count w (counts old.depth x.outside)) (weighs-as t start.Operand h)) le
     ∙ leaf-at t.kind t.at new.rest (counts old.depth x.outside) x.frames (sym (ap starts_call r) ∙ n)
     ∙ ap (λ y. limited (counts old.depth x.outside) (Have (held 10 false y) x.frames) new.rest) (sym v)
-    ∙ moved (Have (held 10 false e) x.frames) x.outside old new old.depth new.rest refl d
+    ∙ moved _ _ new refl d
 
 -- ---- After an operand.
 no-link : (l : Link) → next.Other ≡ link_next l → ⊥
@@ -296,30 +211,24 @@ link-so : (t : Token) (l : Link) (h : Held) (s : List Frame) → accepts (link_n
     → step (Have h s) t ≡ To (linked l h s)
 link-so t l h s a e = ap (λ r. settle r h s) e ∙ settle-taken (link_next l) h s a ∙ taken-link l h s
 
-link-goes-at : (ts : List Token) (d : ℕ) (ss : List ℕ) (l : Link) (h : Held) (s : List Frame) → accepts (link_next l) (need s) h ≡ true
-    → following ts ≡ link_next l → d < limit
-    → limited (counts d ss) (Have h s) ts ≡ limited (counts (d + 1) ss) (linked l h s) (tail ts)
-link-goes-at [] d ss l h s a e lt = absurd (no-link l e)
-link-goes-at (t ∷ ts) d ss l h s a e lt =
-    goes t ts (counts d ss) (counts (d + 1) ss) (Have h s) (linked l h s) (link-so t l h s a e) (ap (λ w. count w (counts d ss)) (heavy-as t l e)) (omega arith)
-
-link-deep-at : (ts : List Token) (d : ℕ) (ss : List ℕ) (l : Link) (h : Held) (s : List Frame) → accepts (link_next l) (need s) h ≡ true
-    → following ts ≡ link_next l → limit ≤ d
-    → limited (counts d ss) (Have h s) ts ≡ Err (TooDeep, ts)
-link-deep-at [] d ss l h s a e le = absurd (no-link l e)
-link-deep-at (t ∷ ts) d ss l h s a e le =
-    deep t ts (counts d ss) (counts (d + 1) ss) (Have h s) (linked l h s) (link-so t l h s a e) (ap (λ w. count w (counts d ss)) (heavy-as t l e)) (omega arith)
+link-moves : (ts : List Token) (d : ℕ) (ss : List ℕ) (l : Link) (h : Held) (s : List Frame) → accepts (link_next l) (need s) h ≡ true
+    → following ts ≡ link_next l
+    → limited (counts d ss) (Have h s) ts ≡ cond (nat_le (d + 1) limit) (limited (counts (d + 1) ss) (linked l h s) (tail ts)) (Err (TooDeep, ts))
+link-moves [] d ss l h s a e = absurd (no-link l e)
+link-moves (t ∷ ts) d ss l h s a e =
+    moves t ts (counts d ss) (counts (d + 1) ss) (Have h s) (linked l h s) (link-so t l h s a e) (ap (λ w. count w (counts d ss)) (heavy-as t l e))
 
 -- what goes on with an operand
-pub link-goes : (old mid : Ahead) (k : ℕ) (l : Link) (h : Held) → SeesLink k h old (Some l) → Enters old (Ok tt) mid → (x : Around) → need x.frames ≡ k
-    → from old (Have h) x ≡ from mid (linked l h) x
-link-goes old mid k l h i n x e =
-    link-goes-at old.rest old.depth x.outside l h x.frames (subst (λ j. accepts (link_next l) j h ≡ true) (sym e) i.0) i.1 n.0
-    ∙ moved (linked l h x.frames) x.outside old mid (old.depth + 1) (tail old.rest) n.1 n.2
+module _ (old : Ahead) (k : ℕ) (l : Link) (h : Held) (i : SeesLink k h old (Some l)) where
+  link-on : (x : Around) → need x.frames ≡ k → from old (Have h) x
+      ≡ cond (nat_le (old.depth + 1) limit) (limited (counts (old.depth + 1) x.outside) (linked l h x.frames) (tail old.rest)) (Err (TooDeep, old.rest))
+  link-on x e = link-moves old.rest old.depth x.outside l h x.frames (subst (λ j. accepts (link_next l) j h ≡ true) (sym e) i.0) i.1
 
-pub link-deep : (old : Ahead) (k : ℕ) (l : Link) (h : Held) → SeesLink k h old (Some l) → limit ≤ old.depth → (x : Around) → need x.frames ≡ k
-    → from old (Have h) x ≡ Err (TooDeep, old.rest)
-link-deep old k l h i le x e = link-deep-at old.rest old.depth x.outside l h x.frames (subst (λ j. accepts (link_next l) j h ≡ true) (sym e) i.0) i.1 le
+  pub link-goes : (mid : Ahead) → Enters old (Ok tt) mid → (x : Around) → need x.frames ≡ k → from old (Have h) x ≡ from mid (linked l h) x
+  link-goes mid n x e = link-on x e ∙ within (old.depth + 1) _ (omega (arith, n.0)) ∙ moved _ _ mid n.1 n.2
+
+  pub link-deep : limit ≤ old.depth → (x : Around) → need x.frames ≡ k → from old (Have h) x ≡ Err (TooDeep, old.rest)
+  link-deep le x e = link-on x e ∙ beyond (old.depth + 1) _ (omega arith)
 
 -- an operand that nothing goes on with is left to the frames
 onward-left : (t : Token) (ts : List Token) (c : Counts) (h : Held) (f : Frame) (s : List Frame)
@@ -327,23 +236,13 @@ onward-left : (t : Token) (ts : List Token) (c : Counts) (h : Held) (f : Frame) 
     (t ∷ ts) ≡ left_to (wrapped f h) c f h.body s (t ∷ ts)
 unfolding limited
 onward-left t ts c h Brackets s = refl
-onward-left t ts c h (Under p at) s = refl
-onward-left t ts c h (After o at l) s = refl
-onward-left t ts c h (Asked at) s = refl
-onward-left t ts c h (Answered at a) s = refl
-onward-left t ts c h (Else at a b) s = refl
-onward-left t ts c h (Within g es) s = refl
+onward-left t ts c h _ s = refl
 
 end-left : (c : Counts) (h : Held) (f : Frame) (s : List Frame) → at_end (onward (wrapped f h) (λ g. settle next.Other g s) (awaited next.Other f h.body s))
     ≡ left_to (wrapped f h) c f h.body s []
 unfolding limited
 end-left c h Brackets s = refl
-end-left c h (Under p at) s = refl
-end-left c h (After o at l) s = refl
-end-left c h (Asked at) s = refl
-end-left c h (Answered at a) s = refl
-end-left c h (Else at a b) s = refl
-end-left c h (Within g es) s = refl
+end-left c h _ s = refl
 
 leaves-at : (ts : List Token) (c : Counts) (h : Held) (s : List Frame) → accepts (following ts) (need s) h ≡ false → limited c (Have h s) ts ≡ leave c h s ts
 unfolding limited
@@ -366,113 +265,55 @@ meets-goes : (t : Token) (ts : List Token) (c d : Counts) (f : Frame) (e : Tree)
 meets-goes t ts c d f e s q a w le =
     ap (λ m. going m (count (weight t) c) (λ z. limited (count (weight t) c) z ts) (t ∷ ts)) a
     ∙ ap (λ x. cond (nat_le x.now limit) (limited x q ts) (Err (TooDeep, t ∷ ts))) w
-    ∙ within d.now (limited d q ts) (Err (TooDeep, t ∷ ts)) le
+    ∙ within d.now _ le
 
-mark-met : (m : Mark) (ts : List Token) (c d : Counts) (f : Frame) (e : Tree) (s : List Frame) (q : State) → starts (is_mark m) ts ≡ true
-    → ((at : ℕ) → awaited (mark_next m at) f e s ≡ To q) → count (mark_weight m) c ≡ d → d.now ≤ limit
-    → meets c f e s ts ≡ limited d q (tail ts)
-mark-met m [] c d f e s q h a w le = cc
-mark-met m (t ∷ ts) c d f e s q h a w le = ap (λ x. meets c f e s (x ∷ ts)) (token-mark m t h) ∙ meets-goes (fixed m t.at) ts c d f e s q (a t.at) w le
-
-pub then-goes : (old new : Ahead) (i : ℕ) (h : Held) → Passes mark.Then old (Ok tt) new → (x : Around)
-    → leave (counts old.depth x.outside) h (Asked i ∷ x.frames) old.rest ≡ from new (λ s. Want (Answered i h.body ∷ s)) x
-then-goes old new i h p x =
-    let c = counts old.depth x.outside in
-    mark-met mark.Then old.rest c c (Asked i) h.body x.frames (Want (Answered i h.body ∷ x.frames)) p.0 (λ at. refl) refl p.3
-    ∙ moved (Want (Answered i h.body ∷ x.frames)) x.outside old new old.depth (tail old.rest) p.1 p.2
-
-pub else-goes : (old new : Ahead) (i : ℕ) (a : Tree) (h : Held) → Passes mark.Else old (Ok tt) new → (x : Around)
-    → leave (counts old.depth x.outside) h (Answered i a ∷ x.frames) old.rest ≡ from new (λ s. Want (Else i a h.body ∷ s)) x
-else-goes old new i a h p x =
-    let c = counts old.depth x.outside in
-    mark-met mark.Else old.rest c c (Answered i a) h.body x.frames (Want (Else i a h.body ∷ x.frames)) p.0 (λ at. refl) refl p.3
-    ∙ moved (Want (Else i a h.body ∷ x.frames)) x.outside old new old.depth (tail old.rest) p.1 p.2
+mark-met : (m : Mark) (ts : List Token) (c : Counts) {d : Counts} (f : Frame) (e : Tree) (s : List Frame) (q : State) → starts (is_mark m) ts ≡ true
+    → ((at : ℕ) → awaited (mark_next m at) f e s ≡ To q) → count (mark_weight m) c ≡ d → d.now ≤ limit → meets c f e s ts ≡ limited d q (tail ts)
+mark-met m [] c f e s q h a w le = cc
+mark-met m (t ∷ ts) c {d = d} f e s q h a w le =
+    ap (λ x. meets c f e s (x ∷ ts)) (token-mark m t h) ∙ meets-goes (fixed m t.at) ts c d f e s q (a t.at) w le
 
 pub close-goes : (n : ℕ) (old new : Ahead) (h : Held) → n ≤ limit → TakesMark mark.Close n old true new → (x : Around)
     → leave (counts old.depth (n ∷ x.outside)) h (Brackets ∷ x.frames) old.rest ≡ from new (Have (whole h.body)) x
 close-goes n old new h le p x =
-    mark-met mark.Close old.rest (counts old.depth (n ∷ x.outside)) (counts n x.outside) Brackets h.body x.frames (Have (whole h.body) x.frames) p.0
-    (λ at. refl) refl le
-    ∙ moved (Have (whole h.body) x.frames) x.outside old new n (tail old.rest) p.1 p.2
+    mark-met mark.Close old.rest _ {d = counts n x.outside} Brackets h.body x.frames (Have (whole h.body) x.frames) p.0 (λ at. refl) refl le
+    ∙ moved _ _ new p.1 p.2
 
 pub comma-goes : (n : ℕ) (old new : Ahead) (h : Held) (es : List Tree) → n < limit → TakesMark mark.Comma (n + 1) old true new → (x : Calling)
     → leave (counts old.depth (n ∷ x.around.outside)) h (Within x.callee es ∷ x.around.frames) old.rest ≡ argued_from n (es ++ h.body ∷ []) new x
 comma-goes n old new h es lt p x =
-    let q = Want (Within x.callee (es ++ h.body ∷ []) ∷ x.around.frames) in
-    let ss = n ∷ x.around.outside in
-    mark-met mark.Comma old.rest (counts old.depth ss) (counts (n + 1) ss) (Within x.callee es) h.body x.around.frames q p.0 (λ at. refl) refl (omega arith)
-    ∙ moved q ss old new (n + 1) (tail old.rest) p.1 p.2
+    mark-met mark.Comma old.rest _ {d = counts (n + 1) (n ∷ x.around.outside)} (Within x.callee es) h.body x.around.frames
+    (Want (Within x.callee (es ++ h.body ∷ []) ∷ x.around.frames)) p.0 (λ at. refl) refl (omega arith) ∙ moved _ _ new p.1 p.2
 
 pub last-goes : (n : ℕ) (old new : Ahead) (h : Held) (es : List Tree) → n ≤ limit → TakesMark mark.Close n old true new → (x : Calling)
-    → leave (counts old.depth (n ∷ x.around.outside)) h (Within x.callee es ∷ x.around.frames) old.rest ≡ from new
-    (Have (whole (Invoked x.callee (es ++ h.body ∷ [])))) x.around
+    → leave (counts old.depth (n ∷ x.around.outside)) h (Within x.callee es ∷ x.around.frames) old.rest
+    ≡ from new (Have (whole (Invoked x.callee (es ++ h.body ∷ [])))) x.around
 last-goes n old new h es le p x =
-    let q = Have (whole (Invoked x.callee (es ++ h.body ∷ []))) x.around.frames in
-    mark-met mark.Close old.rest (counts old.depth (n ∷ x.around.outside)) (counts n x.around.outside) (Within x.callee es) h.body x.around.frames q p.0
-    (λ at. refl) refl le
-    ∙ moved q x.around.outside old new n (tail old.rest) p.1 p.2
+    mark-met mark.Close old.rest _ {d = counts n x.around.outside} (Within x.callee es) h.body x.around.frames
+    (Have (whole (Invoked x.callee (es ++ h.body ∷ []))) x.around.frames) p.0 (λ at. refl) refl le ∙ moved _ _ new p.1 p.2
 
 -- ---- Where it is missing.
-answered-not : (m : Mark) (at i : ℕ) (e : Tree) (s : List Frame) → kind_is mark.Then (kind.Fixed m) ≡ false → answered (mark_next m at) i e s ≡ Fails
-answered-not mark.Then at i e s h = cc
-answered-not _ at i e s h = refl
-
 then-kind : (k : Kind) (at i : ℕ) (e : Tree) (s : List Frame) → kind_is mark.Then k ≡ false → answered (kind_next k at) i e s ≡ Fails
-then-kind (kind.Fixed m) at i e s h = answered-not m at i e s h
-then-kind (kind.Name x) at i e s h = refl
-then-kind (kind.Number n) at i e s h = refl
-then-kind kind.LeftOut at i e s h = refl
-then-kind kind.Bad at i e s h = refl
-
-otherwise-not : (m : Mark) (at i : ℕ) (a e : Tree) (s : List Frame) → kind_is mark.Else (kind.Fixed m) ≡ false → otherwise (mark_next m at) i a e s ≡ Fails
-otherwise-not mark.Else at i a e s h = cc
-otherwise-not _ at i a e s h = refl
+then-kind (kind.Fixed mark.Then) at i e s h = cc
+then-kind _ at i e s h = refl
 
 else-kind : (k : Kind) (at i : ℕ) (a e : Tree) (s : List Frame) → kind_is mark.Else k ≡ false → otherwise (kind_next k at) i a e s ≡ Fails
-else-kind (kind.Fixed m) at i a e s h = otherwise-not m at i a e s h
-else-kind (kind.Name x) at i a e s h = refl
-else-kind (kind.Number n) at i a e s h = refl
-else-kind kind.LeftOut at i a e s h = refl
-else-kind kind.Bad at i a e s h = refl
-
-closed-not : (m : Mark) (at : ℕ) (e : Tree) (s : List Frame) → kind_is mark.Close (kind.Fixed m) ≡ false → closed (mark_next m at) e s ≡ Fails
-closed-not mark.Close at e s h = cc
-closed-not _ at e s h = refl
+else-kind (kind.Fixed mark.Else) at i a e s h = cc
+else-kind _ at i a e s h = refl
 
 close-kind : (k : Kind) (at : ℕ) (e : Tree) (s : List Frame) → kind_is mark.Close k ≡ false → closed (kind_next k at) e s ≡ Fails
-close-kind (kind.Fixed m) at e s h = closed-not m at e s h
-close-kind (kind.Name x) at e s h = refl
-close-kind (kind.Number n) at e s h = refl
-close-kind kind.LeftOut at e s h = refl
-close-kind kind.Bad at e s h = refl
-
-argued-not : (m : Mark) (at : ℕ) (f : Callee) (es : List Tree) (e : Tree) (s : List Frame) → kind_is mark.Comma (kind.Fixed m) ≡ false
-    → kind_is mark.Close (kind.Fixed m) ≡ false → argued (mark_next m at) f es e s ≡ Fails
-argued-not mark.Comma at f es e s h k = cc
-argued-not mark.Close at f es e s h k = cc
-argued-not _ at f es e s h k = refl
+close-kind (kind.Fixed mark.Close) at e s h = cc
+close-kind _ at e s h = refl
 
 argued-kind : (q : Kind) (at : ℕ) (f : Callee) (es : List Tree) (e : Tree) (s : List Frame) → kind_is mark.Comma q ≡ false → kind_is mark.Close q ≡ false
     → argued (kind_next q at) f es e s ≡ Fails
-argued-kind (kind.Fixed m) at f es e s h k = argued-not m at f es e s h k
-argued-kind (kind.Name x) at f es e s h k = refl
-argued-kind (kind.Number n) at f es e s h k = refl
-argued-kind kind.LeftOut at f es e s h k = refl
-argued-kind kind.Bad at f es e s h k = refl
+argued-kind (kind.Fixed mark.Comma) at f es e s h k = cc
+argued-kind (kind.Fixed mark.Close) at f es e s h k = cc
+argued-kind _ at f es e s h k = refl
 
 unmet : (t : Token) (ts : List Token) (c : Counts) (f : Frame) (e : Tree) (s : List Frame) → awaited (next_of t) f e s ≡ Fails
     → meets c f e s (t ∷ ts) ≡ Err (Offends, t ∷ ts)
 unmet t ts c f e s a = ap (λ m. going m (count (weight t) c) (λ z. limited (count (weight t) c) z ts) (t ∷ ts)) a
-
-pub then-missing : (ts : List Token) (c : Counts) (i : ℕ) (h : Held) (s : List Frame) → starts (is_mark mark.Then) ts ≡ false
-    → leave c h (Asked i ∷ s) ts ≡ Err (Offends, ts)
-then-missing [] c i h s n = refl
-then-missing (t ∷ ts) c i h s n = unmet t ts c (Asked i) h.body s (then-kind t.kind t.at i h.body s n)
-
-pub else-missing : (ts : List Token) (c : Counts) (i : ℕ) (a : Tree) (h : Held) (s : List Frame) → starts (is_mark mark.Else) ts ≡ false
-    → leave c h (Answered i a ∷ s) ts ≡ Err (Offends, ts)
-else-missing [] c i a h s n = refl
-else-missing (t ∷ ts) c i a h s n = unmet t ts c (Answered i a) h.body s (else-kind t.kind t.at i a h.body s n)
 
 pub close-missing : (ts : List Token) (c : Counts) (h : Held) (s : List Frame) → starts (is_mark mark.Close) ts ≡ false
     → leave c h (Brackets ∷ s) ts ≡ Err (Offends, ts)
@@ -488,10 +329,7 @@ last-missing (t ∷ ts) c f es h s n m = unmet t ts c (Within f es) h.body s (ar
 clocked-not : (k : Kind) (up at : ℕ) (e : Tree) (s : List Frame) → starts is_name (record { kind = k; at = up } ∷ []) ≡ false
     → clocked (kind_name k up) at e s ≡ Fails
 clocked-not (kind.Name x) up at e s h = cc
-clocked-not (kind.Fixed m) up at e s h = refl
-clocked-not (kind.Number n) up at e s h = refl
-clocked-not kind.LeftOut up at e s h = refl
-clocked-not kind.Bad up at e s h = refl
+clocked-not _ up at e s h = refl
 
 pub clock-missing : (ts : List Token) (c : Counts) (at : ℕ) (e : Tree) (s : List Frame) → starts is_name ts ≡ false
     → limited c (Clock at e s) ts ≡ Err (Offends, ts)
@@ -503,102 +341,70 @@ pub clock-goes : (old new : Ahead) (at : ℕ) (e : Tree) (n : Name) → old.rest
     → (x : Around) → from old (Clock at e) x ≡ from new (Have (held 8 false (Sampled at e n))) x
 clock-goes old new at e n r d le x =
     let c = counts old.depth x.outside in
-    let q = Have (held 8 false (Sampled at e n)) x.frames in
     ap (λ ts. limited c (Clock at e x.frames) ts) r
-    ∙ goes (name_token n) new.rest c c (Clock at e x.frames) q refl refl le
-    ∙ moved q x.outside old new old.depth new.rest refl d
+    ∙ goes (name_token n) new.rest c c (Clock at e x.frames) (Have (held 8 false (Sampled at e n)) x.frames) refl refl le ∙ moved _ _ new refl d
 
-call-opens : (ts : List Token) (d : ℕ) (ss : List ℕ) (n : Name) (s : List Frame) → starts (is_mark mark.Open) ts ≡ true → d < limit
-    → limited (counts d ss) (Have (leaf_held (name_token n)) s) ts ≡ limited (counts (d + 1) (d ∷ ss)) (Want (Within (Function n) [] ∷ s)) (tail ts)
-call-opens [] d ss n s h lt = cc
-call-opens (t ∷ ts) d ss n s h lt =
-    let h0 = leaf_held (name_token n) in
-    ap (λ y. limited (counts d ss) (Have h0 s) (y ∷ ts)) (token-mark mark.Open t h)
-    ∙ goes (fixed mark.Open t.at) ts (counts d ss) (counts (d + 1) (d ∷ ss)) (Have h0 s) (Want (Within (Function n) [] ∷ s)) (settle-taken next.Opens h0 s refl)
-    refl (omega arith)
-
-call-opens-deep : (ts : List Token) (d : ℕ) (ss : List ℕ) (n : Name) (s : List Frame) → starts (is_mark mark.Open) ts ≡ true → limit ≤ d
-    → limited (counts d ss) (Have (leaf_held (name_token n)) s) ts ≡ Err (TooDeep, ts)
-call-opens-deep [] d ss n s h le = cc
-call-opens-deep (t ∷ ts) d ss n s h le =
-    let h0 = leaf_held (name_token n) in
-    let is = token-mark mark.Open t h in
-    ap (λ y. limited (counts d ss) (Have h0 s) (y ∷ ts)) is
-    ∙ deep (fixed mark.Open t.at) ts (counts d ss) (counts (d + 1) (d ∷ ss)) (Have h0 s) (Want (Within (Function n) [] ∷ s)) (settle-taken next.Opens h0 s refl)
-    refl (omega arith)
-    ∙ ap (λ y. Err (TooDeep, y ∷ ts)) (sym is)
+-- the bracket of a call, and that after `#`
+bracket-opens : (ts : List Token) (d : ℕ) (ss : List ℕ) (st q : State) → ((at : ℕ) → step st (fixed mark.Open at) ≡ To q) → starts (is_mark mark.Open) ts ≡ true
+    → limited (counts d ss) st ts ≡ cond (nat_le (d + 1) limit) (limited (counts (d + 1) (d ∷ ss)) q (tail ts)) (Err (TooDeep, ts))
+bracket-opens [] d ss st q e h = cc
+bracket-opens (t ∷ ts) d ss st q e h =
+    subst (λ y. limited (counts d ss) st (y ∷ ts) ≡ cond (nat_le (d + 1) limit) (limited (counts (d + 1) (d ∷ ss)) q ts) (Err (TooDeep, y ∷ ts)))
+    (sym (token-mark mark.Open t h)) (moves (fixed mark.Open t.at) ts (counts d ss) (counts (d + 1) (d ∷ ss)) st q (e t.at) refl)
 
 call-named : (old mid : Ahead) (n : Name) → old.rest ≡ name_token n ∷ mid.rest → mid.depth ≡ old.depth → old.depth ≤ limit → (x : Around)
     → from old Want x ≡ from mid (Have (leaf_held (name_token n))) x
 call-named old mid n r d le x =
     let c = counts old.depth x.outside in
-    let q = Have (leaf_held (name_token n)) x.frames in
-    ap (λ ts. limited c (Want x.frames) ts) r ∙ goes (name_token n) mid.rest c c (Want x.frames) q refl refl le
-    ∙ moved q x.outside old mid old.depth mid.rest refl d
+    ap (λ ts. limited c (Want x.frames) ts) r
+    ∙ goes (name_token n) mid.rest c c (Want x.frames) (Have (leaf_held (name_token n)) x.frames) refl refl le ∙ moved _ _ mid refl d
 
-call-bracket : (old mid : Ahead) (n : Name) → old.rest ≡ name_token n ∷ mid.rest → starts_call old.rest ≡ true → starts (is_mark mark.Open) mid.rest ≡ true
-call-bracket old mid n r h = sym (ap starts_call r) ∙ h
+-- a name and its bracket
+call-opens : (old mid : Ahead) (n : Name) → starts_call old.rest ≡ true → TakesName old (Ok n) mid → (x : Around)
+    → from old Want x ≡ cond (nat_le (mid.depth + 1) limit)
+    (limited (counts (mid.depth + 1) (mid.depth ∷ x.outside)) (Want (Within (Function n) [] ∷ x.frames)) (tail mid.rest)) (Err (TooDeep, mid.rest))
+call-opens old mid n h p x =
+    let named = leaf_held (name_token n) in
+    call-named old mid n p.0 p.1 p.2 x
+    ∙ bracket-opens mid.rest mid.depth x.outside (Have named x.frames) (Want (Within (Function n) [] ∷ x.frames))
+    (λ at. settle-taken next.Opens named x.frames refl) (sym (ap starts_call p.0) ∙ h)
 
 abbrev pub calling : Callee → Around → Calling
 calling f x = record { callee = f; around = x }
 
 pub call-goes : (old mid new : Ahead) (n : Name) → starts_call old.rest ≡ true → TakesName old (Ok n) mid → Enters mid (Ok tt) new → (x : Around)
     → from old Want x ≡ argued_from mid.depth [] new (calling (Function n) x)
-call-goes old mid new n h p e x =
-    let q = Want (Within (Function n) [] ∷ x.frames) in
-    call-named old mid n p.0 p.1 p.2 x
-    ∙ call-opens mid.rest mid.depth x.outside n x.frames (call-bracket old mid n p.0 h) e.0
-    ∙ moved q (mid.depth ∷ x.outside) mid new (mid.depth + 1) (tail mid.rest) e.1 e.2
+call-goes old mid new n h p e x = call-opens old mid n h p x ∙ within (mid.depth + 1) _ (omega (arith, e.0)) ∙ moved _ _ new e.1 e.2
 
 pub call-deep : (old mid : Ahead) (n : Name) → starts_call old.rest ≡ true → TakesName old (Ok n) mid → limit ≤ mid.depth → (x : Around)
     → from old Want x ≡ Err (TooDeep, mid.rest)
-call-deep old mid n h p le x = call-named old mid n p.0 p.1 p.2 x ∙ call-opens-deep mid.rest mid.depth x.outside n x.frames (call-bracket old mid n p.0 h) le
+call-deep old mid n h p le x = call-opens old mid n h p x ∙ beyond (mid.depth + 1) _ (omega arith)
 
 call-name : (ts : List Token) → starts_call ts ≡ true → starts is_name ts ≡ true
 call-name [] h = cc
 call-name (t ∷ ts) h = (and_parts _ _ h).0
 
 -- a call begins with a name
-pub call-none : (X : Type 0) (f : X → Limited) (e : Stop) (old new : Ahead) → starts_call old.rest ≡ true → TakesName old (Err e) new → Stops X f e new
-call-none X f stop.Memory old new h p = tt
-call-none X f (stop.Token why left) old new h p = absurd (clash (starts is_name old.rest) (call-name old.rest h) p.3)
+pub call-none : {X : Type 0} (f : X → Limited) (e : Stop) (old new : Ahead) → starts_call old.rest ≡ true → TakesName old (Err e) new → Stops X f e new
+call-none f stop.Memory old new h p = tt
+call-none f (stop.Token why left) old new h p = absurd (clash (starts is_name old.rest) (call-name old.rest h) p.3)
 
-hash-opens : (ts : List Token) (d : ℕ) (ss : List ℕ) (at : ℕ) (s : List Frame) → starts (is_mark mark.Open) ts ≡ true → d < limit
-    → limited (counts d ss) (Hashed at s) ts ≡ limited (counts (d + 1) (d ∷ ss)) (Want (Within (Hash at) [] ∷ s)) (tail ts)
-hash-opens [] d ss at s h lt = cc
-hash-opens (t ∷ ts) d ss at s h lt =
-    ap (λ y. limited (counts d ss) (Hashed at s) (y ∷ ts)) (token-mark mark.Open t h)
-    ∙ goes (fixed mark.Open t.at) ts (counts d ss) (counts (d + 1) (d ∷ ss)) (Hashed at s) (Want (Within (Hash at) [] ∷ s)) refl refl (omega arith)
-
-hash-opens-deep : (ts : List Token) (d : ℕ) (ss : List ℕ) (at : ℕ) (s : List Frame) → starts (is_mark mark.Open) ts ≡ true → limit ≤ d
-    → limited (counts d ss) (Hashed at s) ts ≡ Err (TooDeep, ts)
-hash-opens-deep [] d ss at s h le = cc
-hash-opens-deep (t ∷ ts) d ss at s h le =
-    let is = token-mark mark.Open t h in
-    ap (λ y. limited (counts d ss) (Hashed at s) (y ∷ ts)) is
-    ∙ deep (fixed mark.Open t.at) ts (counts d ss) (counts (d + 1) (d ∷ ss)) (Hashed at s) (Want (Within (Hash at) [] ∷ s)) refl refl (omega arith)
-    ∙ ap (λ y. Err (TooDeep, y ∷ ts)) (sym is)
+hash-opens : (old : Ahead) (at : ℕ) → starts (is_mark mark.Open) old.rest ≡ true → (x : Around)
+    → from old (Hashed at) x ≡ cond (nat_le (old.depth + 1) limit)
+    (limited (counts (old.depth + 1) (old.depth ∷ x.outside)) (Want (Within (Hash at) [] ∷ x.frames)) (tail old.rest)) (Err (TooDeep, old.rest))
+hash-opens old at h x = bracket-opens old.rest old.depth x.outside (Hashed at x.frames) (Want (Within (Hash at) [] ∷ x.frames)) (λ up. refl) h
 
 pub hash-goes : (old new : Ahead) (at : ℕ) → starts (is_mark mark.Open) old.rest ≡ true → Enters old (Ok tt) new → (x : Around)
     → from old (Hashed at) x ≡ argued_from old.depth [] new (calling (Hash at) x)
-hash-goes old new at h e x =
-    hash-opens old.rest old.depth x.outside at x.frames h e.0
-    ∙ moved (Want (Within (Hash at) [] ∷ x.frames)) (old.depth ∷ x.outside) old new (old.depth + 1) (tail old.rest) e.1 e.2
+hash-goes old new at h e x = hash-opens old at h x ∙ within (old.depth + 1) _ (omega (arith, e.0)) ∙ moved _ _ new e.1 e.2
 
 pub hash-deep : (old : Ahead) (at : ℕ) → starts (is_mark mark.Open) old.rest ≡ true → limit ≤ old.depth → (x : Around)
     → from old (Hashed at) x ≡ Err (TooDeep, old.rest)
-hash-deep old at h le x = hash-opens-deep old.rest old.depth x.outside at x.frames h le
-
-opened-not : (m : Mark) (up at : ℕ) (s : List Frame) → kind_is mark.Open (kind.Fixed m) ≡ false → opened (mark_start m up) at s ≡ Fails
-opened-not mark.Open up at s h = cc
-opened-not _ up at s h = refl
+hash-deep old at h le x = hash-opens old at h x ∙ beyond (old.depth + 1) _ (omega arith)
 
 opened-kind : (k : Kind) (up at : ℕ) (s : List Frame) → kind_is mark.Open k ≡ false → opened (start_of (record { kind = k; at = up })) at s ≡ Fails
-opened-kind (kind.Fixed m) up at s h = opened-not m up at s h
-opened-kind (kind.Name x) up at s h = refl
-opened-kind (kind.Number n) up at s h = refl
-opened-kind kind.LeftOut up at s h = refl
-opened-kind kind.Bad up at s h = refl
+opened-kind (kind.Fixed mark.Open) up at s h = cc
+opened-kind _ up at s h = refl
 
 pub hash-missing : (ts : List Token) (c : Counts) (at : ℕ) (s : List Frame) → starts (is_mark mark.Open) ts ≡ false
     → limited c (Hashed at s) ts ≡ Err (Offends, ts)
@@ -608,66 +414,58 @@ hash-missing (t ∷ ts) c at s h = fails t ts c (Hashed at s) (opened-kind t.kin
 
 -- ---- Stops.
 -- a token that is too deep stops what leads there
-pub deep-stop : (X : Type 0) (f : X → Limited) (e : Stop) (mid new : Ahead) → Enters mid (Err e) new
+pub deep-stop : {X : Type 0} {f : X → Limited} (e : Stop) {mid : Ahead} (new : Ahead) → Enters mid (Err e) new
     → (limit ≤ mid.depth → (x : X) → f x ≡ Err (TooDeep, mid.rest)) → Stops X f e new
-deep-stop X f stop.Memory mid new n g = tt
-deep-stop X f (stop.Token why left) mid new n g =
+deep-stop stop.Memory new n g = tt
+deep-stop (stop.Token why left) {mid = mid} new n g =
     (n.3 ∙ ap (λ a. length a.rest) (sym n.2), λ x. g n.0 x ∙ ap (λ w. Err (w, mid.rest)) (sym n.1) ∙ ap (λ a. Err (why, a.rest)) (sym n.2))
 
 -- a word that is missing does
-pub pass-stop : (X : Type 0) (f : X → Limited) (m : Mark) (e : Stop) (mid new : Ahead) → Passes m mid (Err e) new
+pub pass-stop : {X : Type 0} {f : X → Limited} (m : Mark) (e : Stop) (mid new : Ahead) → Passes m mid (Err e) new
     → (starts (is_mark m) mid.rest ≡ false → (x : X) → f x ≡ Err (Offends, mid.rest)) → Stops X f e new
-pass-stop X f m stop.Memory mid new p g = tt
-pass-stop X f m (stop.Token why left) mid new p g =
+pass-stop m stop.Memory mid new p g = tt
+pass-stop m (stop.Token why left) mid new p g =
     (p.0 ∙ ap (λ a. length a.rest) (sym p.2), λ x. g p.3 x ∙ ap (λ w. Err (w, mid.rest)) (sym p.1) ∙ ap (λ a. Err (why, a.rest)) (sym p.2))
 
-pub name-stop : (X : Type 0) (f : X → Limited) (e : Stop) (mid new : Ahead) → TakesName mid (Err e) new
+pub name-stop : {X : Type 0} {f : X → Limited} (e : Stop) (mid new : Ahead) → TakesName mid (Err e) new
     → (starts is_name mid.rest ≡ false → (x : X) → f x ≡ Err (Offends, mid.rest)) → Stops X f e new
-name-stop X f stop.Memory mid new p g = tt
-name-stop X f (stop.Token why left) mid new p g =
+name-stop stop.Memory mid new p g = tt
+name-stop (stop.Token why left) mid new p g =
     (p.0 ∙ ap (λ a. length a.rest) (sym p.2), λ x. g p.3 x ∙ ap (λ w. Err (w, mid.rest)) (sym p.1) ∙ ap (λ a. Err (why, a.rest)) (sym p.2))
 
 -- a stop further on is a stop of what leads there
-pub stop-from : (X Y : Type 0) (f : X → Limited) (g : Y → Limited) (e : Stop) (new : Ahead) → ((x : X) → (y : Y) × (f x ≡ g y)) → Stops Y g e new
+pub stop-from : {X Y : Type 0} {f : X → Limited} {g : Y → Limited} (e : Stop) (new : Ahead) → Stops Y g e new → ((x : X) → (y : Y) × (f x ≡ g y))
     → Stops X f e new
-stop-from X Y f g stop.Memory new link s = tt
-stop-from X Y f g (stop.Token why left) new link s = (s.0, λ x. let l = link x in l.1 ∙ s.1 l.0)
+stop-from stop.Memory new s link = tt
+stop-from (stop.Token why left) new s link = (s.0, λ x. let l = link x in l.1 ∙ s.1 l.0)
 
 pub tail-short : (ts : List Token) → length (tail ts) ≤ length ts
 tail-short [] = omega arith
 tail-short (t ∷ ts) = omega arith
 
 -- a literal or a name is there
-pub leaf-none : (X : Type 0) (f : X → Limited) (e : Stop) (old new : Ahead) → starting old.rest ≡ start.Operand → TakesLeaf old (Err e) new → Stops X f e new
-leaf-none X f stop.Memory old new h p = tt
-leaf-none X f (stop.Token why left) old new h p = absurd (p h)
+pub leaf-none : {X : Type 0} (f : X → Limited) (e : Stop) (old new : Ahead) → starting old.rest ≡ start.Operand → TakesLeaf old (Err e) new → Stops X f e new
+leaf-none f stop.Memory old new h p = tt
+leaf-none f (stop.Token why left) old new h p = absurd (p h)
 
 -- what is around an operand that is wanted
 abbrev pub wanted : (k : ℕ) (s : List Frame) → List ℕ → need s ≡ k → Wanting k
 wanted k s ss h = record { around = record { frames = s; outside = ss }; wants = h }
 
-pub started : (ts : List Token) (r : Start) → starting ts ≡ r → (start.Other ≡ r → ⊥) → length (tail ts) < length ts
-started [] r h n = absurd (n h)
-started (t ∷ ts) r h n = omega arith
-
-pub went-on : (ts : List Token) (l : Link) → following ts ≡ link_next l → length (tail ts) < length ts
-went-on [] l h = absurd (no-link l h)
-went-on (t ∷ ts) l h = omega arith
-
-pub marked : (m : Mark) (ts : List Token) → starts (is_mark m) ts ≡ true → length (tail ts) < length ts
-marked m [] h = cc
-marked m (t ∷ ts) h = omega arith
-
 -- ---- A part of an `if` and the word behind it.
 word-goes : (q : Part) (mid new : Ahead) (h : Held) → Passes (mark_behind q) mid (Ok tt) new → (x : Around)
     → leave (counts mid.depth x.outside) h (frame_of q ∷ x.frames) mid.rest ≡ from new (λ s. Want (next_frame q h.body ∷ s)) x
-word-goes (Test at) mid new h p x = then-goes mid new at h p x
-word-goes (Yes at a) mid new h p x = else-goes mid new at a h p x
+word-goes (Test at) mid new h p x =
+    mark-met mark.Then mid.rest _ (Asked at) h.body x.frames (Want (Answered at h.body ∷ x.frames)) p.0 (λ up. refl) refl p.3 ∙ moved _ _ new p.1 p.2
+word-goes (Yes at a) mid new h p x =
+    mark-met mark.Else mid.rest _ (Answered at a) h.body x.frames (Want (Else at a h.body ∷ x.frames)) p.0 (λ up. refl) refl p.3 ∙ moved _ _ new p.1 p.2
 
 word-missing : (q : Part) (ts : List Token) (c : Counts) (h : Held) (s : List Frame) → starts (is_mark (mark_behind q)) ts ≡ false
     → leave c h (frame_of q ∷ s) ts ≡ Err (Offends, ts)
-word-missing (Test at) ts c h s n = then-missing ts c at h s n
-word-missing (Yes at a) ts c h s n = else-missing ts c at a h s n
+word-missing (Test at) [] c h s n = refl
+word-missing (Test at) (t ∷ ts) c h s n = unmet t ts c (Asked at) h.body s (then-kind t.kind t.at at h.body s n)
+word-missing (Yes at a) [] c h s n = refl
+word-missing (Yes at a) (t ∷ ts) c h s n = unmet t ts c (Answered at a) h.body s (else-kind t.kind t.at at a h.body s n)
 
 pub part-goes : (m : Mark) (mid new : Ahead) (h : Held) → Passes m mid (Ok tt) new → (x : Choosing m)
     → leave (counts mid.depth x.around.outside) h (frame_of x.part ∷ x.around.frames) mid.rest

@@ -1,12 +1,11 @@
 -- The bytes of a word.
-use Rattle.std.proofs.Common.{◌≡◌, ℕ, zero, suc, ◌+◌, ◌<◌, ◌≤◌, true, false, cond, ◌||◌, List, [], ◌∷◌, take, refl, sym, ap, ◌∙◌, subst, inl, inr, arith}
-use Rattle.std.proofs.Common.{one-add, lit<}
+use Rattle.std.proofs.Common.{◌≡◌, ℕ, zero, suc, ◌<◌, ◌≤◌, true, ◌||◌, List, [], ◌∷◌, take, refl, sym, subst, inl, inr, arith, lit<}
 use Rattle.std.proofs.lemmas.Bool.{cases_Bool, or_cases, and_parts, leb-true, eqb-true}
 use Rattle.std.proofs.lemmas.Str.Ascii.{IsAscii-nil as ascii-none, IsAscii-cons as ascii-more}
 use Rattle.std.specs.Prelude.{◌==◌, nat_le, Result, Ok, Err, MatchResult, is_ok}
 use Rattle.std.specs.{List.prefix_len, Str.IsAscii, Char.is_ascii_alphanumeric, Char.is_ascii_digit, Int.is_in_range}
 use Rattle.rv_syntax.specs.Lexing.{is_word_byte, AreDigits}
-use Rattle.rv_syntax.proofs.FineTokens.{word-more, word-none}
+use Rattle.rv_syntax.proofs.FineTokens.{len-more, len-none}
 
 in-range : (lo hi b : ℕ) → is_in_range lo hi b ≡ true → hi < 128 → b < 128
 in-range lo hi b h l =
@@ -39,9 +38,9 @@ pub ascii_word : (bs : List ℕ) → IsAscii (take (prefix_len is_word_byte bs) 
 ascii_word [] = ascii-none
 ascii_word (b ∷ bs) =
     elim (cases_Bool (is_word_byte b)) [
-      | inl e ↦ subst (λ n. IsAscii (take n (b ∷ bs))) (sym (word-more b bs e))
+      | inl e ↦ subst (λ n. IsAscii (take n (b ∷ bs))) (sym (len-more is_word_byte b bs e))
           (ascii-more b (take (prefix_len is_word_byte bs) bs) (below b e) (ascii_word bs))
-      | inr e ↦ subst (λ n. IsAscii (take n (b ∷ bs))) (sym (word-none b bs e)) ascii-none
+      | inr e ↦ subst (λ n. IsAscii (take n (b ∷ bs))) (sym (len-none is_word_byte b bs e)) ascii-none
     ]
 
 digits-none : AreDigits []
@@ -51,17 +50,12 @@ digits-more : (b : ℕ) (bs : List ℕ) → is_ascii_digit b ≡ true → AreDig
 digits-more b bs h f zero l = h
 digits-more b bs h f (suc i) l = f i (omega arith)
 
-digit-more : (b : ℕ) (bs : List ℕ) → is_ascii_digit b ≡ true → prefix_len is_ascii_digit (b ∷ bs) ≡ suc (prefix_len is_ascii_digit bs)
-digit-more b bs e = ap (λ c. cond c (1 + prefix_len is_ascii_digit bs) 0) e ∙ one-add (prefix_len is_ascii_digit bs)
-
-digit-none : (b : ℕ) (bs : List ℕ) → is_ascii_digit b ≡ false → prefix_len is_ascii_digit (b ∷ bs) ≡ 0
-digit-none b bs e = ap (λ c. cond c (1 + prefix_len is_ascii_digit bs) 0) e
-
 -- the digits of a number
 pub digits_number : (bs : List ℕ) → AreDigits (take (prefix_len is_ascii_digit bs) bs)
 digits_number [] = digits-none
 digits_number (b ∷ bs) =
     elim (cases_Bool (is_ascii_digit b)) [
-      | inl e ↦ subst (λ n. AreDigits (take n (b ∷ bs))) (sym (digit-more b bs e)) (digits-more b (take (prefix_len is_ascii_digit bs) bs) e (digits_number bs))
-      | inr e ↦ subst (λ n. AreDigits (take n (b ∷ bs))) (sym (digit-none b bs e)) digits-none
+      | inl e ↦ subst (λ n. AreDigits (take n (b ∷ bs))) (sym (len-more is_ascii_digit b bs e))
+          (digits-more b (take (prefix_len is_ascii_digit bs) bs) e (digits_number bs))
+      | inr e ↦ subst (λ n. AreDigits (take n (b ∷ bs))) (sym (len-none is_ascii_digit b bs e)) digits-none
     ]

@@ -1,11 +1,10 @@
 -- A program is settled in one way, or refused by one fault, and never both.
 use Rattle.std.proofs.Common.{◌≡◌, ◌⊎◌, inl, inr, cond, IsTrue, List, [], ◌∷◌, Result, Ok, Err, IfOk, IfErr, refl, sym, ap, ◌∙◌}
 use Rattle.rv_tree.specs.{Tree.ProgramTree, Places.Identifier}
-use Rattle.rv_types.specs.declared.fault.NameFault.TheVariants.{NoNode, UnknownName, DefinedTwice, Undefined, TypeClash, Nonlinear, ClockClash, NotObserver}
-use Rattle.rv_types.specs.declared.fault.NameFault.TheVariants.{Memory}
 use Rattle.rv_types.specs.Settled.{IsSettled, IsFirstFault, HasCause, Answers, Refuses, groups, node_faults}
-use Rattle.rv_types.specs.{declared.fault.NameFault.NameFault, declared.typed.Typed.Typed, Names.is_declared, Names.node_names, Names.name_faults}
-use Rattle.rv_types.specs.{Scopes.type_faults, Scopes.observer_faults, Clocks.clock_faults, Faults.IsFirstOfGroups}
+use Rattle.rv_types.specs.Names.{is_declared, node_names, name_faults}
+use Rattle.rv_types.specs.{declared.fault.NameFault.TheVariants.NoNode, declared.fault.NameFault.TheVariants.Memory, declared.fault.NameFault.NameFault}
+use Rattle.rv_types.specs.{declared.typed.Typed.Typed, Scopes.type_faults, Scopes.observer_faults, Clocks.clock_faults, Faults.IsFirstOfGroups}
 use Rattle.rv_types.proofs.OneFault.{one_of_groups, none_first}
 
 pub one_way : (p : ProgramTree) (main : Identifier) (t u : Typed) → IsSettled p main t → IsSettled p main u → t ≡ u
@@ -34,25 +33,11 @@ not_both p main t f a b =
 
 pub caused : (p : ProgramTree) (main : Identifier) (f : NameFault) → IsFirstFault p main f → HasCause p main f
 caused p main Memory h = tt
-caused p main NoNode h = h
-caused p main (UnknownName at) h = h
-caused p main (DefinedTwice at) h = h
-caused p main (Undefined at) h = h
-caused p main (TypeClash at) h = h
-caused p main (Nonlinear at) h = h
-caused p main (ClockClash at) h = h
-caused p main (NotObserver at) h = h
+caused p main _ h = h
 
 cause : (p : ProgramTree) (main : Identifier) (f : NameFault) → HasCause p main f → (f ≡ Memory) ⊎ IsFirstFault p main f
 cause p main Memory h = inl refl
-cause p main NoNode h = inr h
-cause p main (UnknownName at) h = inr h
-cause p main (DefinedTwice at) h = inr h
-cause p main (Undefined at) h = inr h
-cause p main (TypeClash at) h = inr h
-cause p main (Nonlinear at) h = inr h
-cause p main (ClockClash at) h = inr h
-cause p main (NotObserver at) h = inr h
+cause p main _ h = inr h
 
 pub only_answer : (p : ProgramTree) (main : Identifier) (r : Result Typed NameFault) → IfOk r (λ t. IsSettled p main t) → IfErr r (HasCause p main)
     → (t : Typed) → IsSettled p main t → Answers t r

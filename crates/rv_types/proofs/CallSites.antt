@@ -1,16 +1,15 @@
 -- The calls of a node are among what has a site there, and so have sites of their own.
 use Rattle.std.proofs.Common.{◌≡◌, inl, inr, ℕ, zero, suc, ◌<◌, ◌≤◌, List, [], ◌∷◌, ◌++◌, length, get_or, refl, sym, ◌∙◌, ap, subst, arith, Option, Some}
 use Rattle.std.proofs.Common.{unwrap_or}
-use Rattle.std.proofs.lemmas.Bool.{cases_order}
-use Rattle.std.proofs.lemmas.List.Elements.{Contains-get_or, Contains-append_left, Contains-append_right}
+use Rattle.std.proofs.{lemmas.Bool.cases_order, lemmas.List.Elements.Contains-get_or, lemmas.List.Elements.Contains-append_left}
 use Rattle.std.specs.List.{Contains}
-use Rattle.rv_tree.specs.Tree.{Tree, Node, Form, True, False, Number, Named, Not, Minus, Pre, Current, When, Binary, If, AtMostOne, Call, Trees, None, More}
-use Rattle.rv_tree.specs.Tree.{EquationTree, AssertionTree, NodeTree}
+use Rattle.rv_tree.specs.Tree.{Tree, Node, Form, Not, Minus, Pre, Current, When, Binary, If, AtMostOne, Call, Trees, None, More, EquationTree, AssertionTree}
+use Rattle.rv_tree.specs.Tree.{NodeTree}
 use Rattle.rv_tree.specs.SitedParts.{SitedPart, part, comparison, parts, form_parts, trees_parts, equation_parts, assertion_parts, node_parts}
 use Rattle.rv_tree.specs.{Places.flows, Delays.IsNumbered}
 use Rattle.rv_types.specs.Instances.{CallTree, calls_in, form_calls, calls_in_all, calls_in_equations, calls_in_assertions, calls}
 use Rattle.rv_types.specs.WellFormed.{HasSites}
-use Rattle.rv_types.proofs.Members.{nothing_in, cons_cases, at_head, stands_at}
+use Rattle.rv_types.proofs.Members.{at_head, in_parts, stands_at}
 
 -- calls in the order of the parts that they are
 data AreAmong : List CallTree → List SitedPart → Type 0 where
@@ -32,10 +31,6 @@ mutual
   calls_among (Node at site form) = form_among at site form
 
   form_among : (at : ℕ) (site : Option ℕ) (form : Form) → AreAmong (form_calls at site form) (form_parts at site form)
-  form_among at site True = none
-  form_among at site False = none
-  form_among at site (Number v) = none
-  form_among at site (Named x) = none
   form_among at site (Not e) = calls_among e
   form_among at site (Minus e) = calls_among e
   form_among at site (Pre e) = left_out (calls_among e)
@@ -45,6 +40,7 @@ mutual
   form_among at site (If a b c) = among_append (calls_among a) (among_append (calls_among b) (calls_among c))
   form_among at site (AtMostOne es) = all_among es
   form_among at site (Call f es) = kept refl (all_among es)
+  form_among at site _ = none
 
   all_among : (es : Trees) → AreAmong (calls_in_all es) (trees_parts es)
   all_among None = none
@@ -102,14 +98,9 @@ module _ (n : NodeTree) (numbered : IsNumbered n) where
   part_site : (i : ℕ) (c : CallTree) → i < length (calls n) → (s : ℕ) × ((at_place i).site ≡ Some s) × (length (flows n) ≤ s)
       × (s ≡ (get_or (calls n) i c).site)
   part_site i c lt =
-      let w = numbered.next (at_place i) (there i lt) in
-      (w.0, w.1, w.2, ap (λ o. unwrap_or o 0) (sym w.1) ∙ site_is i c lt)
-    where
-      there : (i : ℕ) → i < length (calls n) → Contains (node_parts n) (at_place i)
-      there i lt = Contains-get_or (node_parts n) (place (node_among n) i) no_part (place_within (node_among n) i lt)
-
-      site_is : (i : ℕ) (c : CallTree) → i < length (calls n) → unwrap_or (at_place i).site 0 ≡ (get_or (calls n) i c).site
-      site_is i c lt = place_site (node_among n) i c no_part lt
+      let there = Contains-get_or (node_parts n) (place (node_among n) i) no_part (place_within (node_among n) i lt) in
+      let w = numbered.next (at_place i) there in
+      (w.0, w.1, w.2, ap (λ o. unwrap_or o 0) (sym w.1) ∙ place_site (node_among n) i c no_part lt)
 
   calls_apart : (i j : ℕ) (c : CallTree) → i < j → j < length (calls n) → (get_or (calls n) i c).site ≡ (get_or (calls n) j c).site → ⊥
   calls_apart i j c less lt same =
@@ -124,10 +115,6 @@ module _ (n : NodeTree) (numbered : IsNumbered n) where
     beyond = λ c w. let a = part_site w.0 c w.1 in let le = a.2 in let e : a.0 ≡ c.site = a.3 ∙ ap (λ (d : CallTree). d.site) w.2 in omega (arith, le, e);
     apart = calls_apart;
   }
-
--- a call has a site at all
-pub sited_call : (n : NodeTree) → IsNumbered n → (c : CallTree) → Contains (calls n) c → length (flows n) ≤ c.site
-sited_call n numbered = (has_sites n numbered).beyond
 
 -- calls with one site are one call
 pub one_call : (n : NodeTree) → HasSites n → (c d : CallTree) → Contains (calls n) c → Contains (calls n) d → c.site ≡ d.site → c ≡ d
@@ -144,17 +131,10 @@ one_call n has c d w v same =
     ]
 
 -- the right side of an equation that is a call has a site
-in_equations : (qs : List EquationTree) (q : EquationTree) (s : SitedPart) → Contains qs q → Contains (parts q.right) s → Contains (equation_parts qs) s
-in_equations [] q s w v = nothing_in q w
-in_equations (r ∷ qs) q s w v = elim (cons_cases r qs q w) [
-  | inl same ↦ Contains-append_left (parts r.right) (equation_parts qs) s (subst (λ (t : EquationTree). Contains (parts t.right) s) (sym same) v)
-  | inr rest ↦ Contains-append_right (parts r.right) (equation_parts qs) s (in_equations qs q s rest v)
-]
-
 pub right_site : (n : NodeTree) → IsNumbered n → (q : EquationTree) (at : ℕ) (site : Option ℕ) (f : List ℕ) (es : Trees) → Contains n.equations q
     → q.right ≡ Node at site (Call f es) → (s : ℕ) × (site ≡ Some s)
 right_site n numbered q at site f es w is =
-    let there = in_equations n.equations q (part at site) w (subst (λ (t : Tree). Contains (parts t) (part at site)) (sym is)
-    (at_head (part at site) (trees_parts es))) in
+    let there = in_parts (λ (q : EquationTree). parts q.right) equation_parts refl (λ q qs. refl) n.equations q (part at site) w
+    (subst (λ (t : Tree). Contains (parts t) (part at site)) (sym is) (at_head (part at site) (trees_parts es))) in
     let h = numbered.next (part at site) (Contains-append_left (equation_parts n.equations) (assertion_parts n.assertions) (part at site) there) in
     (h.0, h.1)

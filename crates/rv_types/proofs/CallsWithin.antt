@@ -1,9 +1,10 @@
 -- The calls that stand within an expression.
-use Rattle.rv_tree.specs.Tree.{AssertionTree, EquationTree, Trees, Tree}
-use Rattle.rv_types.proofs.Members.{cons_cases, nothing_in}
-use Rattle.rv_types.specs.Instances.{CallTree, IsArgument, calls_in_all, calls_in_assertions, calls_in_equations, calls_in, head, tail}
+use Rattle.rv_tree.specs.Tree.{AssertionTree, EquationTree, NodeTree, Trees, Tree}
+use Rattle.rv_tree.specs.Delays.{Delay, delays, delays_in_assertions, delays_in_equations, node_delays}
+use Rattle.rv_types.proofs.Members.{in_parts, of_parts}
+use Rattle.rv_types.specs.Instances.{CallTree, IsArgument, calls, calls_in_all, calls_in_assertions, calls_in_equations, calls_in, head, tail}
 use Rattle.rv_types.specs.Variables.{parts_of_all, parts}
-use Rattle.std.proofs.Common.{List, [], arith, inl, inr, refl, subst, sym, ℕ, ◌∷◌}
+use Rattle.std.proofs.Common.{List, inl, inr, refl, ℕ, ◌⊎◌}
 use Rattle.std.proofs.lemmas.List.Elements.{Contains-append_cases, Contains-append_left, Contains-append_right}
 use Rattle.std.specs.List.{Contains}
 
@@ -18,16 +19,26 @@ in_argument _ _ e d (head {es = es}) w = Contains-append_left (calls_in e) (call
 in_argument _ _ e d (tail {e = t} {es = es} {j = j} rest) w = Contains-append_right (calls_in t) (calls_in_all es) d (in_argument es j e d rest w)
 
 pub of_right : (qs : List EquationTree) (d : CallTree) → Contains (calls_in_equations qs) d → (q : EquationTree) × Contains qs q × Contains (calls_in q.right) d
-of_right [] d w = nothing_in d w
-of_right (r ∷ rs) d w = elim (Contains-append_cases (calls_in r.right) (calls_in_equations rs) d w) [
-  | inl here ↦ (r, (0, omega arith, refl), here)
-  | inr rest ↦ let v = of_right rs d rest in (v.0, Contains-append_right (r ∷ []) rs v.0 v.1, v.2)
-]
+of_right qs d w = of_parts (λ (q : EquationTree). calls_in q.right) calls_in_equations refl (λ q qs. refl) qs d w
 
 -- and in an assertion
 pub in_body : (qs : List AssertionTree) (q : AssertionTree) (d : CallTree) → Contains qs q → Contains (calls_in q.body) d → Contains (calls_in_assertions qs) d
-in_body [] q d w v = nothing_in q w
-in_body (r ∷ rs) q d w v = elim (cons_cases r rs q w) [
-  | inl same ↦ Contains-append_left (calls_in r.body) (calls_in_assertions rs) d (subst (λ (t : AssertionTree). Contains (calls_in t.body) d) (sym same) v)
-  | inr rest ↦ Contains-append_right (calls_in r.body) (calls_in_assertions rs) d (in_body rs q d rest v)
+in_body qs q d w v = in_parts (λ (a : AssertionTree). calls_in a.body) calls_in_assertions refl (λ a qs. refl) qs q d w v
+
+-- an equation whose right side is such, or an assertion that is
+abbrev pub HasSide : NodeTree → (Tree → Type 0) → Type 0
+HasSide n P = ((q : EquationTree) × Contains n.equations q × P q.right) ⊎ ((a : AssertionTree) × Contains n.assertions a × P a.body)
+
+-- a call of a node stands in one of them
+pub of_node : (n : NodeTree) (c : CallTree) → Contains (calls n) c → HasSide n (λ t. Contains (calls_in t) c)
+of_node n c w = elim (Contains-append_cases (calls_in_equations n.equations) (calls_in_assertions n.assertions) c w) [
+  | inl v ↦ inl (of_right n.equations c v)
+  | inr v ↦ inr (of_parts (λ (a : AssertionTree). calls_in a.body) calls_in_assertions refl (λ a rest. refl) n.assertions c v)
+]
+
+-- and so does what a node remembers
+pub delay_of_node : (n : NodeTree) (d : Delay) → Contains (node_delays n) d → HasSide n (λ t. Contains (delays t) d)
+delay_of_node n d w = elim (Contains-append_cases (delays_in_equations n.equations) (delays_in_assertions n.assertions) d w) [
+  | inl v ↦ inl (of_parts (λ (q : EquationTree). delays q.right) delays_in_equations refl (λ q qs. refl) n.equations d v)
+  | inr v ↦ inr (of_parts (λ (a : AssertionTree). delays a.body) delays_in_assertions refl (λ a rest. refl) n.assertions d v)
 ]

@@ -117,15 +117,15 @@ progress cs (suc k) = by (progress cs k)
         [ inl same ↦ inl (stable_next cs k (stable_from cs k same)) | inr more ↦ inr (omega arith) ]
 
 pub stable_end : (cs : List Clock) → Stable cs (suc (length cs))
-stable_end cs = by (progress cs (suc (length cs)))
-  where
-    by : Stable cs (suc (length cs)) ⊎ (suc (length cs) ≤ count (reached cs (suc (length cs))) (suc (length cs))) → Stable cs (suc (length cs))
-    by (inl stable) = stable
-    by (inr many) = elim (grows (reached cs (suc (length cs))) (reached cs (suc (suc (length cs)))) (λ i h. still_base cs (suc (length cs)) (On i) h)
-        (suc (length cs))) as (λ _. Stable cs (suc (length cs))) [
-          | inl same ↦ stable_from cs (suc (length cs)) same
-          | inr more ↦ absurd (omega (arith, count_small (reached cs (suc (suc (length cs)))) (suc (length cs))))
-        ]
+stable_end cs =
+    let k = suc (length cs) in
+    elim (progress cs k) [
+      | inl stable ↦ stable
+      | inr many ↦ elim (grows (reached cs k) (reached cs (suc k)) (λ i h. still_base cs k (On i) h) k) [
+        | inl same ↦ stable_from cs k same
+        | inr more ↦ absurd (omega (arith, count_small (reached cs (suc k)) k))
+      ]
+    ]
 
 pub grounded_ends : (n : NodeTree) (c : Clock) → IsGrounded n c → is_base (after (flow_clocks n) (suc (length (flow_clocks n))) c) ≡ true
 grounded_ends n _ at_base = ap is_base (after_base (flow_clocks n) (suc (length (flow_clocks n))))

@@ -2,19 +2,19 @@
 use Rattle.std.proofs.Common.{◌≡◌, inl, inr, ℕ, zero, suc, ◌+◌, ◌<◌, ◌≤◌, Bool, true, false, cond, ◌||◌, List, [], ◌∷◌, ◌++◌, map, flat_map, reverse, length}
 use Rattle.std.proofs.Common.{get_or, nat_lt, refl, sym, ◌∙◌, ap, subst, arith, Option, Some, is_some, append-nil, append_assoc, None as Nothing}
 use Rattle.std.proofs.lemmas.Bool.{le-ltb, or_cases, or_left, or_right}
-use Rattle.std.proofs.lemmas.List.{reverse-append, map-append, get_or-append-add, length-append}
+use Rattle.std.proofs.lemmas.List.{reverse-append, reverse-reverse, map-append, get_or-append-add, length-append}
 use Rattle.std.proofs.lemmas.List.Elements.{Contains-append_left, Contains-append_right, Contains-push}
 use Rattle.std.specs.List.{Contains}
 use Rattle.rv_tree.specs.{declared.tree.Name.Name, declared.tree.TypeDecl.TypeDecl, declared.tree.TypeName.TypeName, Tree.ConstantTree, Tree.ProgramTree}
 use Rattle.rv_tree.specs.{Places.Identifier, Places.is_same}
 use Rattle.rv_types.specs.{Names.texts, Names.is_declared, Names.stands_before, Names.labels_of, Names.constant_names, Names.label_names, Names.node_names}
-use Rattle.rv_types.specs.{Names.type_names, Names.type_use, Names.uses, Names.is_value_before, Names.is_clock_anyhow, Names.constant_uses, Kinds.LabelPlace}
-use Rattle.rv_types.specs.{Kinds.number_from, Kinds.label_from, Kinds.label_of, Kinds.kind_in_program, Scopes.constant_scope, Scopes.label_kind}
-use Rattle.rv_types.specs.{Scopes.as_declared, Scopes.constant_kind_after, Scopes.constant_kind, Scopes.constant_types_after, Scopes.constant_types}
-use Rattle.rv_types.specs.{Scopes.clash_unless, declared.typed.Kind.Kind, declared.typed.Kind.TheVariants.Labels, declared.fault.NameFault.NameFault}
-use Rattle.rv_types.specs.{declared.fault.NameFault.TheVariants.TypeClash, Parts.offset_of, Types.same_kind, Types.kind_of, Types.expression_types}
-use Rattle.rv_types.proofs.Members.{nothing_in, cons_cases, at_head, in_map, among_from, among_contains}
-use Rattle.rv_types.proofs.{FirstNames.declared_append, FirstNames.before_append, Turned.twice, RightNames.both_empty, NodeFlows.none_of, ExpressionKinds.typed}
+use Rattle.rv_types.specs.{Names.is_value_before, Names.is_clock_anyhow, Names.constant_uses, Kinds.LabelPlace, Kinds.number_from, Kinds.label_from}
+use Rattle.rv_types.specs.{Kinds.label_of, Kinds.kind_in_program, Scopes.constant_scope, Scopes.label_kind, Scopes.as_declared, Scopes.constant_kind_after}
+use Rattle.rv_types.specs.{Scopes.constant_kind, Scopes.constant_types_after, Scopes.constant_types, Scopes.clash_unless, declared.typed.Kind.Kind}
+use Rattle.rv_types.specs.{declared.typed.Kind.TheVariants.Labels, declared.fault.NameFault.NameFault, Parts.offset_of, Types.same_kind, Types.kind_of}
+use Rattle.rv_types.proofs.Members.{nothing_in, cons_cases, at_head, in_tail, in_map, among_from, among_contains}
+use Rattle.rv_types.proofs.{FirstNames.declared_append, FirstNames.before_append, RightNames.both_empty, RightNames.met, NodeFlows.none_of}
+use Rattle.rv_types.proofs.ExpressionKinds.{typed}
 use Rattle.rv_base.proofs.Lists.{from_map}
 
 -- What stands in a list stands in it turned round.
@@ -30,7 +30,7 @@ in_reverse (y ∷ ys) x w = subst (λ l. Contains l x) (sym (turned_more y ys)) 
 ])
 
 pub of_reverse : {X : Type 0} (xs : List X) (x : X) → Contains (reverse xs) x → Contains xs x
-of_reverse xs x w = subst (λ l. Contains l x) (twice xs) (in_reverse (reverse xs) x w)
+of_reverse xs x w = subst (λ l. Contains l x) (reverse-reverse xs) (in_reverse (reverse xs) x w)
 
 abbrev constant_name : ConstantTree → Name
 constant_name c = c.name
@@ -49,31 +49,22 @@ declared_by cs ds within x e =
 
 before_declared : (at : ℕ) (xs : List Name) (x : Identifier) → stands_before at xs x ≡ true → is_declared xs x ≡ true
 before_declared at [] x e = e
-before_declared at (y ∷ ys) x e = by (is_same y.text x) e (before_declared at ys x)
-  where
-    by : (b : Bool) → cond b (nat_lt y.at at) (stands_before at ys x) ≡ true → (stands_before at ys x ≡ true → is_declared ys x ≡ true)
-        → (b || is_declared ys x) ≡ true
-    by true e more = refl
-    by false e more = more e
+before_declared at (y ∷ ys) x e = (elim (is_same y.text x) as
+    (λ b. cond b (nat_lt y.at at) (stands_before at ys x) ≡ true → (b || is_declared ys x) ≡ true)
+    [ true ↦ (λ e. refl) | false ↦ (λ e. before_declared at ys x e) ]) e
 
 none_before : (at : ℕ) (xs : List Name) (x : Identifier) → ((y : Name) → Contains xs y → at ≤ y.at) → stands_before at xs x ≡ false
 none_before at [] x later = refl
-none_before at (y ∷ ys) x later = by (is_same y.text x) (later y (at_head y ys)) (none_before at ys x (λ z w. later z (Contains-append_right (y ∷ []) ys z w)))
-  where
-    by : (b : Bool) → at ≤ y.at → stands_before at ys x ≡ false → cond b (nat_lt y.at at) (stands_before at ys x) ≡ false
-    by true le more = le-ltb y.at at le
-    by false le more = more
+none_before at (y ∷ ys) x later = elim (is_same y.text x) as (λ b. cond b (nat_lt y.at at) (stands_before at ys x) ≡ false)
+    [ true ↦ le-ltb y.at at (later y (at_head y ys)) | false ↦ none_before at ys x (λ z w. later z (in_tail y ys z w)) ]
 
 -- Labels.
 
 number_known : (k : ℕ) (xs : List Name) (x : Identifier) → is_declared xs x ≡ true → is_some (number_from k xs x) ≡ true
 number_known k [] x e = cc
-number_known k (y ∷ ys) x e = by (is_same y.text x) e (number_known (k + 1) ys x)
-  where
-    by : (b : Bool) → (b || is_declared ys x) ≡ true → (is_declared ys x ≡ true → is_some (number_from (k + 1) ys x) ≡ true)
-        → is_some (cond b (Some k) (number_from (k + 1) ys x)) ≡ true
-    by true e more = refl
-    by false e more = more e
+number_known k (y ∷ ys) x e = (elim (is_same y.text x) as
+    (λ b. (b || is_declared ys x) ≡ true → is_some (cond b (Some k) (number_from (k + 1) ys x)) ≡ true)
+    [ true ↦ (λ e. refl) | false ↦ (λ e. number_known (k + 1) ys x e) ]) e
 
 label_known : (i : ℕ) (ds : List TypeDecl) (x : Identifier) → is_declared (flat_map labels_of ds) x ≡ true → is_some (label_from i ds x) ≡ true
 label_known i [] x e = cc
@@ -92,7 +83,7 @@ label_typed : (p : ProgramTree) (x : Identifier) → is_declared (label_names p)
 label_typed p x e = by (label_of p x) (label_known 0 p.types x e)
   where
     by : (o : Option LabelPlace) → is_some o ≡ true → is_some (elim o as (λ _. Option Kind) [ Nothing ↦ Nothing | Some l ↦ Some (Labels l.declaration) ]) ≡ true
-    by Nothing e = cc
+    by Nothing e = e
     by (Some l) e = refl
 
 -- a declared type that is met
@@ -100,11 +91,7 @@ as_declared_known : (p : ProgramTree) (at : ℕ) (d : Option TypeName) (o : Opti
     → elim d as (λ _. List NameFault) [ Nothing ↦ [] | Some t ↦ clash_unless at (kind_in_program p t) o ] ≡ [] → is_some (as_declared p d o) ≡ true
 as_declared_known p at Nothing o h e = h
 as_declared_known p at (Some t) Nothing h e = cc
-as_declared_known p at (Some t) (Some k) h e = by (same_kind k (kind_in_program p t)) e
-  where
-    by : (b : Bool) → cond b [] (TypeClash at ∷ []) ≡ [] → is_some (cond b (Some k) Nothing) ≡ true
-    by true e = refl
-    by false e = cc
+as_declared_known p at (Some t) (Some k) h e = ap (λ b. is_some (cond b (Some k) Nothing)) (met (same_kind k (kind_in_program p t)) _ e)
 
 -- the constants of a program stand in the order of their offsets
 abbrev pub IsRising : ProgramTree → Type 0
@@ -132,12 +119,10 @@ module _ (p : ProgramTree) (rising : IsRising p) (used : flat_map (constant_uses
 
   -- what a constant may refer to is a constant before it or a label
   known_before : (before rest : List ConstantTree) (c : ConstantTree) (x : Identifier) → p.constants ≡ reverse before ++ c ∷ rest
-      → is_value_before p c.name.at x ≡ true
-      → (is_declared (map constant_name before) x || is_declared (label_names p) x) ≡ true
+      → is_value_before p c.name.at x ≡ true → (is_declared (map constant_name before) x || is_declared (label_names p) x) ≡ true
   known_before before rest c x whole e = elim (or_cases (stands_before c.name.at (constant_names p) x) (stands_before c.name.at (label_names p) x) e) [
-    | inl constant ↦ or_left (is_declared (map constant_name before) x) (is_declared (label_names p) x)
-        (declared_by (reverse before) before (of_reverse before) x (in_front constant))
-    | inr label ↦ or_right (is_declared (map constant_name before) x) (is_declared (label_names p) x) (before_declared c.name.at (label_names p) x label)
+    | inl constant ↦ or_left _ _ (declared_by (reverse before) before (of_reverse before) x (in_front constant))
+    | inr label ↦ or_right _ _ (before_declared c.name.at (label_names p) x label)
   ]
     where
       split : constant_names p ≡ map constant_name (reverse before) ++ map constant_name (c ∷ rest)
@@ -153,8 +138,7 @@ module _ (p : ProgramTree) (rising : IsRising p) (used : flat_map (constant_uses
 
       in_front : stands_before c.name.at (constant_names p) x ≡ true → is_declared (map constant_name (reverse before)) x ≡ true
       in_front e =
-          told (is_declared (map constant_name (reverse before)) x) (stands_before c.name.at (map constant_name (reverse before)) x)
-          (stands_before c.name.at (map constant_name (c ∷ rest)) x)
+          told _ _ _
           (sym (before_append c.name.at (map constant_name (reverse before)) (map constant_name (c ∷ rest)) x)
           ∙ sym (ap (λ l. stands_before c.name.at l x) split) ∙ e) none
 
@@ -166,38 +150,23 @@ module _ (p : ProgramTree) (rising : IsRising p) (used : flat_map (constant_uses
   constant_typed before rest c whole right earlier =
       as_declared_known p (offset_of c.body) c.kind (kind_of (constant_scope (constant_kind_after p before)) c.body)
       (typed (constant_scope (constant_kind_after p before)) (is_value_before p c.name.at) is_clock_anyhow (is_declared (node_names p))
-      (λ x e. earlier x (known_before before rest c x whole e)) (λ x m e. cc) (λ f m e. cc)
-      c.body parts.0 body_uses)
-      parts.1
+      (λ x e. earlier x (known_before before rest c x whole e)) (λ x m e. cc) (λ f m e. cc) c.body (both_empty _ _ right).0
+      (both_empty _ _ (none_of (constant_uses p) p.constants c used there)).1)
+      (both_empty _ _ right).1
     where
-      parts : (expression_types (constant_scope (constant_kind_after p before)) c.body ≡ [])
-          × (elim c.kind as (λ _. List NameFault) [
-            | Nothing ↦ []
-            | Some t ↦ clash_unless (offset_of c.body) (kind_in_program p t)
-                (kind_of (constant_scope (constant_kind_after p before)) c.body)
-          ] ≡ [])
-      parts = both_empty _ _ right
-
       there : Contains p.constants c
       there = subst (λ l. Contains l c) (sym whole) (Contains-append_right (reverse before) (c ∷ rest) c (at_head c rest))
-
-      body_uses : uses (is_value_before p c.name.at) is_clock_anyhow (is_declared (node_names p)) c.body ≡ []
-      body_uses =
-          (both_empty (elim c.kind as (λ _. List NameFault) [ Nothing ↦ [] | Some t ↦ type_use (stands_before c.name.at (type_names p)) t ])
-          (uses (is_value_before p c.name.at) is_clock_anyhow (is_declared (node_names p)) c.body) (none_of (constant_uses p) p.constants c used there)).1
 
   kinds_known : (cs rest : List ConstantTree) → p.constants ≡ reverse cs ++ rest → constant_types p cs ≡ [] → (x : Identifier)
       → (is_declared (map constant_name cs) x || is_declared (label_names p) x) ≡ true → is_some (constant_kind_after p cs x) ≡ true
   kinds_known [] rest whole right x e = label_typed p x e
   kinds_known (c ∷ before) rest whole right x e =
+      let parts = both_empty _ _ right in
       by (is_same c.name.text x) e (constant_typed before rest c next parts.1 (kinds_known before (c ∷ rest) next parts.0))
       (kinds_known before (c ∷ rest) next parts.0 x)
     where
       next : p.constants ≡ reverse before ++ c ∷ rest
       next = whole ∙ ap (λ l. l ++ rest) (turned_more c before) ∙ append_assoc (reverse before) (c ∷ []) rest
-
-      parts : (constant_types p before ≡ []) × (constant_types_after p before c ≡ [])
-      parts = both_empty _ _ right
 
       by : (b : Bool) → ((b || is_declared (map constant_name before) x) || is_declared (label_names p) x) ≡ true
           → is_some (as_declared p c.kind (kind_of (constant_scope (constant_kind_after p before)) c.body)) ≡ true
@@ -210,9 +179,8 @@ module _ (p : ProgramTree) (rising : IsRising p) (used : flat_map (constant_uses
   pub constants_known : constant_types p (reverse p.constants) ≡ [] → (x : Identifier)
       → (is_declared (constant_names p) x || is_declared (label_names p) x) ≡ true → is_some (constant_kind p x) ≡ true
   constants_known right x e =
-      kinds_known (reverse p.constants) [] (sym (append-nil (reverse (reverse p.constants)) ∙ twice p.constants)) right x
+      kinds_known (reverse p.constants) [] (sym (append-nil (reverse (reverse p.constants)) ∙ reverse-reverse p.constants)) right x
       (elim (or_cases (is_declared (constant_names p) x) (is_declared (label_names p) x) e) [
-        | inl constant ↦ or_left (is_declared (map constant_name (reverse p.constants)) x) (is_declared (label_names p) x)
-            (declared_by p.constants (reverse p.constants) (in_reverse p.constants) x constant)
-        | inr label ↦ or_right (is_declared (map constant_name (reverse p.constants)) x) (is_declared (label_names p) x) label
+        | inl constant ↦ or_left _ _ (declared_by p.constants (reverse p.constants) (in_reverse p.constants) x constant)
+        | inr label ↦ or_right _ _ label
       ])

@@ -2,8 +2,8 @@
 use Rattle.std.proofs.Common.{◌≡◌, ℕ, List, [], ◌∷◌, ◌++◌, flat_map, unwrap_or, Option, refl, sym, ◌∙◌, ap}
 use Rattle.std.proofs.lemmas.List.{map-append}
 use Rattle.rv_tree.specs.Delays.{Delay, delays, form_delays, delays_of_all, delays_in_equations, delays_in_assertions, node_delays}
-use Rattle.rv_tree.specs.Tree.{Tree, Node, Form, True, False, Number, Named, Not, Minus, Pre, Current, When, Binary, If, AtMostOne, Call, Trees, None, More}
-use Rattle.rv_tree.specs.Tree.{EquationTree, AssertionTree, NodeTree}
+use Rattle.rv_tree.specs.Tree.{Tree, Node, Form, Not, Minus, Pre, Current, When, Binary, If, AtMostOne, Call, Trees, None, More, EquationTree, AssertionTree}
+use Rattle.rv_tree.specs.Tree.{NodeTree}
 use Rattle.rv_types.specs.Delayed.{delayed_kind, delayed_kinds, delayed_in, form_delayed, delayed_in_all, node_delayed}
 use Rattle.rv_types.specs.{declared.typed.Kind.Kind, Types.Scope, Types.kind_of}
 use Rattle.rv_types.specs.declared.typed.Kind.TheVariants as kind
@@ -17,10 +17,6 @@ module _ (s : Scope) where
     in_expression (Node at site form) = in_form site form
 
     in_form : (site : Option ℕ) (form : Form) → form_delayed s form ≡ delayed_kinds s (form_delays site form)
-    in_form site True = refl
-    in_form site False = refl
-    in_form site (Number v) = refl
-    in_form site (Named x) = refl
     in_form site (Not e) = in_expression e
     in_form site (Minus e) = in_expression e
     in_form site (Pre e) = ap (λ (l : List Kind). unwrap_or (kind_of s e) kind.Bool ∷ l) (in_expression e)
@@ -32,6 +28,7 @@ module _ (s : Scope) where
         (both (delays b) (delays c) (delayed_in s b) (delayed_in s c) (in_expression b) (in_expression c))
     in_form site (AtMostOne es) = in_all es
     in_form site (Call f es) = in_all es
+    in_form site _ = refl
 
     in_all : (es : Trees) → delayed_in_all s es ≡ delayed_kinds s (delays_of_all es)
     in_all None = refl

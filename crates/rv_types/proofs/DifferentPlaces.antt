@@ -4,7 +4,7 @@ use Rattle.rv_tree.specs.Places.{Sites}
 use Rattle.rv_types.proofs.{ChainLaws.no_flag, Members.at_head, Members.cons_cases, Members.in_tail, Members.nothing_in}
 use Rattle.rv_types.specs.Variables.{different, is_place_in, same_place, total}
 use Rattle.std.proofs.Common.{Bool, List, [], ap, arith, cond, false, inl, inr, length, map, nat_eq, refl, subst, suc, sym, true, ℕ, ◌&&◌, ◌++◌, ◌+◌, ◌∙◌, ◌∷◌}
-use Rattle.std.proofs.Common.{◌≡◌, ◌⊎◌, ◌||◌}
+use Rattle.std.proofs.Common.{◌≡◌, ◌||◌}
 use Rattle.std.proofs.{lemmas.Bool.Decides.nat_tests, lemmas.Bool.eq-eqb}
 use Rattle.std.specs.List.{Contains, flat_map}
 
@@ -30,19 +30,15 @@ same_places (x ∷ xs) (y ∷ ys) h =
 pub rest_of : {X : Type 0} (ys : List X) (x : X) → Contains ys x → (zs : List X) × (length ys ≡ suc (length zs))
     × ((z : X) → Contains ys z → (z ≡ x → ⊥) → Contains zs z)
 rest_of [] x w = nothing_in x w
-rest_of {X = X} (y ∷ ys) x w = elim (cons_cases y ys x w) [
-  | inl same ↦ (ys, refl, λ z v other. after ys z x same other (cons_cases y ys z v))
-  | inr rest ↦ let r = rest_of ys x rest in (y ∷ r.0, ap suc r.1, λ z v other. before r.0 ys x r.2 z other (cons_cases y ys z v))
+rest_of (y ∷ ys) x w = elim (cons_cases y ys x w) [
+  | inl same ↦ (ys, refl, λ z v other. elim (cons_cases y ys z v) [ inl e ↦ absurd (other (sym e ∙ same)) | inr u ↦ u ])
+  | inr rest ↦ let r = rest_of ys x rest in (
+    y ∷ r.0,
+    ap suc r.1,
+    λ z v other.
+        elim (cons_cases y ys z v) [ inl e ↦ subst (λ u. Contains (u ∷ r.0) z) (sym e) (at_head z r.0) | inr u ↦ in_tail y r.0 z (r.2 z u other) ],
+  )
 ]
-  where
-    after : (ys : List X) (z x : X) → y ≡ x → (z ≡ x → ⊥) → (y ≡ z) ⊎ Contains ys z → Contains ys z
-    after ys z x same other (inl e) = absurd (other (sym e ∙ same))
-    after ys z x same other (inr v) = v
-
-    before : (zs ys : List X) (x : X) → ((z : X) → Contains ys z → (z ≡ x → ⊥) → Contains zs z) → (z : X) → (z ≡ x → ⊥) → (y ≡ z) ⊎ Contains ys z
-        → Contains (y ∷ zs) z
-    before zs ys x keeps z other (inl e) = subst (λ u. Contains (u ∷ zs) z) (sym e) (at_head z zs)
-    before zs ys x keeps z other (inr v) = in_tail y zs z (keeps z v other)
 
 pub of_different : (qs : List Sites) (q : Sites) → Contains (different qs) q → Contains qs q
 of_different [] q w = nothing_in q w

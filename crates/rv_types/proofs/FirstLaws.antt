@@ -1,23 +1,14 @@
 -- What the first fault of a list is.
 use Rattle.std.proofs.Common.{◌≡◌, ℕ, ◌+◌, ◌*◌, ◌<◌, ◌≤◌, ◌⊎◌, inl, inr, Bool, true, false, cond, nat_le, List, [], ◌∷◌, Option, Some, None, Contains, refl}
-use Rattle.std.proofs.Common.{sym, ap, subst, arith, length, get_or, zero, suc}
+use Rattle.std.proofs.Common.{sym, subst, arith}
 use Rattle.std.proofs.{lemmas.Bool.cases_lt, lemmas.Bool.Decides.nat_tests}
-use Rattle.rv_types.specs.declared.fault.NameFault.TheVariants.{NoNode, UnknownName, DefinedTwice, Undefined, TypeClash, Nonlinear, ClockClash, NotObserver}
-use Rattle.rv_types.specs.declared.fault.NameFault.TheVariants.{Memory}
 use Rattle.rv_types.specs.Faults.{offset, number, ComesBefore, IsFirst}
-use Rattle.rv_types.specs.{declared.fault.NameFault.NameFault, Earliest.rank, Earliest.sooner, Earliest.first}
+use Rattle.rv_types.specs.{declared.fault.NameFault.TheVariants.NoNode, declared.fault.NameFault.NameFault, Earliest.rank, Earliest.sooner, Earliest.first}
 use Rattle.rv_types.proofs.Members.{at_head, cons_cases, in_tail}
 
 number_small : (f : NameFault) → number f < 16
 number_small NoNode = omega arith
-number_small (UnknownName a) = omega arith
-number_small (DefinedTwice a) = omega arith
-number_small (Undefined a) = omega arith
-number_small (TypeClash a) = omega arith
-number_small (Nonlinear a) = omega arith
-number_small (ClockClash a) = omega arith
-number_small (NotObserver a) = omega arith
-number_small Memory = omega arith
+number_small _ = omega arith
 
 by_rank : (a n b m : ℕ) → n < 16 → m < 16 → a * 16 + n ≤ b * 16 + m → (a < b) ⊎ ((a ≡ b) × (n ≤ m))
 by_rank a n b m h k l = elim (cases_lt a b) as (λ _. (a < b) ⊎ ((a ≡ b) × (n ≤ m))) [ inl p ↦ inl p | inr p ↦ inr (omega arith, omega arith) ]
@@ -25,24 +16,14 @@ by_rank a n b m h k l = elim (cases_lt a b) as (λ _. (a < b) ⊎ ((a ≡ b) × 
 pub before_from_rank : (f g : NameFault) → rank f ≤ rank g → ComesBefore f g
 before_from_rank f g h = by_rank (offset f) (number f) (offset g) (number g) (number_small f) (number_small g) h
 
-at_or_after : {X : Type 0} (x : X) (xs : List X) (y : X) (k : ℕ) → k < length (x ∷ xs) → get_or (x ∷ xs) k y ≡ y → (x ≡ y) ⊎ Contains xs y
-at_or_after x xs y zero h e = inl e
-at_or_after x xs y (suc k) h e = inr (k, omega arith, e)
-
 not_none : (x : NameFault) (o : Option NameFault) → sooner (Some x) o ≡ None → ⊥
 not_none x None h = cc
-not_none x (Some g) h = by (nat_le (rank x) (rank g)) h
-  where
-    by : (b : Bool) → cond b (Some x) (Some g) ≡ None → ⊥
-    by true e = cc
-    by false e = cc
+not_none x (Some g) h =
+    (elim (nat_le (rank x) (rank g)) as (λ b. cond b (Some x) (Some g) ≡ None → ⊥) [ true ↦ (λ e. cc) | false ↦ (λ e. cc) ]) h
 
 pub first_none : (fs : List NameFault) → first fs ≡ None → fs ≡ []
 first_none [] h = refl
 first_none (x ∷ xs) h = absurd (not_none x (first xs) h)
-
-pub nothing_first : (fs : List NameFault) → fs ≡ [] → first fs ≡ None
-nothing_first fs e = ap first e
 
 -- what is first by rank
 pub Least : NameFault → List NameFault → Type 0
@@ -51,11 +32,7 @@ Least f fs = Contains fs f × ((g : NameFault) → Contains fs g → rank f ≤ 
 least_cons : (x : NameFault) (xs : List NameFault) (f : NameFault) → Contains (x ∷ xs) f → rank f ≤ rank x → ((g : NameFault) → Contains xs g → rank f ≤ rank g)
     → Least f (x ∷ xs)
 unfolding Least
-least_cons x xs f m h below = (
-  m,
-  λ g n. elim (cons_cases x xs g n) as (λ _. rank f ≤ rank g)
-      [ inl e ↦ subst (λ y. rank f ≤ rank y) e h | inr k ↦ below g k ],
-)
+least_cons x xs f m h below = (m, λ g n. elim (cons_cases x xs g n) [ inl e ↦ subst (λ y. rank f ≤ rank y) e h | inr k ↦ below g k ])
 
 mutual_step : (x : NameFault) (xs : List NameFault) (f : NameFault) (o : Option NameFault) → first xs ≡ o → ((g : NameFault) → first xs ≡ Some g → Least g xs)
     → sooner (Some x) o ≡ Some f → Least f (x ∷ xs)

@@ -5,13 +5,11 @@ use Rattle.rv_tree.specs.{declared.tree.Name.Name, Places.Identifier, Places.is_
 use Rattle.rv_types.specs.{declared.fault.NameFault.NameFault, declared.fault.NameFault.TheVariants.DefinedTwice, Names.is_declared, Names.stands_before}
 use Rattle.rv_types.specs.{Names.repeated, Names.repeated_after, Firsts.with_name, Firsts.firsts_after, Firsts.firsts, Earliest.first, Earliest.sooner}
 use Rattle.rv_types.proofs.{Spaced.same_back, Joined.first_append, Joined.sooner_assoc}
-use Rattle.rv_base.proofs.Truths.{or_assoc, or_false}
+use Rattle.rv_base.proofs.Truths.{or_assoc, or_false, or_true}
 
 or_swap : (a b : Bool) → (a || b) ≡ (b || a)
-or_swap true true = refl
-or_swap true false = refl
-or_swap false true = refl
-or_swap false false = refl
+or_swap true b = sym (or_true b)
+or_swap false b = sym (or_false b)
 
 -- names with the same bytes are declared alike
 pub declared_alike : (xs : List Name) (t x : Identifier) → is_same t x ≡ true → is_declared xs t ≡ is_declared xs x
@@ -57,30 +55,24 @@ again_before at xs ys y x there = before_append at xs ys x ∙ tested (is_same y
         ap (λ b. cond b (stands_before at xs x) (stands_before at ys x)) declared ∙ sym (ap (λ b. cond b (stands_before at xs x) (nat_lt y.at at)) declared)
     tested false e = refl
 
-pub declared_after : (before xs : List Name) (x : Identifier) → is_declared (firsts_after before xs) x ≡ is_declared (before ++ xs) x
-declared_after before [] x = sym (or_false (is_declared before x)) ∙ sym (declared_append before [] x)
-declared_after before (y ∷ ys) x = declared_after (with_name before y) ys x ∙ tested (is_declared before y.text) refl
+-- what is read of names, where one that is there once more changes nothing, is read of the first of them
+read_after : {X : Type 0} (read : List Name → X) → ((xs ys : List Name) (y : Name) → is_declared xs y.text ≡ true → read (xs ++ ys) ≡ read (xs ++ y ∷ ys))
+    → (before xs : List Name) → read (firsts_after before xs) ≡ read (before ++ xs)
+read_after read again before [] = ap read (sym (append-nil before))
+read_after read again before (y ∷ ys) = read_after read again (with_name before y) ys ∙ tested (is_declared before y.text) refl
   where
-    tested : (b : Bool) → is_declared before y.text ≡ b → is_declared (cond b before (before ++ y ∷ []) ++ ys) x ≡ is_declared (before ++ y ∷ ys) x
-    tested true e = again_declared before ys y x e
-    tested false e = ap (λ l. is_declared l x) (append_assoc before (y ∷ []) ys)
+    tested : (b : Bool) → is_declared before y.text ≡ b → read (cond b before (before ++ y ∷ []) ++ ys) ≡ read (before ++ y ∷ ys)
+    tested true e = again before ys y e
+    tested false e = ap read (append_assoc before (y ∷ []) ys)
+
+pub declared_after : (before xs : List Name) (x : Identifier) → is_declared (firsts_after before xs) x ≡ is_declared (before ++ xs) x
+declared_after before xs x = read_after (λ l. is_declared l x) (λ xs ys y. again_declared xs ys y x) before xs
 
 pub declared_firsts : (xs : List Name) (x : Identifier) → is_declared (firsts xs) x ≡ is_declared xs x
 declared_firsts xs x = declared_after [] xs x
 
-before_nothing : (at : ℕ) (xs : List Name) (x : Identifier) → stands_before at xs x ≡ stands_before at (xs ++ []) x
-before_nothing at xs x = ap (λ l. stands_before at l x) (sym (append-nil xs))
-
-pub before_after : (at : ℕ) (before xs : List Name) (x : Identifier) → stands_before at (firsts_after before xs) x ≡ stands_before at (before ++ xs) x
-before_after at before [] x = before_nothing at before x
-before_after at before (y ∷ ys) x = before_after at (with_name before y) ys x ∙ tested (is_declared before y.text) refl
-  where
-    tested : (b : Bool) → is_declared before y.text ≡ b → stands_before at (cond b before (before ++ y ∷ []) ++ ys) x ≡ stands_before at (before ++ y ∷ ys) x
-    tested true e = again_before at before ys y x e
-    tested false e = ap (λ l. stands_before at l x) (append_assoc before (y ∷ []) ys)
-
 pub before_firsts : (at : ℕ) (xs : List Name) (x : Identifier) → stands_before at (firsts xs) x ≡ stands_before at xs x
-before_firsts at xs x = before_after at [] xs x
+before_firsts at xs x = read_after (λ l. stands_before at l x) (λ xs ys y. again_before at xs ys y x) [] xs
 
 -- which names stand before is all that counts for second declarations
 pub repeated_alike : (before others xs : List Name) → ((t : Identifier) → is_declared before t ≡ is_declared others t) → repeated before xs ≡ repeated others xs
@@ -111,8 +103,7 @@ repeated_append before (x ∷ xs) ys =
     let head = repeated_next before xs x in
     ap (λ l. cond (is_declared before x.text) (DefinedTwice x.at ∷ []) [] ++ l)
     (next ∙ rest ∙ (λ i. sym head i ++ repeated (firsts_after (with_name before x) xs) ys))
-    ∙ sym (append_assoc (cond (is_declared before x.text) (DefinedTwice x.at ∷ []) []) (repeated (x ∷ before) xs)
-    (repeated (firsts_after (with_name before x) xs) ys))
+    ∙ sym (append_assoc (cond (is_declared before x.text) (DefinedTwice x.at ∷ []) []) (repeated (x ∷ before) xs) _)
 
 pub firsts_append : (before xs ys : List Name) → firsts_after before (xs ++ ys) ≡ firsts_after (firsts_after before xs) ys
 firsts_append before [] ys = refl
@@ -135,25 +126,7 @@ all_first_after before (x ∷ xs) none = tested (is_declared before x.text) refl
 pub all_first : (xs : List Name) → repeated [] xs ≡ [] → firsts xs ≡ xs
 all_first xs none = all_first_after [] xs none
 
--- one more declaration of a list that is walked
-pub space_step : (space new items rest goal : List Name) (x : Name) → items ≡ x ∷ rest → new ≡ with_name space x
-    → firsts_after space items ≡ goal → firsts_after new rest ≡ goal
-space_step space new items rest goal x front is done = (λ i. firsts_after (is i) rest) ∙ (λ i. firsts_after space (sym front i)) ∙ done
-
-pub fault_step : (fault one both goal : Option NameFault) (space new items rest : List Name) (x : Name) → items ≡ x ∷ rest → new ≡ with_name space x
-    → one ≡ first (cond (is_declared space x.text) (DefinedTwice x.at ∷ []) []) → both ≡ sooner fault one
-    → sooner fault (first (repeated space items)) ≡ goal → sooner both (first (repeated new rest)) ≡ goal
-fault_step fault one both goal space new items rest x front is here joined done =
-    let next : first (repeated space (x ∷ rest)) ≡ sooner one (first (repeated (with_name space x) rest)) =
-    first_append (cond (is_declared space x.text) (DefinedTwice x.at ∷ []) []) (repeated (x ∷ space) rest)
-    ∙ (λ i. sooner (sym here i) (first (repeated_next space rest x i))) in
-    (λ i. sooner (joined i) (first (repeated (is i) rest)))
-    ∙ sooner_assoc fault one (first (repeated (with_name space x) rest))
-    ∙ ap (sooner fault) (sym next)
-    ∙ (λ i. sooner fault (first (repeated space (sym front i))))
-    ∙ done
-
--- and several more
+-- some more declarations of a list that is walked
 pub spaces_step : (space new items some rest goal : List Name) → items ≡ some ++ rest → new ≡ firsts_after space some
     → firsts_after space items ≡ goal → firsts_after new rest ≡ goal
 spaces_step space new items some rest goal front is done =
@@ -164,14 +137,22 @@ pub faults_step : (fault one both goal : Option NameFault) (space new items some
     → sooner fault (first (repeated space items)) ≡ goal → sooner both (first (repeated new rest)) ≡ goal
 faults_step fault one both goal space new items some rest front is here joined done =
     let next : first (repeated space (some ++ rest)) ≡ sooner one (first (repeated (firsts_after space some) rest)) =
-    ap first (repeated_append space some rest)
-    ∙ first_append (repeated space some) (repeated (firsts_after space some) rest)
+    ap first (repeated_append space some rest) ∙ first_append (repeated space some) (repeated (firsts_after space some) rest)
     ∙ (λ i. sooner (sym here i) (first (repeated (firsts_after space some) rest))) in
-    (λ i. sooner (joined i) (first (repeated (is i) rest)))
-    ∙ sooner_assoc fault one (first (repeated (firsts_after space some) rest))
-    ∙ ap (sooner fault) (sym next)
-    ∙ (λ i. sooner fault (first (repeated space (sym front i))))
-    ∙ done
+    (λ i. sooner (joined i) (first (repeated (is i) rest))) ∙ sooner_assoc fault one (first (repeated (firsts_after space some) rest))
+    ∙ ap (sooner fault) (sym next) ∙ (λ i. sooner fault (first (repeated space (sym front i)))) ∙ done
+
+-- and one more
+pub space_step : (space new items rest goal : List Name) (x : Name) → items ≡ x ∷ rest → new ≡ with_name space x
+    → firsts_after space items ≡ goal → firsts_after new rest ≡ goal
+space_step space new items rest goal x = spaces_step space new items (x ∷ []) rest goal
+
+pub fault_step : (fault one both goal : Option NameFault) (space new items rest : List Name) (x : Name) → items ≡ x ∷ rest → new ≡ with_name space x
+    → one ≡ first (cond (is_declared space x.text) (DefinedTwice x.at ∷ []) []) → both ≡ sooner fault one
+    → sooner fault (first (repeated space items)) ≡ goal → sooner both (first (repeated new rest)) ≡ goal
+fault_step fault one both goal space new items rest x front is here =
+    let found = here ∙ ap first (sym (append-nil (cond (is_declared space x.text) (DefinedTwice x.at ∷ []) []))) in
+    faults_step fault one both goal space new items (x ∷ []) rest front is found
 
 -- what stands before among the first names does among all
 pub after_firsts : (others : List Name) → repeated_after (firsts others) ≡ repeated_after others

@@ -1,6 +1,7 @@
 -- Operands and the types that are wanted of them, one after the other.
-use Rattle.std.proofs.Common.{◌≡◌, ℕ, ◌≤◌, zero, suc, ◌&&◌, nat_le, List, [], ◌∷◌, map, drop, length, Option, Some, is_some, refl, ◌∙◌, arith, None as Nothing}
-use Rattle.std.proofs.lemmas.Bool.Decides.{nat_tests}
+use Rattle.std.proofs.Common.{◌≡◌, ℕ, ◌≤◌, zero, suc, ◌&&◌, nat_le, List, [], ◌∷◌, map, drop, length, Option, Some, is_some, refl, ap, ◌∙◌, arith}
+use Rattle.std.proofs.Common.{None as Nothing}
+use Rattle.std.proofs.{lemmas.Bool.Decides.nat_tests, lemmas.List.drop_all}
 use Rattle.rv_tree.specs.{declared.tree.Expr.Expr, Tree.tree_of, Tree.trees}
 use Rattle.rv_types.specs.{declared.typed.Kind.Kind, Types.all_typed, Types.fit, Tables.suits_at}
 
@@ -18,16 +19,10 @@ pub fit_end : (ws : List Kind) (n : ℕ) → fit (drop n ws) [] ≡ nat_le (leng
 fit_end [] zero = refl
 fit_end [] (suc n) = grind (arith, nat_tests)
 fit_end (w ∷ ws) zero = grind (arith, nat_tests)
-fit_end (w ∷ ws) (suc n) = let e = fit_end ws n in let f : nat_le (length ws) n ≡ nat_le (suc (length ws)) (suc n) = grind (arith, nat_tests) in e ∙ f
-
-pub nothing_left : (es : List Expr) (n : ℕ) → length es ≤ n → trees (map tree_of (drop n es)) ≡ trees []
-nothing_left [] zero h = refl
-nothing_left [] (suc n) h = refl
-nothing_left (e ∷ es) zero h = absurd (omega (arith, h))
-nothing_left (e ∷ es) (suc n) h = nothing_left es n (omega (arith, h))
+fit_end (w ∷ ws) (suc n) = fit_end ws n ∙ (let f : nat_le (length ws) n ≡ nat_le (suc (length ws)) (suc n) = grind (arith, nat_tests) in f)
 
 pub none_left : {A : Type 0} (xs : List A) (n : ℕ) → length xs ≤ n → drop n xs ≡ []
-none_left [] zero h = refl
-none_left [] (suc n) h = refl
-none_left (x ∷ xs) zero h = absurd (omega (arith, h))
-none_left (x ∷ xs) (suc n) h = none_left xs n (omega (arith, h))
+none_left xs n h = drop_all n xs h
+
+pub nothing_left : (es : List Expr) (n : ℕ) → length es ≤ n → trees (map tree_of (drop n es)) ≡ trees []
+nothing_left es n h = ap (λ l. trees (map tree_of l)) (none_left es n h)

@@ -20,12 +20,6 @@ pub first_append : (xs ys : List NameFault) → first (xs ++ ys) ≡ sooner (fir
 first_append [] ys = refl
 first_append (x ∷ xs) ys = ap (sooner (Some x)) (first_append xs ys) ∙ sym (sooner_assoc (Some x) (first xs) (first ys))
 
-pub first_two : (xs ys zs : List NameFault) → first (xs ++ (ys ++ zs)) ≡ sooner (first xs) (sooner (first ys) (first zs))
-first_two xs ys zs = simp first_append
-
-pub first_three : (xs ys zs us : List NameFault) → first (xs ++ (ys ++ (zs ++ us))) ≡ sooner (first xs) (sooner (first ys) (sooner (first zs) (first us)))
-first_three xs ys zs us = simp first_append
-
 -- the faults of one element more
 pub mapped_step : {X Y : Type 0} (f : Y → List NameFault) (t : X → Y) (xs : List X) (k : ℕ) (x : X) (fault one both : Option NameFault) → k < length xs
     → x ≡ get_or xs k x

@@ -1,12 +1,11 @@
 -- What a name means after some declarations of different names, the last of them first, is what stands at its number.
-use Rattle.std.proofs.Common.{◌≡◌, ℕ, ◌+◌, zero, suc, Bool, true, false, ◌||◌, cond, List, [], ◌∷◌, ◌++◌, map, reverse, length, Option, Some, refl, sym, ap}
-use Rattle.std.proofs.Common.{◌∙◌, arith, slice_get, append_assoc, None as Nothing, length-append}
-use Rattle.std.proofs.{lemmas.List.reverse-append, lemmas.List.map-append, lemmas.Option.slice_get_past, lemmas.Bool.or_parts}
-use Rattle.std.specs.Cmp.Lexicographic.{same_text}
+use Rattle.std.proofs.Common.{◌≡◌, Bool, true, false, cond, List, [], ◌∷◌, ◌++◌, map, reverse, length, Option, Some, refl, sym, ap, ◌∙◌, arith, slice_get}
+use Rattle.std.proofs.Common.{None as Nothing, length-append, append-nil}
+use Rattle.std.proofs.{lemmas.List.reverse-append, lemmas.List.map-append}
 use Rattle.rv_tree.specs.{declared.tree.Name.Name, Places.Identifier, Places.is_same, Places.index_of}
-use Rattle.rv_types.specs.Names.{texts, is_declared, repeated}
-use Rattle.rv_types.specs.{declared.fault.NameFault.NameFault, declared.fault.NameFault.TheVariants.DefinedTwice, Tables.entry_in}
-use Rattle.rv_base.proofs.Lists.{get_push}
+use Rattle.rv_types.specs.{Names.texts, Names.is_declared, Names.repeated, Firsts.firsts, Tables.entry_in}
+use Rattle.rv_types.proofs.FirstNames.{declared_alike, declared_firsts, repeated_append}
+use Rattle.rv_types.proofs.{Entries.entry_found, Entries.found_in, Entries.found_after, Entries.either_of, Members.no_fault, RightNames.both_empty}
 
 -- what a name means after declarations, the last of them first
 abbrev pub last_of : {A B : Type 0} → (A → Name) → (List A → A → B) → List A → Identifier → Option B
@@ -26,93 +25,47 @@ pub all_of-map : {A B : Type 0} (f : A → B) (cs : List A) → all_of (λ befor
 all_of-map f [] = refl
 all_of-map f (c ∷ cs) = ap (λ ys. ys ++ f c ∷ []) (all_of-map f cs) ∙ sym (map-append f (reverse cs) (c ∷ [])) ∙ ap (map f) (sym (reverse-append (c ∷ []) cs))
 
-declared_there : (xs : List Name) (y : Name) (rest : List Name) (x : Identifier) → is_same y.text x ≡ true → is_declared (xs ++ y ∷ rest) x ≡ true
-declared_there [] y rest x e = ap (λ b. b || is_declared rest x) e
-declared_there (z ∷ xs) y rest x e = tested (is_same z.text x) (declared_there xs y rest x e)
-  where
-    tested : (a : Bool) {b : Bool} → b ≡ true → (a || b) ≡ true
-    tested true h = refl
-    tested false h = h
-
-index_there : (xs : List Name) (y : Name) (rest : List Name) (x : Identifier) → is_declared xs x ≡ false → is_same y.text x ≡ true
-    → index_of (texts (xs ++ y ∷ rest)) x ≡ length xs
-index_there [] y rest x none e = ap (λ b. cond b 0 (index_of (texts rest) x + 1)) e
-index_there (z ∷ xs) y rest x none e = tested (is_same z.text x) none (λ h. index_there xs y rest x h e)
-  where
-    tested : (a : Bool) {b : Bool} {k n : ℕ} → (a || b) ≡ false → (b ≡ false → k ≡ n) → cond a 0 (k + 1) ≡ suc n
-    tested true h i = cc
-    tested false h i = let e = i h in omega arith
-
-index_elsewhere : (xs : List Name) (y : Name) (rest : List Name) (x : Identifier) → is_same y.text x ≡ false → index_of (texts (xs ++ y ∷ rest)) x ≡ length xs
-    → ⊥
-index_elsewhere [] y rest x e h = tested (is_same y.text x) (index_of (texts rest) x) e h
-  where
-    tested : (a : Bool) (k : ℕ) → a ≡ false → cond a 0 (k + 1) ≡ 0 → ⊥
-    tested true k e h = cc
-    tested false k e h = omega (arith, h)
-index_elsewhere (z ∷ xs) y rest x e h = tested (is_same z.text x) (index_elsewhere xs y rest x e) h
-  where
-    tested : (a : Bool) {k n : ℕ} → (k ≡ n → ⊥) → cond a 0 (k + 1) ≡ suc n → ⊥
-    tested true i h = omega (arith, h)
-    tested false i h = i (omega (arith, h))
-
-no_fault : (b : Bool) (at : ℕ) (fs : List NameFault) → cond b (DefinedTwice at ∷ []) [] ++ fs ≡ [] → (b ≡ false) × (fs ≡ [])
-no_fault true at fs h = absurd (let x : ⊥ = cc in x)
-no_fault false at fs h = (refl, h)
-
--- where no name is declared twice, each is new among those before it
-pub fresh : (before xs : List Name) (y : Name) (rest : List Name) → repeated before (xs ++ y ∷ rest) ≡ []
-    → (is_declared before y.text ≡ false) × (is_declared xs y.text ≡ false)
-fresh before [] y rest h = ((no_fault _ _ _ h).0, refl)
-fresh before (x ∷ xs) y rest h =
-    let later = fresh (x ∷ before) xs y rest (no_fault _ _ _ h).1 in
-    let parts = or_parts _ _ later.0 in
-    (parts.1, ap (λ b. b || is_declared xs y.text) parts.0 ∙ later.1)
-
-pub get_elsewhere : {B : Type 0} (xs : List B) (v : B) (k : ℕ) → (k ≡ length xs → ⊥) → slice_get xs k ≡ slice_get (xs ++ v ∷ []) k
-get_elsewhere [] v zero h = absurd (h refl)
-get_elsewhere [] v (suc k) h = refl
-get_elsewhere (x ∷ xs) v zero h = refl
-get_elsewhere (x ∷ xs) v (suc k) h = get_elsewhere xs v k (λ e. h (ap suc e))
-
 -- the names of declarations, the last of them first, in the order of the text
 abbrev pub front_of : {A : Type 0} → (A → Name) → List A → List Name
 front_of name cs = all_of (λ before c. name c) cs
 
-here : {A B : Type 0} (name : A → Name) (mean : List A → A → B) (names rest : List Name) (c : A) (cs : List A) → names ≡ front_of name cs ++ name c ∷ rest
-    → repeated [] names ≡ [] → (x : Identifier) → is_same (name c).text x ≡ true → Some (mean cs c) ≡ entry_in names (all_of mean cs ++ mean cs c ∷ []) x
-here name mean names rest c cs e different x s =
-    let text = same_text (name c).text x (sym s) in
-    let new = (fresh [] (front_of name cs) (name c) rest (sym (ap (repeated []) e) ∙ different)).1 in
-    let absent : is_declared (front_of name cs) x ≡ false = sym (ap (is_declared (front_of name cs)) text) ∙ new in
-    let declared : is_declared names x ≡ true = ap (λ ns. is_declared ns x) e ∙ declared_there (front_of name cs) (name c) rest x s in
-    let at : index_of (texts names) x ≡ length (all_of mean cs) =
-    ap (λ ns. index_of (texts ns) x) e ∙ index_there (front_of name cs) (name c) rest x absent s
-    ∙ all_of-length (λ before c. name c) cs ∙ sym (all_of-length mean cs) in
-    sym (ap (λ b. cond b (slice_get (all_of mean cs ++ mean cs c ∷ []) (index_of (texts names) x)) Nothing) declared
-    ∙ ap (slice_get (all_of mean cs ++ mean cs c ∷ [])) at ∙ get_push (all_of mean cs) (mean cs c))
+either_none : {A : Type 0} (o : Option A) → either_of o Nothing ≡ o
+either_none Nothing = refl
+either_none (Some a) = refl
 
-elsewhere : {A B : Type 0} (name : A → Name) (mean : List A → A → B) (names rest : List Name) (c : A) (cs : List A) → names ≡ front_of name cs ++ name c ∷ rest
-    → (x : Identifier) → is_same (name c).text x ≡ false → entry_in names (all_of mean cs) x ≡ entry_in names (all_of mean cs ++ mean cs c ∷ []) x
-elsewhere name mean names rest c cs e x s =
-    let not_at : (index_of (texts names) x ≡ length (all_of mean cs)) → ⊥ = λ at.
-    index_elsewhere (front_of name cs) (name c) rest x s
-    (sym (ap (λ ns. index_of (texts ns) x) e) ∙ at ∙ all_of-length mean cs ∙ sym (all_of-length (λ before c. name c) cs)) in
-    ap (λ o. cond (is_declared names x) o Nothing) (get_elsewhere (all_of mean cs) (mean cs c) (index_of (texts names) x) not_at)
+found_nothing : {A : Type 0} (names : List Name) (x : Identifier) → found_in {A = A} names [] x ≡ Nothing
+found_nothing [] x = refl
+found_nothing (n ∷ names) x = refl
 
-nothing_at : {B : Type 0} (b : Bool) (k : ℕ) → cond b (slice_get {X = B} [] k) Nothing ≡ Nothing
-nothing_at true k = slice_get_past [] k (omega arith)
-nothing_at false k = refl
+as_many : {A B : Type 0} (name : A → Name) (mean : List A → A → B) (cs : List A) → length (front_of name cs) ≡ length (all_of mean cs)
+as_many name mean cs = all_of-length (λ before c. name c) cs ∙ sym (all_of-length mean cs)
+
+-- where no name is declared twice, the last declaration of a name is its first one
+last_found : {A B : Type 0} (name : A → Name) (mean : List A → A → B) (cs : List A) → repeated [] (front_of name cs) ≡ [] → (x : Identifier)
+    → last_of name mean cs x ≡ found_in (front_of name cs) (all_of mean cs) x
+last_found name mean [] different x = refl
+last_found name mean (c ∷ cs) different x =
+    tested (is_same (name c).text x) refl (last_found name mean cs parts.0 x)
+    ∙ sym (found_after (front_of name cs) (name c ∷ []) (all_of mean cs) (mean cs c ∷ []) x (as_many name mean cs))
+  where
+    parts : (repeated [] (front_of name cs) ≡ []) × (repeated (firsts (front_of name cs)) (name c ∷ []) ≡ [])
+    parts = both_empty _ _ (sym (repeated_append [] (front_of name cs) (name c ∷ [])) ∙ different)
+
+    tested : (b : Bool) → is_same (name c).text x ≡ b → last_of name mean cs x ≡ found_in (front_of name cs) (all_of mean cs) x
+        → cond b (Some (mean cs c)) (last_of name mean cs x) ≡ either_of (found_in (front_of name cs) (all_of mean cs) x) (cond b (Some (mean cs c)) Nothing)
+    tested true s before =
+        let absent : is_declared (front_of name cs) x ≡ false = sym (declared_alike (front_of name cs) (name c).text x s)
+        ∙ sym (declared_firsts (front_of name cs) (name c).text) ∙ (no_fault _ _ _ parts.1).0 in
+        let none = sym (entry_found (front_of name cs) (all_of mean cs) x)
+        ∙ ap (λ b. cond b (slice_get (all_of mean cs) (index_of (texts (front_of name cs)) x)) Nothing) absent in
+        sym (ap (λ o. either_of o (Some (mean cs c))) none)
+    tested false s before = before ∙ sym (either_none (found_in (front_of name cs) (all_of mean cs) x))
 
 pub last_is : {A B : Type 0} (name : A → Name) (mean : List A → A → B) (names rest : List Name) (cs : List A) → names ≡ front_of name cs ++ rest
     → repeated [] names ≡ [] → (x : Identifier) → last_of name mean cs x ≡ entry_in names (all_of mean cs) x
-last_is name mean names rest [] e different x = sym (nothing_at (is_declared names x) (index_of (texts names) x))
-last_is name mean names rest (c ∷ cs) e different x = tested (is_same (name c).text x) refl (last_is name mean names (name c ∷ rest) cs whole different x)
-  where
-    whole : names ≡ front_of name cs ++ name c ∷ rest
-    whole = e ∙ append_assoc (front_of name cs) (name c ∷ []) rest
-
-    tested : (b : Bool) → is_same (name c).text x ≡ b → last_of name mean cs x ≡ entry_in names (all_of mean cs) x
-        → cond b (Some (mean cs c)) (last_of name mean cs x) ≡ entry_in names (all_of mean cs ++ mean cs c ∷ []) x
-    tested true s before = here name mean names rest c cs whole different x s
-    tested false s before = before ∙ elsewhere name mean names rest c cs whole x s
+last_is name mean names rest cs e different x =
+    last_found name mean cs (both_empty _ _ (sym (repeated_append [] (front_of name cs) rest) ∙ sym (ap (repeated []) e) ∙ different)).0 x
+    ∙ sym (either_none (found_in (front_of name cs) (all_of mean cs) x))
+    ∙ ap (either_of (found_in (front_of name cs) (all_of mean cs) x)) (sym (found_nothing rest x))
+    ∙ sym (found_after (front_of name cs) rest (all_of mean cs) [] x (as_many name mean cs))
+    ∙ (λ i. found_in (sym e i) (append-nil (all_of mean cs) i) x) ∙ sym (entry_found names (all_of mean cs) x)

@@ -24,19 +24,20 @@ mod SomeFault
 mod NodeFlows
 mod Refusals
 pub mod Members
+pub mod Verdicts
 pub mod ConstantContents
 pub mod CallSites
 mod PartFaults
 mod ExpressionKinds
 pub mod ConstantKinds
 pub mod Paces
+pub mod Suiting
 mod RightSides
 mod NodeKinds
 pub mod WellNodes
 pub mod RisingConstants
 pub mod ConstantValues
 pub mod WideParts
-mod OperatorTrees
 mod PutKinds
 pub mod DelayedKinds
 pub mod HeadKinds

@@ -1,12 +1,13 @@
 -- What stands in lists, and names among names.
-use Rattle.std.proofs.Common.{◌≡◌, ℕ, zero, suc, ◌+◌, ◌<◌, ◌⊎◌, inl, inr, Bool, true, false, cond, ◌||◌, List, [], ◌∷◌, map, flat_map, length, get_or, refl}
-use Rattle.std.proofs.Common.{sym, ◌∙◌, ap, subst, arith}
+use Rattle.std.proofs.Common.{◌≡◌, ℕ, zero, suc, ◌+◌, ◌<◌, ◌⊎◌, inl, inr, Bool, true, false, cond, ◌||◌, List, [], ◌∷◌, ◌++◌, map, flat_map, length, get_or}
+use Rattle.std.proofs.Common.{refl, sym, ◌∙◌, ap, subst, arith, add-one}
 use Rattle.std.proofs.lemmas.List.Elements.{Contains-append_left, Contains-append_right, Contains-append_cases}
-use Rattle.std.proofs.{lemmas.Bool.or_left, lemmas.Bool.or_right, lemmas.Cmp.nat_list_eq_equiv, lemmas.List.get_or_default}
+use Rattle.std.proofs.{lemmas.Bool.or_left, lemmas.Bool.or_right, lemmas.Bool.or_parts, lemmas.Cmp.nat_list_eq_equiv, lemmas.List.get_or_default}
 use Rattle.std.specs.{List.Contains, Cmp.Lexicographic.same_text}
 use Rattle.rv_tree.specs.{declared.tree.Name.Name, Places.Identifier, Places.is_same, Places.is_among, Places.index_of}
-use Rattle.rv_types.specs.{declared.fault.NameFault.TheVariants.DefinedTwice, Names.texts, Names.is_declared, Names.repeated}
-use Rattle.rv_types.proofs.RightNames.{both_empty}
+use Rattle.rv_types.specs.{declared.fault.NameFault.NameFault, declared.fault.NameFault.TheVariants.DefinedTwice}
+use Rattle.rv_types.specs.Names.{texts, is_declared, repeated}
+use Rattle.rv_base.proofs.Truths.{clash}
 
 pub nothing_in : {X G : Type 0} (y : X) → Contains [] y → G
 nothing_in y w = absurd (let lt = w.1 in omega (arith, lt))
@@ -49,6 +50,18 @@ of_flat_map f (z ∷ zs) y w = elim (Contains-append_cases (f z) (flat_map f zs)
   | inr rest ↦ let v = of_flat_map f zs y rest in (v.0, in_tail z zs v.0 v.1, v.2)
 ]
 
+-- Lists that have a part for each element of another: what stands in all stands in one part, and the other way round.
+module _ {X Y : Type 0} (part : X → List Y) (all : List X → List Y) (none : all [] ≡ []) (more : (x : X) (xs : List X) → all (x ∷ xs) ≡ part x ++ all xs) where
+  as_flat_map : (xs : List X) → all xs ≡ flat_map part xs
+  as_flat_map [] = none
+  as_flat_map (x ∷ xs) = more x xs ∙ ap (λ l. part x ++ l) (as_flat_map xs)
+
+  pub of_parts : (xs : List X) (y : Y) → Contains (all xs) y → (x : X) × Contains xs x × Contains (part x) y
+  of_parts xs y w = of_flat_map part xs y (subst (λ l. Contains l y) (as_flat_map xs) w)
+
+  pub in_parts : (xs : List X) (x : X) (y : Y) → Contains xs x → Contains (part x) y → Contains (all xs) y
+  in_parts xs x y w v = subst (λ l. Contains l y) (sym (as_flat_map xs)) (in_flat_map part xs x y w v)
+
 -- Names among names.
 
 pub text_itself : (x : Identifier) → is_same x x ≡ true
@@ -63,40 +76,30 @@ among_from (y ∷ ys) x w = elim (cons_cases y ys x w) [
 
 pub index_there : (xs : List Identifier) (x : Identifier) → is_among xs x ≡ true → (index_of xs x < length xs) × (get_or xs (index_of xs x) [] ≡ x)
 index_there [] x e = cc
-index_there (y ∷ ys) x e = tested (is_same y x) refl e (index_there ys x)
-  where
-    tested : (b : Bool) → is_same y x ≡ b → (b || is_among ys x) ≡ true
-        → (is_among ys x ≡ true → (index_of ys x < length ys) × (get_or ys (index_of ys x) [] ≡ x))
-        → (cond b 0 (index_of ys x + 1) < suc (length ys)) × (get_or (y ∷ ys) (cond b 0 (index_of ys x + 1)) [] ≡ x)
-    tested true same e again = (omega arith, same_text y x (sym same))
-    tested false other e again =
-        let r = again e in
-        let lt = r.0 in
-        let next : index_of ys x + 1 ≡ suc (index_of ys x) = omega arith in
-        (omega (arith, lt), ap (λ k. get_or (y ∷ ys) k []) next ∙ r.1)
+index_there (y ∷ ys) x e = (elim (is_same y x) as (λ b. is_same y x ≡ b → (b || is_among ys x) ≡ true
+    → (cond b 0 (index_of ys x + 1) < suc (length ys)) × (get_or (y ∷ ys) (cond b 0 (index_of ys x + 1)) [] ≡ x)) [
+      | true ↦ (λ same e. (omega arith, same_text y x (sym same)))
+      | false ↦ (λ other e.
+          let r = index_there ys x e in
+          let lt = r.0 in
+          (omega (arith, lt), ap (λ k. get_or (y ∷ ys) k []) (add-one (index_of ys x)) ∙ r.1))
+    ]) refl e
 
 -- a name that is among some stands there
 pub among_contains : (xs : List Identifier) (x : Identifier) → is_among xs x ≡ true → Contains xs x
 among_contains xs x e = let w = index_there xs x e in (index_of xs x, w.0, get_or_default xs (index_of xs x) x [] w.0 ∙ w.1)
 
+pub no_fault : (b : Bool) (at : ℕ) (fs : List NameFault) → cond b (DefinedTwice at ∷ []) [] ++ fs ≡ [] → (b ≡ false) × (fs ≡ [])
+no_fault true at fs h = absurd (let x : ⊥ = cc in x)
+no_fault false at fs h = (refl, h)
+
 -- a name that stands where none stands twice is not among those before
 pub not_before : (before xs : List Name) → repeated before xs ≡ [] → (x : Identifier) → Contains (texts xs) x → is_declared before x ≡ false
 not_before before [] e x w = nothing_in x w
 not_before before (y ∷ ys) e x w = elim (cons_cases y.text (texts ys) x w) [
-  | inl same ↦ ap (is_declared before) (sym same) ∙ decided (is_declared before y.text) parts.0
-  | inr rest ↦ other (is_same y.text x) (is_declared before x) (not_before (y ∷ before) ys parts.1 x rest)
+  | inl same ↦ ap (is_declared before) (sym same) ∙ (no_fault _ _ _ e).0
+  | inr rest ↦ (or_parts _ _ (not_before (y ∷ before) ys (no_fault _ _ _ e).1 x rest)).1
 ]
-  where
-    parts : (cond (is_declared before y.text) (DefinedTwice y.at ∷ []) [] ≡ []) × (repeated (y ∷ before) ys ≡ [])
-    parts = both_empty (cond (is_declared before y.text) (DefinedTwice y.at ∷ []) []) (repeated (y ∷ before) ys) e
-
-    decided : (b : Bool) → cond b (DefinedTwice y.at ∷ []) [] ≡ [] → b ≡ false
-    decided true e = cc
-    decided false e = refl
-
-    other : (a b : Bool) → (a || b) ≡ false → b ≡ false
-    other true b e = cc
-    other false b e = e
 
 -- no two of different names are the same
 pub names_apart : (before xs : List Name) → repeated before xs ≡ [] → (j k : ℕ) → j < k → k < length (texts xs)
@@ -104,16 +107,10 @@ pub names_apart : (before xs : List Name) → repeated before xs ≡ [] → (j k
 names_apart before [] e j k less lt same = absurd (omega (arith, lt))
 names_apart before (x ∷ xs) e j zero less lt same = absurd (omega (arith, less))
 names_apart before (x ∷ xs) e (suc j) (suc k) less lt same =
-    names_apart (x ∷ before) xs (both_empty (cond (is_declared before x.text) (DefinedTwice x.at ∷ []) []) (repeated (x ∷ before) xs) e).1 j k
-    (omega (arith, less)) (omega (arith, lt)) same
+    names_apart (x ∷ before) xs (no_fault _ _ _ e).1 j k (omega (arith, less)) (omega (arith, lt)) same
 names_apart before (x ∷ xs) e zero (suc k) less lt same =
-    first (is_same x.text x.text) (is_declared before x.text) (text_itself x.text)
-    (not_before (x ∷ before) xs (both_empty (cond (is_declared before x.text) (DefinedTwice x.at ∷ []) []) (repeated (x ∷ before) xs) e).1 x.text
-    (k, omega (arith, lt), get_or_default (texts xs) k x.text [] (omega (arith, lt)) ∙ sym same))
-  where
-    first : (a b : Bool) → a ≡ true → (a || b) ≡ false → ⊥
-    first true b e f = cc
-    first false b e f = cc
+    let there : Contains (texts xs) x.text = (k, omega (arith, lt), get_or_default (texts xs) k x.text [] (omega (arith, lt)) ∙ sym same) in
+    clash (is_same x.text x.text) (text_itself x.text) (or_parts _ _ (not_before (x ∷ before) xs (no_fault _ _ _ e).1 x.text there)).0
 
 -- and so a name has one number
 pub one_number : (before xs : List Name) → repeated before xs ≡ [] → (j k : ℕ) → j < length (texts xs) → k < length (texts xs)
@@ -123,5 +120,4 @@ one_number before (x ∷ xs) e zero zero lj lk same = refl
 one_number before (x ∷ xs) e zero (suc k) lj lk same = absurd (names_apart before (x ∷ xs) e zero (suc k) (omega arith) lk same)
 one_number before (x ∷ xs) e (suc j) zero lj lk same = absurd (names_apart before (x ∷ xs) e zero (suc j) (omega arith) lj (sym same))
 one_number before (x ∷ xs) e (suc j) (suc k) lj lk same =
-    ap suc (one_number (x ∷ before) xs (both_empty (cond (is_declared before x.text) (DefinedTwice x.at ∷ []) []) (repeated (x ∷ before) xs) e).1 j k
-    (omega (arith, lj)) (omega (arith, lk)) same)
+    ap suc (one_number (x ∷ before) xs (no_fault _ _ _ e).1 j k (omega (arith, lj)) (omega (arith, lk)) same)

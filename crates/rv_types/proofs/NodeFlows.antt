@@ -11,15 +11,12 @@ none_of f xs x e h = at f xs x e h.0 h.1 h.2
   where
     at : {X A : Type 0} (f : X → List A) (xs : List X) (x : X) → flat_map f xs ≡ [] → (k : ℕ) → k < length xs → get_or xs k x ≡ x → f x ≡ []
     at f [] x e k lt is = absurd (omega arith)
-    at f (y ∷ ys) x e zero lt is = subst (λ z. f z ≡ []) is ((both_empty (f y) (flat_map f ys) e).0)
-    at f (y ∷ ys) x e (suc k) lt is = at f ys x ((both_empty (f y) (flat_map f ys) e).1) k (omega arith) is
+    at f (y ∷ ys) x e zero lt is = subst (λ z. f z ≡ []) is (both_empty _ _ e).0
+    at f (y ∷ ys) x e (suc k) lt is = at f ys x (both_empty _ _ e).1 k (omega arith) is
 
 -- in each node no rule of names is broken
-pub node_right :
-    (p : ProgramTree) → name_faults p ≡ [] → (n : NodeTree) → Contains p.nodes n
-    → names_in_node p n ≡ []
-node_right p right n there =
-    none_of (names_in_node p) p.nodes n (all_different p right).in_nodes there
+pub node_right : (p : ProgramTree) → name_faults p ≡ [] → (n : NodeTree) → Contains p.nodes n → names_in_node p n ≡ []
+node_right p right n there = none_of (names_in_node p) p.nodes n (all_different p right).in_nodes there
 
 -- flows of different names are those of its space
 pub flow_space : (n : NodeTree) → repeated [] (flow_names n) ≡ [] → texts (firsts (flow_names n)) ≡ flows n

@@ -1,26 +1,25 @@
 -- Where no rule of names and types is broken, the right sides, arguments and assertions of a node have the types that
 -- are wanted of them.
-use Rattle.std.proofs.Common.{◌≡◌, inl, inr, ℕ, zero, suc, ◌<◌, Bool, true, false, not, cond, ◌&&◌, ◌||◌, List, [], ◌∷◌, ◌++◌, map, flat_map, length, get_or}
-use Rattle.std.proofs.Common.{refl, sym, ◌∙◌, ap, subst, arith, Option, Some, is_some, slice_get, None as Nothing, unwrap_or}
-use Rattle.std.proofs.lemmas.List.{length-map, length-append}
-use Rattle.std.proofs.{lemmas.Bool.and_parts, lemmas.List.Elements.Contains-append_cases, lemmas.Option.slice_get-get_or}
+use Rattle.std.proofs.Common.{◌≡◌, inl, inr, ℕ, zero, suc, ◌<◌, Bool, true, false, not, cond, ◌&&◌, ◌||◌, List, [], ◌∷◌, map, flat_map, length, get_or, refl}
+use Rattle.std.proofs.Common.{sym, ◌∙◌, ap, subst, arith, Option, Some, is_some, slice_get, None as Nothing, unwrap_or}
+use Rattle.std.proofs.{lemmas.List.length-map, lemmas.List.length-append, lemmas.Bool.and_parts, lemmas.Option.slice_get-get_or}
 use Rattle.std.specs.{Option.option_map, List.Contains}
 use Rattle.rv_tree.specs.Tree.{Tree, Node, Call, Trees, None, More, EquationTree, AssertionTree, NodeTree, ProgramTree}
-use Rattle.rv_tree.specs.{declared.tree.Name.Name, declared.tree.Decl.Decl, Places.Identifier, Places.flows, Places.site_of, Places.is_flow, Places.is_same}
-use Rattle.rv_tree.specs.{Places.is_among, Delays.Delay, Delays.delays, Delays.delays_in_equations, Delays.delays_in_assertions, Delays.node_delays}
+use Rattle.rv_tree.specs.Places.{Identifier, flows, site_of, is_flow, is_same, is_among}
+use Rattle.rv_tree.specs.{declared.tree.Name.Name, declared.tree.Decl.Decl, Delays.Delay, Delays.delays, Delays.node_delays}
 use Rattle.rv_types.specs.Names.{texts, is_declared, constant_names, label_names, node_names, own_uses, uses, use_of, is_value, node_uses, clock_use}
 use Rattle.rv_types.specs.Names.{assertion_uses}
 use Rattle.rv_types.specs.Types.{Scope, Signature, suits, all_typed, fit, kind_of, kinds_of_all, own_type_fault, expression_types}
 use Rattle.rv_types.specs.Scopes.{constant_kind, value_kind, signature_of, signature_named, node_scope, clash_unless, left_kinds, sides_clash, several_clash}
 use Rattle.rv_types.specs.Scopes.{several_types, sides_types, equation_types, assertion_types, clock_types, types_in_node}
-use Rattle.rv_types.specs.Instances.{CallTree, calls_in, calls_in_all, calls_in_equations, calls_in_assertions, calls, IsArgument, head, tail, node_of, no_node}
+use Rattle.rv_types.specs.Instances.{CallTree, calls_in, calls_in_all, calls, IsArgument, head, tail, node_of, no_node}
 use Rattle.rv_types.specs.{declared.typed.Kind.Kind, declared.fault.NameFault.NameFault, declared.fault.NameFault.TheVariants.TypeClash, Parts.offset_of}
 use Rattle.rv_types.specs.{Parts.faults_of_all, Kinds.decl_kinds, Kinds.flow_kinds, Kinds.flow_kind, Kinds.node_among, Kinds.node_named}
-use Rattle.rv_types.specs.declared.typed.Kind.TheVariants as kind
-use Rattle.rv_types.proofs.Members.{nothing_in, cons_cases, at_head, in_tail, index_there}
 use Rattle.rv_types.proofs.PartFaults.{IsRightCall, calls_right, calls_of_all_right, delays_right, delays_of_all_right}
-use Rattle.rv_types.proofs.ExpressionKinds.{IsFitting, call_fits, use_known, typed, arguments_typed}
-use Rattle.rv_types.proofs.{RightNames.both_empty, NodeFlows.none_of, ConstantContents.kind_same, RightSides.IsNamedNode, RightSides.sides_known}
+use Rattle.rv_types.proofs.ExpressionKinds.{IsFitting, call_fits, typed, arguments_typed}
+use Rattle.rv_types.proofs.{Members.cons_cases, Members.index_there, CallsWithin.of_node, CallsWithin.delay_of_node, RightNames.both_empty, RightNames.met}
+use Rattle.rv_types.proofs.{NodeFlows.none_of, Verdicts.kind_same, RightSides.IsNamedNode, RightSides.sides_known}
+use Rattle.rv_types.specs.declared.typed.Kind.TheVariants as kind
 
 -- what is there
 pub the_some : {A : Type 0} (o : Option A) → is_some o ≡ true → (a : A) × (o ≡ Some a)
@@ -33,19 +32,15 @@ suits_same : (wanted : Kind) (o : Option Kind) (k : Kind) → suits wanted o ≡
 suits_same wanted Nothing k h e = cc
 suits_same wanted (Some j) k h e = let same : j ≡ k = cc in sym (kind_same j wanted h) ∙ same
 
-unless_met : (at : ℕ) (wanted : Kind) (o : Option Kind) → clash_unless at wanted o ≡ [] → suits wanted o ≡ true
-unless_met at wanted o e = by (suits wanted o) e
-  where
-    by : (b : Bool) → cond b [] (TypeClash at ∷ []) ≡ [] → b ≡ true
-    by true e = refl
-    by false e = cc
+is_wanted : (at : ℕ) (wanted : Kind) (o : Option Kind) → is_some o ≡ true → clash_unless at wanted o ≡ [] → o ≡ Some wanted
+is_wanted at wanted Nothing h e = cc
+is_wanted at wanted (Some k) h e = ap Some (kind_same k wanted (met _ _ e))
 
 -- as many, and each of its type
 pub fit_long : (ws : List Kind) (ks : List (Option Kind)) → fit ws ks ≡ true → length ws ≡ length ks
 fit_long [] [] e = refl
-fit_long [] (k ∷ ks) e = cc
-fit_long (w ∷ ws) [] e = cc
 fit_long (w ∷ ws) (k ∷ ks) e = ap suc (fit_long ws ks (and_parts (suits w k) (fit ws ks) e).1)
+fit_long _ _ e = cc
 
 pub fit_at : (ws : List Kind) (ks : List (Option Kind)) (j : ℕ) (k : Kind) → fit ws ks ≡ true → j < length ks → get_or ks j Nothing ≡ Some k
     → slice_get ws j ≡ Some k
@@ -87,26 +82,19 @@ no_type at true e h = cc
 no_type at false e h = cc
 
 several_sides : (s : Scope) (left : List (Option Kind)) (e : Tree) → several_types s left e ≡ [] → IsSeveral s left e
-several_sides s left (Node at site (Call f es)) e =
-    let h = both_empty (faults_of_all (own_type_fault s) es) (several_clash at (s.callee f) left (kinds_of_all s es)) e in
-    called at site f es h.0 h.1
-several_sides s left t e =
-    let h = both_empty (expression_types s t) (cond (is_some (kind_of s t)) (TypeClash (offset_of t) ∷ []) []) e in
-    untyped h.0 (no_type (offset_of t) (is_some (kind_of s t)) h.1)
+several_sides s left (Node at site (Call f es)) e = let h = both_empty _ _ e in called at site f es h.0 h.1
+several_sides s left t e = let h = both_empty _ _ e in untyped h.0 (no_type (offset_of t) (is_some (kind_of s t)) h.1)
 
 -- the outputs fit the left sides
 several_fits : (at : ℕ) (g : Option Signature) (left ks : List (Option Kind)) → is_some g ≡ true → all_typed ks ≡ true → several_clash at g left ks ≡ []
     → (h : Signature) × (g ≡ Some h) × (fit h.takes ks ≡ true) × (fit h.gives left ≡ true)
 several_fits at Nothing left ks known typed e = cc
 several_fits at (Some g) left ks known typed e =
-    let b = by (all_typed ks) (fit g.takes ks) (fit g.gives left) typed e in
-    (g, refl, b.0, b.1)
+    let b = by (all_typed ks) (fit g.takes ks) (fit g.gives left) typed e in (g, refl, b.0, b.1)
   where
     by : (a b c : Bool) → a ≡ true → cond (a && not (b && c)) (TypeClash at ∷ []) [] ≡ [] → (b ≡ true) × (c ≡ true)
     by true true true h e = (refl, refl)
-    by true true false h e = cc
-    by true false c h e = cc
-    by false b c h e = cc
+    by _ _ _ h e = cc
 
 node_known : (ns : List NodeTree) (f : Identifier) → is_among (texts (map (λ (m : NodeTree). m.name) ns)) f ≡ true → is_some (node_among ns f) ≡ true
 node_known [] f e = cc
@@ -135,8 +123,8 @@ pub record IsTypedNode (p : ProgramTree) (n : NodeTree) : Type 0 where
 
 pub typed_node : (p : ProgramTree) (n : NodeTree) → types_in_node p n ≡ [] → IsTypedNode p n
 typed_node p n e =
-    let a = both_empty (flat_map (clock_types p n) n.locals) (flat_map (equation_types p n) n.equations ++ flat_map (assertion_types p n) n.assertions) e in
-    let b = both_empty (flat_map (equation_types p n) n.equations) (flat_map (assertion_types p n) n.assertions) a.1 in
+    let a = both_empty _ _ e in
+    let b = both_empty _ _ a.1 in
     record { clocks = a.0; equations = b.0; assertions = b.1 }
 
 module _ (p : ProgramTree) (constants : (x : Identifier) → (is_declared (constant_names p) x || is_declared (label_names p) x) ≡ true
@@ -148,12 +136,8 @@ module _ (p : ProgramTree) (constants : (x : Identifier) → (is_declared (const
     pub flow_typed : (x : Identifier) → is_flow n x ≡ true → is_some (flow_kind p n x) ≡ true
     flow_typed x e =
         let lt = (index_there (flows n) x e).0 in
-        let size = many in
-        let within : site_of n x < length (flow_kinds p n) = omega (arith, lt, size) in
-        ap is_some (slice_get-get_or (flow_kinds p n) (site_of n x) kind.Bool within)
-      where
-        many : length (flow_kinds p n) ≡ length (flows n)
-        many = simp (length-append, length-map) (omega arith)
+        let many : length (flow_kinds p n) ≡ length (flows n) = simp (length-append, length-map) (omega arith) in
+        ap is_some (slice_get-get_or (flow_kinds p n) (site_of n x) kind.Bool (omega (arith, lt, many)))
 
     name_typed : (x : Identifier) → is_value p n x ≡ true → is_some (value_kind p n x) ≡ true
     name_typed x e = by (is_flow n x) e (flow_typed x)
@@ -168,13 +152,17 @@ module _ (p : ProgramTree) (constants : (x : Identifier) → (is_declared (const
 
     -- an expression whose names are known
     pub expression_typed : (e : Tree) → expression_types (node_scope p n) e ≡ [] → node_uses p n e ≡ [] → is_some (kind_of (node_scope p n) e) ≡ true
-    expression_typed e t u = typed (node_scope p n) (is_value p n) (is_flow n) (is_declared (node_names p)) name_typed (λ x m. flow_typed x)
-        (λ f m. callee_known f) e t u
+    expression_typed = typed (node_scope p n) (is_value p n) (is_flow n) (is_declared (node_names p)) name_typed (λ x m. flow_typed x) (λ f m. callee_known f)
 
-    all_expressions_typed : (es : Trees) → faults_of_all (own_type_fault (node_scope p n)) es ≡ []
-        → faults_of_all (own_uses (is_value p n) (is_flow n) (is_declared (node_names p))) es ≡ [] → all_typed (kinds_of_all (node_scope p n) es) ≡ true
-    all_expressions_typed es t u = arguments_typed (node_scope p n) (is_value p n) (is_flow n) (is_declared (node_names p)) name_typed (λ x m. flow_typed x)
-        (λ f m. callee_known f) es t u
+    abbrev pub HaveNames : Trees → Type 0
+    HaveNames es = faults_of_all (own_uses (is_value p n) (is_flow n) (is_declared (node_names p))) es ≡ []
+
+    abbrev pub HaveTypes : Trees → Type 0
+    HaveTypes es = faults_of_all (own_type_fault (node_scope p n)) es ≡ []
+
+    all_expressions_typed : (es : Trees) → HaveTypes es → HaveNames es → all_typed (kinds_of_all (node_scope p n) es) ≡ true
+    all_expressions_typed =
+        arguments_typed (node_scope p n) (is_value p n) (is_flow n) (is_declared (node_names p)) name_typed (λ x m. flow_typed x) (λ f m. callee_known f)
 
     -- Calls.
 
@@ -194,17 +182,13 @@ module _ (p : ProgramTree) (constants : (x : Identifier) → (is_declared (const
     right_call c t u =
         fitting_call c
         (call_fits c.at true (signature_named p c.name) (kinds_of_all (node_scope p n) c.args) (all_expressions_typed c.args t.below u.below)
-        (λ m. callee_known c.name (use_known (is_declared (node_names p) c.name) c.at u.here)) t.here).0
+        (λ m. callee_known c.name (met _ _ u.here)) t.here).0
 
     calls_fit_in : (t : Tree) → expression_types (node_scope p n) t ≡ [] → node_uses p n t ≡ [] → (c : CallTree) → Contains (calls_in t) c → IsFittingCall c
-    calls_fit_in t e u c w = right_call c (calls_right (own_type_fault (node_scope p n)) t e c w)
-        (calls_right (own_uses (is_value p n) (is_flow n) (is_declared (node_names p))) t u c w)
+    calls_fit_in t e u c w = right_call c (calls_right _ t e c w) (calls_right _ t u c w)
 
-    calls_fit_in_all : (es : Trees) → faults_of_all (own_type_fault (node_scope p n)) es ≡ []
-        → faults_of_all (own_uses (is_value p n) (is_flow n) (is_declared (node_names p))) es ≡ [] → (c : CallTree) → Contains (calls_in_all es) c
-        → IsFittingCall c
-    calls_fit_in_all es e u c w = right_call c (calls_of_all_right (own_type_fault (node_scope p n)) es e c w)
-        (calls_of_all_right (own_uses (is_value p n) (is_flow n) (is_declared (node_names p))) es u c w)
+    calls_fit_in_all : (es : Trees) → HaveTypes es → HaveNames es → (c : CallTree) → Contains (calls_in_all es) c → IsFittingCall c
+    calls_fit_in_all es e u c w = right_call c (calls_of_all_right _ es e c w) (calls_of_all_right _ es u c w)
 
     delays_typed_in : (t : Tree) → expression_types (node_scope p n) t ≡ [] → node_uses p n t ≡ [] → (d : Delay) → Contains (delays t) d
         → is_some (kind_of (node_scope p n) d.operand) ≡ true
@@ -217,36 +201,28 @@ module _ (p : ProgramTree) (constants : (x : Identifier) → (is_declared (const
     pub data IsSided (xs : List Name) (e : Tree) : Type 0 where
       single : (x : Name) → xs ≡ x ∷ [] → expression_types (node_scope p n) e ≡ []
           → sides_clash (offset_of e) (flow_kind p n x.text) (kind_of (node_scope p n) e) ≡ [] → IsSided xs e
-      several : (at : ℕ) (site : Option ℕ) (f : Identifier) (es : Trees) → (length xs ≡ 1 → ⊥) → e ≡ Node at site (Call f es)
-          → faults_of_all (own_type_fault (node_scope p n)) es ≡ [] → several_clash at (signature_named p f) (left_kinds p n xs)
-          (kinds_of_all (node_scope p n) es) ≡ [] → IsSided xs e
+      several : (at : ℕ) (site : Option ℕ) (f : Identifier) (es : Trees) → (length xs ≡ 1 → ⊥) → e ≡ Node at site (Call f es) → HaveTypes es
+          → several_clash at (signature_named p f) (left_kinds p n xs) (kinds_of_all (node_scope p n) es) ≡ [] → IsSided xs e
 
     many_sided : (xs : List Name) (e : Tree) → (length xs ≡ 1 → ⊥) → node_uses p n e ≡ [] → IsSeveral (node_scope p n) (left_kinds p n xs) e → IsSided xs e
     many_sided xs _ other u (called at site f es below own) = several at site f es other refl below own
     many_sided xs e other u (untyped types none) = absurd (none (expression_typed e types u))
 
     sided : (xs : List Name) (e : Tree) → node_uses p n e ≡ [] → sides_types p n xs e ≡ [] → IsSided xs e
-    sided [] e u h = many_sided [] e (λ is. let no : ⊥ = cc in no) u (several_sides (node_scope p n) [] e h)
-    sided (x ∷ []) e u h =
-        let s = both_empty (expression_types (node_scope p n) e) (sides_clash (offset_of e) (flow_kind p n x.text) (kind_of (node_scope p n) e)) h in
-        single x refl s.0 s.1
-    sided (x ∷ y ∷ xs) e u h = many_sided (x ∷ y ∷ xs) e (λ is. let no : ⊥ = cc in no) u (several_sides (node_scope p n) (left_kinds p n (x ∷ y ∷ xs)) e h)
+    sided (x ∷ []) e u h = let s = both_empty _ _ h in single x refl s.0 s.1
+    sided xs e u h = many_sided xs e (λ is. let no : ⊥ = cc in no) u (several_sides (node_scope p n) (left_kinds p n xs) e h)
 
     pub equation_sided : (q : EquationTree) → Contains n.equations q → IsSided q.lefts q.right
     equation_sided q w = sided q.lefts q.right (sides_known p n named q w).1 (none_of (equation_types p n) n.equations q right.equations w)
 
     -- the arguments of a call that is a right side
     several_uses : (q : EquationTree) (at : ℕ) (site : Option ℕ) (f : Identifier) (es : Trees) → Contains n.equations q → q.right ≡ Node at site (Call f es)
-        → (is_declared (node_names p) f ≡ true) × (faults_of_all (own_uses (is_value p n) (is_flow n) (is_declared (node_names p))) es ≡ [])
+        → (is_declared (node_names p) f ≡ true) × HaveNames es
     several_uses q at site f es w is =
-        let u = both_empty (own_uses (is_value p n) (is_flow n) (is_declared (node_names p)) (Node at site (Call f es)))
-        (faults_of_all (own_uses (is_value p n) (is_flow n) (is_declared (node_names p))) es)
-        (subst (λ t. node_uses p n t ≡ []) is (sides_known p n named q w).1) in
-        (use_known (is_declared (node_names p) f) at u.0, u.1)
+        let u = both_empty _ _ (subst (λ t. node_uses p n t ≡ []) is (sides_known p n named q w).1) in (met _ _ u.0, u.1)
 
     pub several_call : (q : EquationTree) (at : ℕ) (site : Option ℕ) (f : Identifier) (es : Trees) → Contains n.equations q → q.right ≡ Node at site (Call f es)
-        → faults_of_all (own_type_fault (node_scope p n)) es ≡ []
-        → several_clash at (signature_named p f) (left_kinds p n q.lefts) (kinds_of_all (node_scope p n) es) ≡ []
+        → HaveTypes es → several_clash at (signature_named p f) (left_kinds p n q.lefts) (kinds_of_all (node_scope p n) es) ≡ []
         → IsFittingCall (record { at = at; site = unwrap_or site 0; name = f; args = es })
         × (fit (decl_kinds p (node_of p f).outputs) (left_kinds p n q.lefts) ≡ true)
     several_call q at site f es w is below own =
@@ -278,9 +254,7 @@ module _ (p : ProgramTree) (constants : (x : Identifier) → (is_declared (const
 
     assertion_right : (a : AssertionTree) → Contains n.assertions a → (expression_types (node_scope p n) a.body ≡ [])
         × (clash_unless (offset_of a.body) kind.Bool (kind_of (node_scope p n) a.body) ≡ [])
-    assertion_right a w =
-        both_empty (expression_types (node_scope p n) a.body) (clash_unless (offset_of a.body) kind.Bool (kind_of (node_scope p n) a.body))
-        (none_of (assertion_types p n) n.assertions a right.assertions w)
+    assertion_right a w = both_empty _ _ (none_of (assertion_types p n) n.assertions a right.assertions w)
 
     assertion_uses_nil : (a : AssertionTree) → Contains n.assertions a → node_uses p n a.body ≡ []
     assertion_uses_nil a w = none_of (assertion_uses p n) n.assertions a named.assertions w
@@ -289,56 +263,22 @@ module _ (p : ProgramTree) (constants : (x : Identifier) → (is_declared (const
     pub assertion_typed : (a : AssertionTree) → Contains n.assertions a → kind_of (node_scope p n) a.body ≡ Some kind.Bool
     assertion_typed a w =
         let r = assertion_right a w in
-        let k = the_some (kind_of (node_scope p n) a.body) (expression_typed a.body r.0 (assertion_uses_nil a w)) in
-        k.1 ∙ ap Some (sym (suits_same kind.Bool (kind_of (node_scope p n) a.body) k.0
-        (unless_met (offset_of a.body) kind.Bool (kind_of (node_scope p n) a.body) r.1) k.1))
+        is_wanted (offset_of a.body) kind.Bool _ (expression_typed a.body r.0 (assertion_uses_nil a w)) r.1
 
     -- All calls and delays of the node.
 
-    in_equations : (qs : List EquationTree) → ((q : EquationTree) → Contains qs q → Contains n.equations q) → (c : CallTree)
-        → Contains (calls_in_equations qs) c → IsFittingCall c
-    in_equations [] within c w = nothing_in c w
-    in_equations (q ∷ qs) within c w = elim (Contains-append_cases (calls_in q.right) (calls_in_equations qs) c w) [
-      | inl here ↦ side_calls_fit q (within q (at_head q qs)) (equation_sided q (within q (at_head q qs))) c here
-      | inr rest ↦ in_equations qs (λ r v. within r (in_tail q qs r v)) c rest
-    ]
-
-    in_assertions : (qs : List AssertionTree) → ((a : AssertionTree) → Contains qs a → Contains n.assertions a) → (c : CallTree)
-        → Contains (calls_in_assertions qs) c → IsFittingCall c
-    in_assertions [] within c w = nothing_in c w
-    in_assertions (a ∷ rest) within c w = elim (Contains-append_cases (calls_in a.body) (calls_in_assertions rest) c w) [
-      | inl here ↦ calls_fit_in a.body (assertion_right a (within a (at_head a rest))).0 (assertion_uses_nil a (within a (at_head a rest))) c here
-      | inr more ↦ in_assertions rest (λ b v. within b (in_tail a rest b v)) c more
-    ]
-
     -- each call fits its node
     pub calls_fit : (c : CallTree) → Contains (calls n) c → IsFittingCall c
-    calls_fit c w = elim (Contains-append_cases (calls_in_equations n.equations) (calls_in_assertions n.assertions) c w) [
-      | inl v ↦ in_equations n.equations (λ q u. u) c v
-      | inr v ↦ in_assertions n.assertions (λ a u. u) c v
-    ]
-
-    delays_of_equations : (qs : List EquationTree) → ((q : EquationTree) → Contains qs q → Contains n.equations q) → (d : Delay)
-        → Contains (delays_in_equations qs) d → is_some (kind_of (node_scope p n) d.operand) ≡ true
-    delays_of_equations [] within d w = nothing_in d w
-    delays_of_equations (q ∷ qs) within d w = elim (Contains-append_cases (delays q.right) (delays_in_equations qs) d w) [
-      | inl here ↦ side_delays_typed q (within q (at_head q qs)) (equation_sided q (within q (at_head q qs))) d here
-      | inr rest ↦ delays_of_equations qs (λ r v. within r (in_tail q qs r v)) d rest
-    ]
-
-    delays_of_assertions : (qs : List AssertionTree) → ((a : AssertionTree) → Contains qs a → Contains n.assertions a) → (d : Delay)
-        → Contains (delays_in_assertions qs) d → is_some (kind_of (node_scope p n) d.operand) ≡ true
-    delays_of_assertions [] within d w = nothing_in d w
-    delays_of_assertions (a ∷ rest) within d w = elim (Contains-append_cases (delays a.body) (delays_in_assertions rest) d w) [
-      | inl here ↦ delays_typed_in a.body (assertion_right a (within a (at_head a rest))).0 (assertion_uses_nil a (within a (at_head a rest))) d here
-      | inr more ↦ delays_of_assertions rest (λ b v. within b (in_tail a rest b v)) d more
+    calls_fit c w = elim (of_node n c w) [
+      | inl v ↦ side_calls_fit v.0 v.1 (equation_sided v.0 v.1) c v.2
+      | inr v ↦ calls_fit_in v.0.body (assertion_right v.0 v.1).0 (assertion_uses_nil v.0 v.1) c v.2
     ]
 
     -- what is remembered has a type
     pub delays_typed : (d : Delay) → Contains (node_delays n) d → is_some (kind_of (node_scope p n) d.operand) ≡ true
-    delays_typed d w = elim (Contains-append_cases (delays_in_equations n.equations) (delays_in_assertions n.assertions) d w) [
-      | inl v ↦ delays_of_equations n.equations (λ q u. u) d v
-      | inr v ↦ delays_of_assertions n.assertions (λ a u. u) d v
+    delays_typed d w = elim (delay_of_node n d w) [
+      | inl v ↦ side_delays_typed v.0 v.1 (equation_sided v.0 v.1) d v.2
+      | inr v ↦ delays_typed_in v.0.body (assertion_right v.0 v.1).0 (assertion_uses_nil v.0 v.1) d v.2
     ]
 
     -- the flow of a declared clock is Boolean
@@ -348,8 +288,7 @@ module _ (p : ProgramTree) (constants : (x : Identifier) → (is_declared (const
         ≡ []) is (none_of (clock_types p n) n.locals d right.clocks w) in
         let uses = subst (λ (o : Option Name). elim o as (λ _. List NameFault) [ Nothing ↦ [] | Some c ↦ use_of (is_flow n) c ] ≡ []) is
         (none_of (clock_use n) n.locals d named.clocks w) in
-        let k = the_some (flow_kind p n c.text) (flow_typed c.text (use_known (is_flow n c.text) c.at uses)) in
-        k.1 ∙ ap Some (sym (suits_same kind.Bool (flow_kind p n c.text) k.0 (unless_met c.at kind.Bool (flow_kind p n c.text) clash) k.1))
+        is_wanted c.at kind.Bool _ (flow_typed c.text (met _ _ uses)) clash
 
     -- the two sides of an equation with one left side
     pub sides_typed : (at : ℕ) (x : Identifier) (e : Tree) → is_flow n x ≡ true → expression_types (node_scope p n) e ≡ [] → node_uses p n e ≡ []
@@ -357,7 +296,5 @@ module _ (p : ProgramTree) (constants : (x : Identifier) → (is_declared (const
         → (k : Kind) × (kind_of (node_scope p n) e ≡ Some k) × (flow_kind p n x ≡ Some k)
     sides_typed at x e flow types uses clash =
         let k = the_some (flow_kind p n x) (flow_typed x flow) in
-        let j = the_some (kind_of (node_scope p n) e) (expression_typed e types uses) in
-        let same : k.0 ≡ j.0 = suits_same k.0 (kind_of (node_scope p n) e) j.0
-        (unless_met at k.0 (kind_of (node_scope p n) e) (subst (λ (o : Option Kind). sides_clash at o (kind_of (node_scope p n) e) ≡ []) k.1 clash)) j.1 in
-        (k.0, j.1 ∙ ap Some (sym same), k.1)
+        let wanted = subst (λ (o : Option Kind). sides_clash at o (kind_of (node_scope p n) e) ≡ []) k.1 clash in
+        (k.0, is_wanted at k.0 _ (expression_typed e types uses) wanted, k.1)

@@ -12,14 +12,7 @@ numbered n at = cond (nat_eq n 4) NoNode (cond (nat_eq n 5) (UnknownName at) (co
 numbered_is : (f : NameFault) → numbered (number f) (offset f) ≡ f
 unfolding numbered
 numbered_is NoNode = refl
-numbered_is (UnknownName a) = refl
-numbered_is (DefinedTwice a) = refl
-numbered_is (Undefined a) = refl
-numbered_is (TypeClash a) = refl
-numbered_is (Nonlinear a) = refl
-numbered_is (ClockClash a) = refl
-numbered_is (NotObserver a) = refl
-numbered_is Memory = refl
+numbered_is _ = refl
 
 both_ways : (f g : NameFault) → ComesBefore f g → ComesBefore g f → (offset f ≡ offset g) × (number f ≡ number g)
 both_ways f g (inl a) (inl b) = absurd (omega (arith, a, b))

@@ -1,9 +1,8 @@
 -- Where no rule of clocks is broken, each expression is free or on a clock, and parts that join have one clock.
-use Rattle.std.proofs.Common.{◌≡◌, ◌⊎◌, inl, inr, ℕ, Bool, true, false, cond, List, [], ◌∷◌, ◌++◌, refl, sym, ◌∙◌, ap, subst}
+use Rattle.std.proofs.Common.{◌≡◌, ◌⊎◌, inl, inr, ℕ, Bool, true, false, cond, List, [], ◌∷◌, refl, sym, ◌∙◌, ap, subst}
 use Rattle.std.proofs.lemmas.Bool.{eqb-true}
 use Rattle.std.specs.List.{Contains}
-use Rattle.rv_tree.specs.Tree.{Tree, Node, Form, True, False, Number, Named, Not, Minus, Pre, Current, When, Binary, If, AtMostOne, Call, Trees, None, More}
-use Rattle.rv_tree.specs.Tree.{NodeTree}
+use Rattle.rv_tree.specs.Tree.{Tree, Node, Form, Named, Not, Minus, Pre, Current, When, Binary, If, AtMostOne, Call, Trees, None, More, NodeTree}
 use Rattle.rv_tree.specs.{declared.tree.Name.Name, declared.tree.Op.Op, Places.Identifier, Places.is_flow, Places.site_of}
 use Rattle.rv_tree.specs.declared.tree.Op.TheVariants as op
 use Rattle.rv_types.specs.declared.fault.Pace.TheVariants.{Free, At, Mute, Differ}
@@ -11,39 +10,31 @@ use Rattle.rv_types.specs.Clocks.{same_clock, seen, meet, grounded, clash_in, cl
 use Rattle.rv_types.specs.Clocks.{pace_of_all, own_clash, expression_clocks, left_pace}
 use Rattle.rv_types.specs.Instances.{IsArgument, head, tail, clock_of, taken, clock_of_args}
 use Rattle.rv_types.specs.{declared.typed.Clock.Clock, declared.typed.Clock.TheVariants.Base, declared.typed.Clock.TheVariants.On, declared.fault.Pace.Pace}
-use Rattle.rv_types.specs.{Parts.faults, Parts.faults_below, Parts.faults_of_all, Names.texts, ToldPaces.IsTimed}
+use Rattle.rv_types.specs.{Parts.faults_below, Parts.faults_of_all, Names.texts, ToldPaces.IsTimed}
 use Rattle.rv_types.proofs.{RightNames.both_empty, Members.nothing_in, Members.cons_cases}
 
 -- its parts have clocks
 abbrev IsHeard : Pace → Type 0
-IsHeard Free = Unit {0}
-IsHeard (At c) = Unit {0}
 IsHeard Mute = ⊥
-IsHeard Differ = Unit {0}
+IsHeard _ = Unit {0}
 
 heard : (p : Pace) → IsTimed p → IsHeard p
-heard Free h = tt
-heard (At c) h = tt
 heard Mute h = absurd h
 heard Differ h = absurd h
+heard _ h = tt
 
 timed : (at : ℕ) (p : Pace) → IsHeard p → clash_in at p ≡ [] → IsTimed p
-timed at Free h e = tt
-timed at (At c) h e = tt
 timed at Mute h e = absurd h
 timed at Differ h e = cc
+timed at _ h e = tt
 
 seen_timed : (p : Pace) → IsTimed p → seen p ≡ p
-seen_timed Free h = refl
-seen_timed (At c) h = refl
 seen_timed Mute h = absurd h
 seen_timed Differ h = absurd h
+seen_timed _ h = refl
 
 seen_heard : (p : Pace) → IsTimed p → IsHeard (seen p)
-seen_heard Free h = tt
-seen_heard (At c) h = tt
-seen_heard Mute h = absurd h
-seen_heard Differ h = absurd h
+seen_heard p h = subst IsHeard (sym (seen_timed p h)) (heard p h)
 
 choice_heard : (b : Bool) (c : Clock) → IsHeard (cond b (At c) Differ)
 choice_heard true c = tt
@@ -51,24 +42,17 @@ choice_heard false c = tt
 
 meet_heard : (p q : Pace) → IsHeard p → IsHeard q → IsHeard (meet p q)
 meet_heard Mute q g h = absurd g
-meet_heard Free Free g h = tt
-meet_heard Free (At d) g h = tt
 meet_heard Free Mute g h = absurd h
-meet_heard Free Differ g h = tt
-meet_heard (At c) Free g h = tt
+meet_heard Free _ g h = tt
 meet_heard (At c) (At d) g h = choice_heard (same_clock c d) c
 meet_heard (At c) Mute g h = absurd h
-meet_heard (At c) Differ g h = tt
-meet_heard Differ Free g h = tt
-meet_heard Differ (At d) g h = tt
+meet_heard (At c) _ g h = tt
 meet_heard Differ Mute g h = absurd h
-meet_heard Differ Differ g h = tt
+meet_heard Differ _ g h = tt
 
 grounded_heard : (p : Pace) → IsHeard p → IsHeard (grounded p)
-grounded_heard Free h = tt
-grounded_heard (At c) h = tt
 grounded_heard Mute h = absurd h
-grounded_heard Differ h = tt
+grounded_heard _ h = tt
 
 binary_heard : (o : Op) (p q : Pace) → IsHeard p → IsHeard q → IsHeard (binary_pace o p q)
 binary_heard op.Arrow p q g h = grounded_heard (meet p q) (meet_heard p q g h)
@@ -78,17 +62,14 @@ when_heard : (n : NodeTree) (p : Pace) (i : ℕ) → IsHeard p → IsHeard (when
 when_heard n p i h = by (meet p (At (clock_at n i))) (meet_heard p (At (clock_at n i)) h tt)
   where
     by : (m : Pace) → IsHeard m → IsHeard (elim m as (λ _. Pace) [ Free ↦ At (On i) | At c ↦ At (On i) | Mute ↦ Mute | Differ ↦ Differ ])
-    by Free h = tt
-    by (At c) h = tt
     by Mute h = absurd h
-    by Differ h = tt
+    by _ h = tt
 
 current_heard : (n : NodeTree) (p : Pace) → IsTimed p → IsHeard (current_pace n p)
-current_heard n Free h = tt
-current_heard n (At Base) h = tt
-current_heard n (At (On i)) h = tt
 current_heard n Mute h = absurd h
 current_heard n Differ h = absurd h
+current_heard n (At (On i)) h = tt
+current_heard n _ h = tt
 
 name_timed : (n : NodeTree) (x : Identifier) → IsTimed (name_pace n x)
 name_timed n x = by (is_flow n x)
@@ -101,13 +82,9 @@ module _ (n : NodeTree) where
   mutual
     pub paced : (t : Tree) → expression_clocks n t ≡ [] → IsTimed (pace n t)
     paced (Node at site form) e =
-        let s = both_empty (own_clash n (Node at site form)) (faults_below (own_clash n) form) e in
-        timed at (form_pace n form) (form_heard form s.1) s.0
+        let s = both_empty _ _ e in timed at (form_pace n form) (form_heard form s.1) s.0
 
     form_heard : (form : Form) → faults_below (own_clash n) form ≡ [] → IsHeard (form_pace n form)
-    form_heard True e = tt
-    form_heard False e = tt
-    form_heard (Number v) e = tt
     form_heard (Named x) e = heard (name_pace n x) (name_timed n x)
     form_heard (Not t) e = seen_heard (pace n t) (paced t e)
     form_heard (Minus t) e = seen_heard (pace n t) (paced t e)
@@ -115,21 +92,20 @@ module _ (n : NodeTree) where
     form_heard (Current t) e = current_heard n (seen (pace n t)) (subst IsTimed (sym (seen_timed (pace n t) (paced t e))) (paced t e))
     form_heard (When t c) e = when_heard n (seen (pace n t)) (site_of n c.text) (seen_heard (pace n t) (paced t e))
     form_heard (Binary o a b) e =
-        let s = both_empty (faults (own_clash n) a) (faults (own_clash n) b) e in
-        binary_heard o (seen (pace n a)) (seen (pace n b)) (seen_heard (pace n a) (paced a s.0)) (seen_heard (pace n b) (paced b s.1))
+        let s = both_empty _ _ e in
+        binary_heard o _ _ (seen_heard _ (paced a s.0)) (seen_heard _ (paced b s.1))
     form_heard (If i a b) e =
-        let s = both_empty (faults (own_clash n) i) (faults (own_clash n) a ++ faults (own_clash n) b) e in
-        let t = both_empty (faults (own_clash n) a) (faults (own_clash n) b) s.1 in
-        meet_heard (seen (pace n i)) (meet (seen (pace n a)) (seen (pace n b))) (seen_heard (pace n i) (paced i s.0))
-        (meet_heard (seen (pace n a)) (seen (pace n b)) (seen_heard (pace n a) (paced a t.0)) (seen_heard (pace n b) (paced b t.1)))
+        let s = both_empty _ _ e in
+        let t = both_empty _ _ s.1 in
+        meet_heard _ _ (seen_heard _ (paced i s.0)) (meet_heard _ _ (seen_heard _ (paced a t.0)) (seen_heard _ (paced b t.1)))
     form_heard (AtMostOne es) e = all_heard es e
     form_heard (Call f es) e = grounded_heard (pace_of_all n es) (all_heard es e)
+    form_heard _ e = tt
 
     pub all_heard : (es : Trees) → faults_of_all (own_clash n) es ≡ [] → IsHeard (pace_of_all n es)
     all_heard None e = tt
     all_heard (More t ts) e =
-        let s = both_empty (faults (own_clash n) t) (faults_of_all (own_clash n) ts) e in
-        meet_heard (seen (pace n t)) (pace_of_all n ts) (seen_heard (pace n t) (paced t s.0)) (all_heard ts s.1)
+        let s = both_empty _ _ e in meet_heard _ _ (seen_heard _ (paced t s.0)) (all_heard ts s.1)
 
 -- What joins without a clash.
 
@@ -152,16 +128,12 @@ meet_agree : (p q : Pace) → IsTimed (meet p q) → Agrees p (meet p q) × Agre
 meet_agree Mute q h = absurd h
 meet_agree Free Free h = (inl refl, inl refl)
 meet_agree Free (At d) h = (inl refl, inr refl)
-meet_agree Free Mute h = absurd h
-meet_agree Free Differ h = absurd h
+meet_agree Free _ h = absurd h
 meet_agree (At c) Free h = (inr refl, inl refl)
 meet_agree (At c) (At d) h = chosen_agree (same_clock c d) c d (clock_same c d) h
-meet_agree (At c) Mute h = absurd h
-meet_agree (At c) Differ h = absurd h
-meet_agree Differ Free h = absurd h
-meet_agree Differ (At d) h = absurd h
+meet_agree (At c) _ h = absurd h
 meet_agree Differ Mute h = absurd h
-meet_agree Differ Differ h = absurd h
+meet_agree Differ _ h = absurd h
 
 agrees_timed : (p whole : Pace) → Agrees p whole → IsTimed whole → IsTimed p
 agrees_timed p whole (inl free) h = subst IsTimed (sym free) tt
@@ -179,9 +151,7 @@ taken_agrees p whole (inr same) = ap (taken (taken Base whole)) same ∙ by whol
   where
     by : (w : Pace) → taken (taken Base w) w ≡ taken Base w
     by Free = refl
-    by (At c) = refl
-    by Mute = refl
-    by Differ = refl
+    by _ = refl
 
 on_agrees : (c d : Clock) (p : Pace) → Agrees (At c) (At d) → Agrees p (At d) → taken c p ≡ c
 on_agrees c d p (inl never) v = absurd (let b : ⊥ = cc in b)
@@ -193,29 +163,26 @@ module _ (n : NodeTree) where
   argument_agrees : (es : Trees) (j : ℕ) (t : Tree) → faults_of_all (own_clash n) es ≡ [] → IsTimed (pace_of_all n es) → IsArgument es j t
       → Agrees (pace n t) (pace_of_all n es)
   argument_agrees _ _ t e h (head {es}) =
-      let s = both_empty (faults (own_clash n) t) (faults_of_all (own_clash n) es) e in
+      let s = both_empty _ _ e in
       subst (λ p. Agrees p (meet (seen (pace n t)) (pace_of_all n es))) (seen_timed (pace n t) (paced n t s.0))
       (meet_agree (seen (pace n t)) (pace_of_all n es) h).0
   argument_agrees _ _ t e h (tail {e = b} {es} w) =
-      let s = both_empty (faults (own_clash n) b) (faults_of_all (own_clash n) es) e in
+      let s = both_empty _ _ e in
       let m = (meet_agree (seen (pace n b)) (pace_of_all n es) h).1 in
-      agrees_through (pace n t) (pace_of_all n es) (meet (seen (pace n b)) (pace_of_all n es))
-      (argument_agrees es _ t s.1 (agrees_timed (pace_of_all n es) (meet (seen (pace n b)) (pace_of_all n es)) m h) w) m
+      agrees_through _ _ _ (argument_agrees es _ t s.1 (agrees_timed _ _ m h) w) m
 
   -- the arguments of a call without a clash are free or on a clock
   arguments_timed : (at : ℕ) (es : Trees) → faults_of_all (own_clash n) es ≡ [] → clash_in at (grounded (pace_of_all n es)) ≡ [] → IsTimed (pace_of_all n es)
   arguments_timed at es e h = by (pace_of_all n es) (all_heard n es e) h
     where
       by : (p : Pace) → IsHeard p → clash_in at (grounded p) ≡ [] → IsTimed p
-      by Free h e = tt
-      by (At c) h e = tt
       by Mute h e = absurd h
       by Differ h e = cc
+      by _ h e = tt
 
   -- an argument takes the clock of them all
   pub argument_takes : (at : ℕ) (es : Trees) (j : ℕ) (t : Tree) → clash_in at (grounded (pace_of_all n es)) ≡ [] → faults_of_all (own_clash n) es ≡ []
-      → IsArgument es j t
-      → taken (clock_of_args n es) (pace n t) ≡ clock_of_args n es
+      → IsArgument es j t → taken (clock_of_args n es) (pace n t) ≡ clock_of_args n es
   argument_takes at es j t own below w =
       taken_agrees (pace n t) (pace_of_all n es) (argument_agrees es j t below (arguments_timed at es below own) w)
 
@@ -233,9 +200,7 @@ module _ (n : NodeTree) where
       let m = meet_agree (name_pace n y.text) (left_pace n ys) h in
       elim (cons_cases y.text (texts ys) x w) [
         | inl same ↦ subst (λ z. Agrees (name_pace n z) (meet (name_pace n y.text) (left_pace n ys))) same m.0
-        | inr rest ↦
-            agrees_through (name_pace n x) (left_pace n ys) (meet (name_pace n y.text) (left_pace n ys))
-            (left_agrees ys x (agrees_timed (left_pace n ys) (meet (name_pace n y.text) (left_pace n ys)) m.1 h) rest) m.1
+        | inr rest ↦ agrees_through _ _ _ (left_agrees ys x (agrees_timed _ _ m.1 h) rest) m.1
       ]
 
   -- the two sides of an equation
@@ -248,8 +213,7 @@ module _ (n : NodeTree) where
     left_on =
         let m = (meet_agree (left_pace n xs) (seen p) sides_timed).0 in
         subst (λ q. Agrees q (meet (left_pace n xs) (seen p))) (flow_pace x is)
-        (agrees_through (name_pace n x) (left_pace n xs) (meet (left_pace n xs) (seen p))
-        (left_agrees xs x (agrees_timed (left_pace n xs) (meet (left_pace n xs) (seen p)) m sides_timed) there) m)
+        (agrees_through _ _ _ (left_agrees xs x (agrees_timed _ _ m sides_timed) there) m)
 
     right_on : Agrees p (meet (left_pace n xs) (seen p))
     right_on = subst (λ q. Agrees q (meet (left_pace n xs) (seen p))) (seen_timed p timed_right) (meet_agree (left_pace n xs) (seen p) sides_timed).1
@@ -276,7 +240,6 @@ call_takes n at xs x es is there below own sides =
     (timed at (grounded (pace_of_all n es)) (grounded_heard (pace_of_all n es) (heard (pace_of_all n es) h)) own) sides)
   where
     by : (p : Pace) → IsTimed p → taken (clock_of n x) (grounded p) ≡ clock_of n x → taken Base p ≡ clock_of n x
-    by Free h e = e
-    by (At c) h e = e
     by Mute h e = absurd h
     by Differ h e = absurd h
+    by _ h e = e

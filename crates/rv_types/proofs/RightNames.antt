@@ -1,16 +1,21 @@
 -- What is known where no rule of names is broken.
-use Rattle.std.proofs.Common.{ap, ◌∙◌, ◌≡◌, ◌≤◌, List, [], ◌∷◌, ◌++◌, flat_map, reverse, length, refl, arith}
+use Rattle.std.proofs.Common.{ap, ◌∙◌, ◌≡◌, ◌≤◌, Bool, true, false, cond, List, [], ◌∷◌, ◌++◌, flat_map, reverse, length, refl, arith}
 use Rattle.rv_tree.specs.{declared.tree.Name.Name, declared.tree.TypeBody.TypeBody, declared.tree.TypeBody.TheVariants.Alias}
 use Rattle.rv_tree.specs.{declared.tree.TypeBody.TheVariants.Labels, declared.tree.TypeDecl.TypeDecl, Tree.NodeTree, Tree.ProgramTree}
 use Rattle.rv_base.specs.Limits.{source_limit}
 use Rattle.rv_types.specs.Names.{labels_of, type_names, constant_names, label_names, node_names, repeated, names_in_node, name_faults}
 use Rattle.rv_types.specs.{Known.first_spaces, Known.flow_names, TypeTables.declared_kinds, TypeTables.places_from, ConstantTables.AreTablesOf}
-use Rattle.rv_types.specs.{declared.spaces.Spaces.Spaces, declared.typed.Kind.Kind, declared.view.Label.Label}
+use Rattle.rv_types.specs.{declared.spaces.Spaces.Spaces, declared.typed.Kind.Kind, declared.view.Label.Label, declared.fault.NameFault.NameFault}
 use Rattle.rv_types.proofs.FirstNames.{all_first}
 
 pub both_empty : {A : Type 0} (xs ys : List A) → xs ++ ys ≡ [] → (xs ≡ []) × (ys ≡ [])
 both_empty [] ys e = (refl, e)
 both_empty (x ∷ xs) ys e = absurd (let b : ⊥ = cc in b)
+
+-- where a test gives no fault it is passed
+pub met : (b : Bool) (f : NameFault) → cond b [] (f ∷ []) ≡ [] → b ≡ true
+met true f e = refl
+met false f e = cc
 
 pub record AreDifferent (p : ProgramTree) : Type 0 where
   pub nodes : repeated [] (node_names p) ≡ []
@@ -40,14 +45,16 @@ few_labels d h = tested d.body h
     tested (Alias t) h = omega arith
     tested (Labels xs) h = h xs refl
 
+pub type_table_is : (p : ProgramTree) (s : Spaces) → name_faults p ≡ [] → s ≡ first_spaces p → s.types ≡ type_names p
+type_table_is p s names e = ap (λ (s : Spaces). s.types) e ∙ all_first (type_names p) (all_different p names).types
+
 -- the tables of what a program declares, by its spaces
 pub tables_are : (p : ProgramTree) (s : Spaces) (kinds : List Kind) (places : List Label) → name_faults p ≡ [] → s ≡ first_spaces p
-    → kinds ≡ declared_kinds (reverse p.types) → places ≡ places_from 0 p.types
-    → AreTablesOf p s.types kinds s.constants s.labels places
+    → kinds ≡ declared_kinds (reverse p.types) → places ≡ places_from 0 p.types → AreTablesOf p s.types kinds s.constants s.labels places
 tables_are p s kinds places names e k l =
     let d = all_different p names in
     record {
-      type_table = ap (λ (s : Spaces). s.types) e ∙ all_first (type_names p) d.types;
+      type_table = type_table_is p s names e;
       kind_table = k;
       constant_table = ap (λ (s : Spaces). s.constants) e ∙ all_first (constant_names p) d.constants;
       label_table = ap (λ (s : Spaces). s.labels) e ∙ all_first (label_names p) d.labels;

@@ -13,8 +13,7 @@ rising p before j k c jk lt =
     (before (take k p.constants) (drop (suc k) p.constants) (get_or p.constants k c) cut) (
       j,
       (let size = length-take-le k p.constants (omega arith) in omega (arith, size, jk)),
-      get_or-take k p.constants j (get_or p.constants j c) jk
-          ∙ get_or_default p.constants j (get_or p.constants j c) c (omega arith),
+      get_or-take k p.constants j (get_or p.constants j c) jk ∙ get_or_default p.constants j (get_or p.constants j c) c (omega arith),
     )
   where
     cut : p.constants ≡ take k p.constants ++ get_or p.constants k c ∷ drop (suc k) p.constants

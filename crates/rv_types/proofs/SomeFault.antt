@@ -1,10 +1,10 @@
 -- A list of faults is empty or has a first one, and so do groups of them.
-use Rattle.std.proofs.Common.{◌≡◌, ◌⊎◌, inl, inr, Bool, true, false, cond, IsTrue, List, [], ◌∷◌, Option, Some, None, map, refl}
+use Rattle.std.proofs.Common.{◌≡◌, ◌⊎◌, inl, inr, IsTrue, List, [], ◌∷◌, Option, Some, None, map, refl}
 use Rattle.rv_tree.specs.{Tree.ProgramTree, Places.Identifier}
 use Rattle.rv_types.specs.{declared.fault.NameFault.NameFault, declared.fault.NameFault.TheVariants.NoNode, declared.typed.Typed.Typed, Names.is_declared}
 use Rattle.rv_types.specs.{Names.node_names, Kinds.flow_kinds, Scopes.constant_values, Clocks.flow_clocks, Earliest.first, Faults.IsFirst}
 use Rattle.rv_types.specs.{Faults.IsFirstOfGroups, Settled.node_number, Settled.node_faults, Settled.groups, Settled.IsSettled, Settled.IsFirstFault}
-use Rattle.rv_types.proofs.FirstLaws.{first_none, first_is}
+use Rattle.rv_types.proofs.{FirstLaws.first_none, FirstLaws.first_is, RightNames.met}
 
 some_first : (fs : List NameFault) → (fs ≡ []) ⊎ ((f : NameFault) × IsFirst f fs)
 some_first fs = tested (first fs) refl
@@ -30,11 +30,7 @@ some_of_groups (fs ∷ rest) = joined fs rest (some_first fs) (some_of_groups re
 
 -- where no group says that there is no node there is one
 main_there : (p : ProgramTree) (main : Identifier) → node_faults p main ≡ [] → IsTrue (is_declared (node_names p) main)
-main_there p main = tested (is_declared (node_names p) main)
-  where
-    tested : (b : Bool) → cond b [] (NoNode ∷ []) ≡ [] → b ≡ true
-    tested true e = refl
-    tested false e = absurd (let b : ⊥ = cc in b)
+main_there p main = met (is_declared (node_names p) main) NoNode
 
 -- the types, clocks and constants of a program
 settlement : ProgramTree → Identifier → Typed

@@ -3,23 +3,17 @@ use Rattle.std.proofs.Common.{◌≡◌, suc, ◌<◌, ◌^◌, Bool, cond, List
 use Rattle.std.proofs.Common.{None as Nothing}
 use Rattle.std.proofs.lemmas.List.{length-map}
 use Rattle.rv_tree.specs.{declared.tree.Name.Name, declared.tree.Decl.Decl, Tree.NodeTree, Places.flows, Places.names, Places.index_of, Places.site_of}
-use Rattle.rv_types.specs.{declared.typed.Clock.Clock, declared.typed.Clock.TheVariants.On, declared.fault.NameFault.NameFault}
+use Rattle.rv_types.specs.{declared.typed.Clock.Clock, declared.typed.Clock.TheVariants.On}
 use Rattle.rv_types.specs.{declared.fault.NameFault.TheVariants.ClockClash, Names.texts, Clocks.flow_clocks, Clocks.base_clock, Clocks.declared_clock}
-use Rattle.rv_types.specs.{Clocks.ends, Clocks.chain_clash, Chains.follow, Chains.after, Chains.is_base, Timings.IsTiming, Timings.clock_by, Timings.EndsAt}
+use Rattle.rv_types.specs.{Clocks.chain_clash, Chains.follow, Chains.after, Chains.is_base, Timings.IsTiming, Timings.clock_by, Timings.EndsAt}
 use Rattle.rv_types.proofs.ChainLaws.{ends_after}
 
 -- the chain of a declared clock
 pub chain_known : (n : NodeTree) (jumps : List Clock) (d : Decl) (c : Name) (b : Bool) → EndsAt n jumps → d.clock ≡ Some c
-    → is_base (follow jumps (On (site_of n c.text))) ≡ b
-    → chain_clash n d ≡ cond b [] (ClockClash c.at ∷ [])
+    → is_base (follow jumps (On (site_of n c.text))) ≡ b → chain_clash n d ≡ cond b [] (ClockClash c.at ∷ [])
 chain_known n jumps d c b known is e =
-    (λ i. elim (is i) as (λ _. List NameFault) [
-      | Nothing ↦ []
-      | Some c ↦ cond (ends n (suc (length (flow_clocks n))) (On (site_of n c.text))) []
-          (ClockClash c.at ∷ [])
-    ])
-    ∙ (λ i. cond (sym (known (On (site_of n c.text))) i) [] (ClockClash c.at ∷ []))
-    ∙ (λ i. cond (e i) [] (ClockClash c.at ∷ []))
+    (λ i. chain_clash n (record d { clock = is i }))
+    ∙ (λ i. cond (sym (known (On (site_of n c.text))) i) [] (ClockClash c.at ∷ [])) ∙ (λ i. cond (e i) [] (ClockClash c.at ∷ []))
 
 pub ends_known : (n : NodeTree) (cs jumps : List Clock) → cs ≡ flow_clocks n → ((c : Clock) → is_base (follow jumps c) ≡ is_base (after cs (suc (length cs)) c))
     → EndsAt n jumps

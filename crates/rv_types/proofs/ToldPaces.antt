@@ -1,40 +1,32 @@
 -- The first operand with a clock tells the pace of an expression that is free or on a clock.
 use Rattle.std.proofs.Common.{◌≡◌, ℕ, Bool, true, false, cond, refl, sym, ◌∙◌, ap}
-use Rattle.rv_tree.specs.Tree.{Tree, Form, Trees, Node, True, False, Number, Named, Not, Minus, Pre, Current, When, Binary, If, AtMostOne, Call, None, More}
-use Rattle.rv_tree.specs.Tree.{NodeTree}
+use Rattle.rv_tree.specs.Tree.{Tree, Form, Trees, Node, Not, Minus, Pre, Current, When, Binary, If, AtMostOne, Call, None, More, NodeTree}
 use Rattle.rv_tree.specs.{declared.tree.Op.Op, Places.site_of}
 use Rattle.rv_tree.specs.declared.tree.Op.TheVariants as op
 use Rattle.rv_types.specs.declared.fault.Pace.TheVariants.{Free, At, Mute, Differ}
 use Rattle.rv_types.specs.Clocks.{same_clock, clock_at, seen, meet, grounded, binary_pace, when_pace, current_pace, pace, form_pace, pace_of_all}
 use Rattle.rv_types.specs.ToldPaces.{IsTimed, first_pace, operator_told, told_pace, form_told, told_pace_of_all}
-use Rattle.rv_types.specs.{declared.typed.Clock.Clock, declared.typed.Clock.TheVariants.Base, declared.typed.Clock.TheVariants.On, declared.fault.Pace.Pace}
+use Rattle.rv_types.specs.{declared.typed.Clock.Clock, declared.typed.Clock.TheVariants.On, declared.fault.Pace.Pace}
 
 -- a part that is seen with a clock, or free, is so
 pub seen_is : (p : Pace) → IsTimed (seen p) → IsTimed p × (seen p ≡ p)
-seen_is Free h = (tt, refl)
-seen_is (At c) h = (tt, refl)
 seen_is Mute h = absurd h
 seen_is Differ h = absurd h
+seen_is _ h = (tt, refl)
 
 pub grounded_is : (p : Pace) → IsTimed (grounded p) → IsTimed p
-grounded_is Free h = tt
-grounded_is (At c) h = tt
 grounded_is Mute h = absurd h
 grounded_is Differ h = absurd h
+grounded_is _ h = tt
 
 pub current_is : (n : NodeTree) (p : Pace) → IsTimed (current_pace n p) → IsTimed p
-current_is n Free h = absurd h
-current_is n (At Base) h = absurd h
 current_is n (At (On i)) h = tt
-current_is n Mute h = absurd h
-current_is n Differ h = absurd h
+current_is n _ h = absurd h
 
 -- of three paces the first that is not free, in two ways
 pub first_assoc : (p q r : Pace) → first_pace (first_pace p q) r ≡ first_pace p (first_pace q r)
 first_assoc Free q r = refl
-first_assoc (At c) q r = refl
-first_assoc Mute q r = refl
-first_assoc Differ q r = refl
+first_assoc _ q r = refl
 
 -- two that join have clocks, or are free, and the first that is not free tells that of both
 pub record AreJoined (p q : Pace) : Type 0 where
@@ -48,18 +40,14 @@ same_joined false c h = absurd h
 
 pub joined : (p q : Pace) → IsTimed (meet p q) → AreJoined p q
 joined Mute q h = absurd h
-joined Free Free h = record { left = tt; right = tt; first = refl }
-joined Free (At d) h = record { left = tt; right = tt; first = refl }
 joined Free Mute h = absurd h
 joined Free Differ h = absurd h
+joined Free _ h = record { left = tt; right = tt; first = refl }
 joined (At c) Free h = record { left = tt; right = tt; first = refl }
 joined (At c) (At d) h = record { left = tt; right = tt; first = same_joined (same_clock c d) c h }
-joined (At c) Mute h = absurd h
-joined (At c) Differ h = absurd h
-joined Differ Free h = absurd h
-joined Differ (At d) h = absurd h
+joined (At c) _ h = absurd h
 joined Differ Mute h = absurd h
-joined Differ Differ h = absurd h
+joined Differ _ h = absurd h
 
 -- the same of an operator
 pub record AreOperands (o : Op) (p q : Pace) : Type 0 where
@@ -77,10 +65,9 @@ when_is n p i h = let w = at (meet p (At (clock_at n i))) h in ((joined p (At (c
   where
     at : (m : Pace) → IsTimed (elim m as (λ _. Pace) [ Free ↦ At (On i) | At c ↦ At (On i) | Mute ↦ Mute | Differ ↦ Differ ])
         → IsTimed m × (◌≡◌ {A = Pace} (At (On i)) (elim m as (λ _. Pace) [ Free ↦ At (On i) | At c ↦ At (On i) | Mute ↦ Mute | Differ ↦ Differ ]))
-    at Free h = (tt, refl)
-    at (At c) h = (tt, refl)
     at Mute h = absurd h
     at Differ h = absurd h
+    at _ h = (tt, refl)
 
 module _ (n : NodeTree) where
   mutual
@@ -89,10 +76,6 @@ module _ (n : NodeTree) where
     told_is (Node at site form) h = form_is form h
 
     form_is : (form : Form) → IsTimed (form_pace n form) → form_told n form ≡ form_pace n form
-    form_is True h = refl
-    form_is False h = refl
-    form_is (Number v) h = refl
-    form_is (Named x) h = refl
     form_is (Not e) h = seen_told e h
     form_is (Minus e) h = seen_told e h
     form_is (Pre e) h = ap grounded (seen_told e (grounded_is (seen (pace n e)) h))
@@ -109,11 +92,11 @@ module _ (n : NodeTree) where
         let condition = seen_told a s.left in
         let first = seen_told b t.left in
         let second = seen_told c t.right in
-        (λ i. first_pace (first_pace (condition i) (first i)) (second i))
-        ∙ first_assoc (seen (pace n a)) (seen (pace n b)) (seen (pace n c))
+        (λ i. first_pace (first_pace (condition i) (first i)) (second i)) ∙ first_assoc (seen (pace n a)) (seen (pace n b)) (seen (pace n c))
         ∙ ap (λ (p : Pace). first_pace (seen (pace n a)) p) t.first ∙ s.first
     form_is (AtMostOne es) h = all_is es h
     form_is (Call f es) h = ap grounded (all_is es (grounded_is (pace_of_all n es) h))
+    form_is _ h = refl
 
     seen_told : (e : Tree) → IsTimed (seen (pace n e)) → told_pace n e ≡ seen (pace n e)
     seen_told (Node at site form) h = let s = seen_is (form_pace n form) h in form_is form s.0 ∙ sym s.1

@@ -1,11 +1,7 @@
 -- The declarations so far, the last of them first.
-use Rattle.std.proofs.Common.{◌≡◌, ℕ, ◌+◌, ◌<◌, ◌≤◌, List, [], ◌∷◌, ◌++◌, map, reverse, take, drop, length, get_or, refl, sym, ap, ◌∙◌, arith, add-one}
+use Rattle.std.proofs.Common.{◌≡◌, ℕ, ◌+◌, ◌<◌, ◌≤◌, List, [], ◌∷◌, ◌++◌, map, reverse, take, drop, length, get_or, sym, ap, ◌∙◌, arith, add-one}
 use Rattle.std.proofs.Math.Seq.{take-suc}
-use Rattle.std.proofs.lemmas.List.{reverse-append, take-append-drop, length-reverse, length-take-le, length-map, get_or-map}
-
-pub twice : {A : Type 0} (xs : List A) → reverse (reverse xs) ≡ xs
-twice [] = refl
-twice (x ∷ xs) = ap reverse (reverse-append (x ∷ []) xs) ∙ reverse-append (reverse xs) (x ∷ []) ∙ ap (λ ys. x ∷ ys) (twice xs)
+use Rattle.std.proofs.lemmas.List.{reverse-append, reverse-reverse, take-append-drop, length-reverse, length-take-le, length-map, get_or-map}
 
 -- one more of them
 pub one_turned : {A : Type 0} (xs : List A) (k : ℕ) (x : A) → k < length xs → x ≡ get_or xs k x → reverse (take (k + 1) xs) ≡ x ∷ reverse (take k xs)
@@ -14,7 +10,7 @@ one_turned xs k x h e = rw (add-one) (ap reverse (take-suc xs k x h) ∙ reverse
 
 -- those so far and those to come are all
 pub all_turned : {A : Type 0} (xs : List A) (k : ℕ) → xs ≡ reverse (reverse (take k xs)) ++ drop k xs
-all_turned xs k = sym (ap (λ ys. ys ++ drop k xs) (twice (take k xs)) ∙ take-append-drop k xs)
+all_turned xs k = sym (ap (λ ys. ys ++ drop k xs) (reverse-reverse (take k xs)) ∙ take-append-drop k xs)
 
 pub turned-length : {A : Type 0} (xs : List A) (k : ℕ) → k ≤ length xs → length (reverse (take k xs)) ≡ k
 turned-length xs k h = length-reverse (take k xs) ∙ length-take-le k xs h

@@ -13,6 +13,10 @@ counted_small m z h = tested (nat_le m heaviest) refl
     tested true e = let l : m ≤ heaviest = grind (arith, nat_tests) in omega (arith, h, l)
     tested false e = let l : heaviest < m = grind (arith, nat_tests) in omega (arith, l)
 
+-- what is counted within the bound is its own cap
+pub capped : (m : ℕ) → m ≤ too_heavy → m ≡ min m too_heavy
+capped m h = omega (arith, h)
+
 pub sum_small : (y z : ℤ) (v w : ℕ) → nat_abs y ≤ v → nat_abs z ≤ w → nat_abs (y +ℤ z) ≤ v + w
 sum_small y z v w g h = omega (arith, ints)
 
@@ -27,20 +31,7 @@ pub under_small : (o : Op) (x y : Value) (v w : ℕ) → nat_abs (whole_in x) �
 under_small op.Plus x y v w g h = counted_small (v + w) (whole_in x +ℤ whole_in y) (sum_small (whole_in x) (whole_in y) v w g h)
 under_small op.Minus x y v w g h = counted_small (v + w) (whole_in x -ℤ whole_in y) (difference_small (whole_in x) (whole_in y) v w g h)
 under_small op.Times x y v w g h = counted_small (nat_abs (whole_in x) * w) (whole_in x *ℤ whole_in y) (product_small (whole_in x) (whole_in y) w h)
-under_small op.Arrow x y v w g h = omega arith
-under_small op.Implies x y v w g h = omega arith
-under_small op.Or x y v w g h = omega arith
-under_small op.Xor x y v w g h = omega arith
-under_small op.And x y v w g h = omega arith
-under_small op.Equal x y v w g h = omega arith
-under_small op.Differs x y v w g h = omega arith
-under_small op.Less x y v w g h = omega arith
-under_small op.AtMost x y v w g h = omega arith
-under_small op.Greater x y v w g h = omega arith
-under_small op.AtLeast x y v w g h = omega arith
-under_small op.Slash x y v w g h = omega arith
-under_small op.Div x y v w g h = omega arith
-under_small op.Mod x y v w g h = omega arith
+under_small _ x y v w g h = omega arith
 
 pub no_larger : (o : Op) (x y : Value) (v w : ℕ) (result : Value) (weight : ℕ) → nat_abs (whole_in x) ≤ v → nat_abs (whole_in y) ≤ w
     → weight ≡ min (weight_under o (nat_abs (whole_in x)) v w) too_heavy → result ≡ value_under (weight_under o (nat_abs (whole_in x)) v w) o x y

@@ -1,48 +1,36 @@
 -- A walk over some expressions of a constant, and the values of the first constants.
-use Rattle.std.proofs.Common.{◌≡◌, ℕ, suc, ◌+◌, ◌<◌, ◌≤◌, min, Bool, true, false, not, ◌&&◌, ◌||◌, List, [], ◌∷◌, ◌++◌, length, map, reverse, take, drop}
-use Rattle.std.proofs.Common.{get_or, append-nil, append_assoc, length-append, Option, Some, refl, sym, ap, ◌∙◌, add-one, arith, None as Nothing}
-use Rattle.std.proofs.{Math.Seq.drop-cons, Math.Seq.take-append_seam, lemmas.List.length-reverse, lemmas.List.reverse-append, lemmas.List.take-append-drop}
+use Rattle.std.proofs.Common.{◌≡◌, ℕ, ◌+◌, ◌<◌, ◌≤◌, min, Bool, true, false, not, ◌&&◌, ◌||◌, List, ◌∷◌, ◌++◌, length, map, reverse, take, drop, get_or, []}
+use Rattle.std.proofs.Common.{append-nil, append_assoc, Option, Some, refl, sym, ap, ◌∙◌, arith}
+use Rattle.std.proofs.{Math.Seq.take-append_seam, lemmas.List.length-reverse, lemmas.List.reverse-append, lemmas.List.take-append-drop}
 use Rattle.rv_base.specs.declared.value.Value.{Value}
 use Rattle.rv_tree.specs.{declared.tree.Expr.Expr, Tree.More, Tree.ConstantTree, Tree.ProgramTree, Tree.tree_of, Tree.trees}
 use Rattle.rv_types.specs.Scopes.{constant_value_after, constant_values, constant_values_of}
 use Rattle.rv_types.specs.{Constants.value_of, ValueTables.at_most_after, WideConstants.lesser}
-use Rattle.rv_types.proofs.Turned.{turned-length}
+use Rattle.rv_base.proofs.Lists.{next_of}
+use Rattle.rv_types.proofs.{ConstantMeanings.value_meant, ConstantMeanings.values_all, LastFirst.all_of-length, Turned.turned-length}
 
 -- the rest of some expressions from one on
 pub rest_is : (es : List Expr) (i : ℕ) (e : Expr) → i < length es → e ≡ get_or es i e
     → trees (map tree_of (drop i es)) ≡ More (tree_of e) (trees (map tree_of (drop (i + 1) es)))
-rest_is es i e lt is =
-    ap (λ l. trees (map tree_of l)) (drop-cons es i e lt)
-    ∙ ap (λ x. More (tree_of x) (trees (map tree_of (drop (suc i) es)))) (sym is)
-    ∙ ap (λ k. More (tree_of e) (trees (map tree_of (drop k es)))) (sym (add-one i))
+rest_is es i e lt is = ap (λ l. trees (map tree_of l)) (next_of es i e lt is)
 
 -- one flag more
 pub seen_more : (some several f : Bool) (fs : List Bool) → (not (several || (some && f)) && at_most_after (some || f) fs)
     ≡ (not several && at_most_after some (f ∷ fs))
-seen_more true true true fs = refl
-seen_more true true false fs = refl
-seen_more true false true fs = refl
-seen_more true false false fs = refl
-seen_more false true true fs = refl
-seen_more false true false fs = refl
+seen_more some true f fs = refl
+seen_more true false f fs = refl
 seen_more false false true fs = refl
 seen_more false false false fs = refl
 
 -- the lesser of three offsets
 pub lesser_more : (a b c : Option ℕ) → lesser (lesser a b) c ≡ lesser a (lesser b c)
-lesser_more Nothing b c = refl
-lesser_more (Some a) Nothing c = refl
-lesser_more (Some a) (Some b) Nothing = refl
 lesser_more (Some a) (Some b) (Some c) = ap Some (let e : min (min a b) c ≡ min a (min b c) = omega arith in e)
+lesser_more _ _ _ = refl
 
 -- The values of the first constants.
 
 values_long : (p : ProgramTree) (cs : List ConstantTree) → length (constant_values_of p cs) ≡ length cs
-values_long p [] = refl
-values_long p (c ∷ cs) =
-    let h = values_long p cs in
-    let n = length-append (constant_values_of p cs) (value_of (constant_value_after p cs) c.body ∷ []) in
-    omega (arith, h, n)
+values_long p cs = ap length (values_all p cs) ∙ all_of-length (value_meant p) cs
 
 values_begin : (p : ProgramTree) (xs ys : List ConstantTree) → (more : List Value) × (constant_values_of p (xs ++ ys) ≡ constant_values_of p ys ++ more)
 values_begin p [] ys = ([], sym (append-nil (constant_values_of p ys)))
@@ -60,5 +48,4 @@ first_values p k le =
     let w = values_begin p (reverse (drop k p.constants)) ys in
     let size : k ≡ length (constant_values_of p ys) = sym (values_long p ys ∙ turned-length p.constants k le) in
     ap (take k) (ap (constant_values_of p) (ap reverse (sym (take-append-drop k p.constants)) ∙ reverse-append (take k p.constants) (drop k p.constants)) ∙ w.1)
-    ∙ ap (λ n. take n (constant_values_of p ys ++ w.0)) size
-    ∙ take-append_seam (constant_values_of p ys) w.0
+    ∙ ap (λ n. take n (constant_values_of p ys ++ w.0)) size ∙ take-append_seam (constant_values_of p ys) w.0

@@ -1,9 +1,9 @@
 //! The type of an expression by its head alone.
 
-ghost use Rattle.std.specs.Prelude.{◌≡◌, unwrap_or};
+ghost use Rattle.std.specs.Prelude.{◌≡◌, unwrap_or, slice_get};
 ghost use Rattle.std.specs.Option.{option_copied};
 ghost use Rattle.rv_tree.specs.Tree.{tree_of};
-ghost use Rattle.rv_types.specs.Heads.{first_kind, first_output, head_kind, kind_given};
+ghost use Rattle.rv_types.specs.Heads.{first_output, head_kind, kind_given};
 ghost use Rattle.rv_types.specs.Tables.{scope_of};
 ghost use Rattle.rv_types.specs.declared.typed.Kind.TheVariants as kind;
 
@@ -43,7 +43,7 @@ fn head_of_name(view: &View, name: &Text) -> Kind
 }
 
 /// The type that an operator gives whatever its operands are; none for `->`, which gives that of its operands.
-fn given_by(op: Op) -> Option<Kind>
+pub fn given_by(op: Op) -> Option<Kind>
     ensures { result ≡ kind_given op }
 {
     match op {
@@ -56,13 +56,13 @@ fn given_by(op: Op) -> Option<Kind>
 /// The type of the first output of the node of a name; `Bool` where there is none.
 #[inline(never)]
 fn head_of_call(view: &View, name: &Text) -> Kind
-    ensures { result ≡ first_output ((scope_of view.now).callee name.now) }
+    ensures { result ≡ unwrap_or (first_output ((scope_of view.now).callee name.now)) kind.Bool }
 {
     first_of(view.callee(name))
 }
 
 fn first_of(signature: Option<&Signature>) -> Kind
-    ensures { result ≡ first_output (option_copied signature.entry) }
+    ensures { result ≡ unwrap_or (first_output (option_copied signature.entry)) kind.Bool }
 {
     match signature {
         None => Kind::Bool,
@@ -71,7 +71,7 @@ fn first_of(signature: Option<&Signature>) -> Kind
 }
 
 fn first_in(kinds: &[Kind]) -> Kind
-    ensures { result ≡ first_kind kinds.now }
+    ensures { result ≡ unwrap_or (slice_get kinds.now 0) kind.Bool }
 {
     match kinds {
         [] => Kind::Bool,

@@ -41,6 +41,7 @@ mod wide_constants;
 
 pub use delayed::delay_kinds;
 pub use fault::{NameFault, Pace};
+pub use heads::given_by;
 pub use laws::{
     chains_end, one_fault, one_settlement, settled_or_refused, sited_programs, well_formed_programs,
 };

@@ -4,8 +4,7 @@ use Rattle.rv_agreement.proofs.laws.rows_of_valuations.Goals as goal
 
 pub returns-clause-some : goal.returns-clause-some
 returns-clause-some c = λ columns test t side present.
-    let tight = c.tightened_rows.ensures.some (test_row (test t.at side) (tested_form columns test t side)) in
-    (tight.0, (present, tight.1))
+    let tight = c.tightened_rows.ensures.some (test_row (test t.at side) (tested_form columns test t side)) in (tight.0, (present, tight.1))
 
 pub returns-clause-one : goal.returns-clause-one
 returns-clause-one c = λ columns test t side a b one other. c.tightened_rows.ensures.one (test_row (test t.at side) (tested_form columns test t side)) a b one.1

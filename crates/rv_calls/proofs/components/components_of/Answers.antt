@@ -16,4 +16,4 @@ loop-v-preserved c = record {
 pub returns : goal.returns
 returns c =
     parted_all c.args.graph.now c.loop-v.seen c.loop-v.parts c.loop-v.invariant.parted
-    (λ k lt. c.loop-v.invariant.marked k (let n = c.loop-v.invariant.whole in omega (arith, lt, n)))
+    (λ k lt. c.loop-v.invariant.marked k (omega (arith, lt, c.loop-v.invariant.whole)))

@@ -13,16 +13,14 @@ loop-v-init c =
 
 pub turn_all-requires : goal.turn_all-requires
 turn_all-requires c w inside =
-    let same : c.as_slice.result.now ≡ edges c.args.graph.now c.loop-v.v = c.as_slice.ensures
-    ∙ sym (get_or_from_slice_get c.args.graph.now c.loop-v.v c.at.result.now [] c.at.ensures.value) in
+    let same = c.as_slice.ensures ∙ sym (get_or_from_slice_get c.args.graph.now c.loop-v.v c.at.result.now [] c.at.ensures.value) in
     let at = contains_at (edges c.args.graph.now c.loop-v.v) w (subst (λ (ts : List ℕ). Contains ts w) same inside) in
     let less = subst (λ u. u < length c.args.graph.now) at.2 (c.requires.vertices c.loop-v.v at.0 (omega arith) at.1) in
-    let n = c.loop-v.invariant.size in omega (arith, less, n)
+    omega (arith, less, c.loop-v.invariant.size)
 
 pub loop-v-preserved : goal.loop-v-preserved
 loop-v-preserved c =
-    let same : c.as_slice.result.now ≡ edges c.args.graph.now c.loop-v.v = c.as_slice.ensures
-    ∙ sym (get_or_from_slice_get c.args.graph.now c.loop-v.v c.at.result.now [] c.at.ensures.value) in
+    let same = c.as_slice.ensures ∙ sym (get_or_from_slice_get c.args.graph.now c.loop-v.v c.at.result.now [] c.at.ensures.value) in
     reversed_more c.args.graph.now c.loop-v.v c.loop-v.turned.items c.turn_all.new.turned.items (omega arith) c.loop-v.invariant
     (subst (λ (ts : List ℕ). IsTurned ts c.loop-v.v c.loop-v.turned.items c.turn_all.new.turned.items) same c.in_ok-turn_all.ensures)
 

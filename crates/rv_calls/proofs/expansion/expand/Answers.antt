@@ -14,8 +14,7 @@ loop-instance-smaller c =
     let i = c.in-Some.instance in
     let lt = expansion_next c.args.calls.now c.args.root c.loop-instance.found c.loop-instance.waiting c.pop.new.self i c.loop-instance.invariant
     c.in-Some.ensures.taken in
-    let calls : c.as_slice-callees.result.now ≡ get_or c.args.calls.now i.node [] = c.as_slice-callees.ensures
-    ∙ sym (get_or_from_slice_get c.args.calls.now i.node c.at.result.now [] c.at.ensures.value) in
+    let calls = c.as_slice-callees.ensures ∙ sym (get_or_from_slice_get c.args.calls.now i.node c.at.result.now [] c.at.ensures.value) in
     let pushed : c.push_callees.new.waiting ≡ c.pop.new.self ++ reverse (map (called_instance i.path) (get_or c.args.calls.now i.node [])) =
     c.in_ok-push_callees.ensures
     ∙ ap (λ (path : List ℕ). c.pop.new.self ++ reverse (map (called_instance path) c.as_slice-callees.result.now)) c.as_slice.ensures
@@ -26,8 +25,7 @@ loop-instance-smaller c =
 pub loop-instance-preserved : goal.loop-instance-preserved
 loop-instance-preserved c =
     let i = c.in-Some.instance in
-    let calls : c.as_slice-callees.result.now ≡ get_or c.args.calls.now i.node [] = c.as_slice-callees.ensures
-    ∙ sym (get_or_from_slice_get c.args.calls.now i.node c.at.result.now [] c.at.ensures.value) in
+    let calls = c.as_slice-callees.ensures ∙ sym (get_or_from_slice_get c.args.calls.now i.node c.at.result.now [] c.at.ensures.value) in
     let pushed : c.push_callees.new.waiting ≡ c.pop.new.self ++ reverse (map (called_instance i.path) (get_or c.args.calls.now i.node [])) =
     c.in_ok-push_callees.ensures
     ∙ ap (λ (path : List ℕ). c.pop.new.self ++ reverse (map (called_instance path) c.as_slice-callees.result.now)) c.as_slice.ensures

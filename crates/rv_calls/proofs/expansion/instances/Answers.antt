@@ -12,13 +12,10 @@ expand-requires c =
     let p = program_tree c.args.p.now in
     let are : AreAllSorted (callings_of p) c.in_ok-sorted.sorted = subst (λ (t : List (List Calling)). AreAllSorted t c.in_ok-sorted.sorted)
     c.requires.nodes.calls c.in_ok-sorted.ensures in
-    let size = table_size p c.requires.named in
-    let same = are.size in
-    let main = c.requires.main in
     record {
       graph = sorted_graph (callings_of p) c.in_ok-sorted.sorted are (is_graph p c.requires.named);
       ordered = (c.args.nodes.now.order, sorted_order (callings_of p) c.in_ok-sorted.sorted are c.args.nodes.now.order c.requires.nodes.order);
-      root = omega (arith, size, same, main);
+      root = omega (arith, table_size p c.requires.named, are.size, c.requires.main);
     }
 
 pub returns : goal.returns

@@ -1,9 +1,8 @@
-use Rattle.std.proofs.Common.{◌≡◌, ◌<◌, ℕ, List, [], ◌∷◌, ◌++◌, length, set, sym, ◌∙◌, ap, subst, rules, Some, arith}
+use Rattle.std.proofs.Common.{◌≡◌, ℕ, List, [], ◌∷◌, ◌++◌, set, sym, ◌∙◌, ap, subst, rules, Some, arith}
 use Rattle.std.proofs.lemmas.Option.{get_or_from_slice_get}
 use Rattle.std.specs.List.{Contains}
-use Rattle.rv_calls.specs.{Graphs.edges, Components.Marks, Components.IsSearch, Components.IsSpread}
-use Rattle.rv_instances.proofs.Lists.{contains_at}
-use Rattle.rv_calls.proofs.Searches.{search_start, search_step, search_end, search_last}
+use Rattle.rv_calls.specs.{Components.Marks, Components.IsSearch, Components.IsSpread}
+use Rattle.rv_calls.proofs.Searches.{search_start, search_step, search_end, search_last, search_edge}
 use Rattle.rv_calls.proofs.reach.reach.Goals as goal
 
 pub loop-v-init : goal.loop-v-init
@@ -22,28 +21,21 @@ at-requires c =
 
 pub spread-requires-clause-allowed : goal.spread-requires-clause-allowed
 spread-requires-clause-allowed c v w =
-    let within = search_last c.args.allowed.now c.args.wanted c.args.from c.args.graph.now c.requires.vertices c.args.marks.now c.loop-v.marks c.loop-v.waiting
-    c.pop.new.self c.in-Some.v c.loop-v.invariant c.in-Some.ensures.taken in
-    let same : c.as_slice-targets.result.now ≡ edges c.args.graph.now c.in-Some.v = c.as_slice-targets.ensures
-    ∙ sym (get_or_from_slice_get c.args.graph.now c.in-Some.v c.at.result.now [] c.at.ensures.value) in
-    let at = contains_at (edges c.args.graph.now c.in-Some.v) v (subst (λ (ts : List ℕ). Contains ts v) same w) in
-    let less = subst (λ u. u < length c.args.graph.now) at.2 (c.requires.vertices c.in-Some.v at.0 within at.1) in
-    let n = c.requires.allowed in omega (arith, less, n)
+    let same = c.as_slice-targets.ensures ∙ sym (get_or_from_slice_get c.args.graph.now c.in-Some.v c.at.result.now [] c.at.ensures.value) in
+    let less = search_edge c.args.allowed.now c.args.wanted c.args.from c.args.graph.now c.requires.vertices c.args.marks.now c.loop-v.marks c.loop-v.waiting
+    c.pop.new.self c.in-Some.v v c.loop-v.invariant c.in-Some.ensures.taken (subst (λ (ts : List ℕ). Contains ts v) same w) in
+    omega (arith, less, c.requires.allowed)
 
 pub spread-requires-clause-marks : goal.spread-requires-clause-marks
 spread-requires-clause-marks c v w =
-    let within = search_last c.args.allowed.now c.args.wanted c.args.from c.args.graph.now c.requires.vertices c.args.marks.now c.loop-v.marks c.loop-v.waiting
-    c.pop.new.self c.in-Some.v c.loop-v.invariant c.in-Some.ensures.taken in
-    let same : c.as_slice-targets.result.now ≡ edges c.args.graph.now c.in-Some.v = c.as_slice-targets.ensures
-    ∙ sym (get_or_from_slice_get c.args.graph.now c.in-Some.v c.at.result.now [] c.at.ensures.value) in
-    let at = contains_at (edges c.args.graph.now c.in-Some.v) v (subst (λ (ts : List ℕ). Contains ts v) same w) in
-    let less = subst (λ u. u < length c.args.graph.now) at.2 (c.requires.vertices c.in-Some.v at.0 within at.1) in
-    let n = c.requires.marks in let m = c.loop-v.invariant.size in omega (arith, less, n, m)
+    let same = c.as_slice-targets.ensures ∙ sym (get_or_from_slice_get c.args.graph.now c.in-Some.v c.at.result.now [] c.at.ensures.value) in
+    let less = search_edge c.args.allowed.now c.args.wanted c.args.from c.args.graph.now c.requires.vertices c.args.marks.now c.loop-v.marks c.loop-v.waiting
+    c.pop.new.self c.in-Some.v v c.loop-v.invariant c.in-Some.ensures.taken (subst (λ (ts : List ℕ). Contains ts v) same w) in
+    omega (arith, less, c.requires.marks, c.loop-v.invariant.size)
 
 pub loop-v-preserved : goal.loop-v-preserved
 loop-v-preserved c =
-    let same : c.as_slice-targets.result.now ≡ edges c.args.graph.now c.in-Some.v = c.as_slice-targets.ensures
-    ∙ sym (get_or_from_slice_get c.args.graph.now c.in-Some.v c.at.result.now [] c.at.ensures.value) in
+    let same = c.as_slice-targets.ensures ∙ sym (get_or_from_slice_get c.args.graph.now c.in-Some.v c.at.result.now [] c.at.ensures.value) in
     (search_step c.args.allowed.now c.args.wanted c.args.from c.args.graph.now c.requires.vertices c.args.marks.now c.loop-v.marks c.spread.new.marks
     c.loop-v.waiting c.pop.new.self c.spread.new.waiting c.in-Some.v
     c.loop-v.invariant c.in-Some.ensures.taken
@@ -52,8 +44,7 @@ loop-v-preserved c =
 
 pub loop-v-smaller : goal.loop-v-smaller
 loop-v-smaller c =
-    let same : c.as_slice-targets.result.now ≡ edges c.args.graph.now c.in-Some.v = c.as_slice-targets.ensures
-    ∙ sym (get_or_from_slice_get c.args.graph.now c.in-Some.v c.at.result.now [] c.at.ensures.value) in
+    let same = c.as_slice-targets.ensures ∙ sym (get_or_from_slice_get c.args.graph.now c.in-Some.v c.at.result.now [] c.at.ensures.value) in
     (search_step c.args.allowed.now c.args.wanted c.args.from c.args.graph.now c.requires.vertices c.args.marks.now c.loop-v.marks c.spread.new.marks
     c.loop-v.waiting c.pop.new.self c.spread.new.waiting c.in-Some.v
     c.loop-v.invariant c.in-Some.ensures.taken

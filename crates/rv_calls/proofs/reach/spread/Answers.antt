@@ -2,11 +2,12 @@ use Rattle.std.proofs.Common.{ℕ, ◌<◌, List, [], ◌∷◌, get_or, take, r
 use Rattle.std.proofs.lemmas.List.{take_more}
 use Rattle.rv_calls.specs.Components.{IsSpread}
 use Rattle.rv_instances.proofs.Lists.{at_contains}
-use Rattle.rv_calls.proofs.Searches.{spread_none, spread_more}
+use Rattle.rv_calls.proofs.Searches.{spread_not, spread_more}
+use Rattle.rv_types.proofs.Members.{nothing_in}
 use Rattle.rv_calls.proofs.reach.spread.Goals as goal
 
 pub loop-target-init : goal.loop-target-init
-loop-target-init c = spread_none c.args.allowed.now c.args.wanted c.args.from c.args.marks.now c.args.waiting.now
+loop-target-init c = spread_not c.args.allowed.now c.args.wanted c.args.from [] c.args.marks.now c.args.waiting.now (λ k w. nothing_in k w)
 
 pub mark-requires-clause-allowed : goal.mark-requires-clause-allowed
 mark-requires-clause-allowed c =

@@ -5,8 +5,7 @@ use Rattle.rv_instances.proofs.Lists.{length_map}
 use Rattle.rv_calls.proofs.recursion.node_order.Goals as goal
 
 pub first_back-requires-clause-nodes : goal.first_back-requires-clause-nodes
-first_back-requires-clause-nodes c =
-    (c.in_ok-parts-in-Looped.ensures).size ∙ ap length c.requires.graph ∙ length_map callees c.args.table.now
+first_back-requires-clause-nodes c = (c.in_ok-parts-in-Looped.ensures).size ∙ ap length c.requires.graph ∙ length_map callees c.args.table.now
 
 pub first_back-requires-clause-callees : goal.first_back-requires-clause-callees
 first_back-requires-clause-callees c k d lt w =

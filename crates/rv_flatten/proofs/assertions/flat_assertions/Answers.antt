@@ -12,9 +12,7 @@ loop-instance-preserved c =
     let within : c.loop-instance.instance < length x.instances.now = subst (λ n. c.loop-instance.instance < n) c.len-instance-end.ensures
     c.loop-instance-test.true in
     instance_more x c.requires.given.known (numbers_of c.args.given.now c.args.found.now) c.loop-instance.instance c.loop-instance.made
-    c.push_assertions.new.made within
-    c.in_ok-push_assertions.ensures
-    c.loop-instance.invariant
+    c.push_assertions.new.made within c.in_ok-push_assertions.ensures c.loop-instance.invariant
 
 pub returns : goal.returns
 returns c =

@@ -3,7 +3,7 @@ use Rattle.rv_tree.specs.{Places.index_of, Places.is_same, Tree.ProgramTree, Tre
 use Rattle.rv_types.specs.{Instances.node_of, Lists.sites_of}
 use Rattle.rv_flat.specs.{Facts.all_few, Facts.integers, Facts.numbers_among, Lists.tick_places, Systems.places_of}
 use Rattle.rv_flatten.specs.Building.{program_given, main_given, numbers_of}
-use Rattle.rv_flatten.proofs.Assembled.{first_node, is_named, is_read, are_kinds, main_number, observer_there, observer_kind, observer_within, all_ticks_known}
+use Rattle.rv_flatten.proofs.Assembled.{first_given, is_named, is_read, are_kinds, main_number, observer_there, observer_kind, observer_within, all_ticks_known}
 use Rattle.rv_flatten.proofs.Assembled.{same_flows}
 use Rattle.rv_flatten.proofs.CountedVariables.{few_integers, few_variables, few_labels as few_label_lists}
 use Rattle.rv_flatten.proofs.ReadKeeps.{ends, flows_are, memories_are, assertions_are, clocks_are, ticks_are_apart, memories_are_apart, comparisons_are_apart}
@@ -19,38 +19,24 @@ node-main-requires-clause-within c = some_instance (program_given c.args.given.n
 
 pub invariant_of-result : goal.invariant_of-result
 invariant_of-result c =
-    let p : ProgramTree = program_given c.args.given.now in
-    let main = main_given c.args.given.now in
-    let given = c.requires.given in
-    let known = given.known.expanded in
-    let instances = c.args.given.now.expanded.now.instances.now in
-    let node : (c.node-main.result.now.inputs) ≡ (node_of p main).inputs = ap (λ (n : NodeTree). n.inputs)
-    (c.node-main.ensures ∙ first_node p main instances known) in
-    let fl = c.in_ok-parts.parts.flows in
-    let ms = c.in_ok-parts.parts.memories in
-    let is = c.in_ok-declared.declared.inputs in
-    let vs = c.in_ok-declared.declared.variables in
-    let as_ = c.in_ok-parts.parts.assertions in
-    let ls = c.in_ok-told.told.labels in
-    let made = c.in_ok-parts.ensures in
-    let observer = c.number_at-observer.result in
-    let kinds = c.in_ok-declared.ensures.kinds in
-    let ticks : tick_places vs ≡ sites_of c.args.found.now.ticks = c.in_ok-declared.ensures.ticks in
+    let g = c.args.given.now in let d = c.args.found.now in let p : ProgramTree = program_given g in
+    let main = main_given g in let given = c.requires.given in let known = given.known.expanded in
+    let instances = g.expanded.now.instances.now in
+    let node : (c.node-main.result.now.inputs) ≡ (node_of p main).inputs = ap (λ (n : NodeTree). n.inputs) (c.node-main.ensures ∙ first_given g given) in
+    let fl = c.in_ok-parts.parts.flows in let ms = c.in_ok-parts.parts.memories in let is = c.in_ok-declared.declared.inputs in
+    let vs = c.in_ok-declared.declared.variables in let as_ = c.in_ok-parts.parts.assertions in let ls = c.in_ok-told.told.labels in
+    let made = c.in_ok-parts.ensures in let observer = c.number_at-observer.result in let kinds = c.in_ok-declared.ensures.kinds in
+    let ticks : tick_places vs ≡ sites_of d.ticks = c.in_ok-declared.ensures.ticks in
     let labels = c.in_ok-told.ensures.labels in
-    let read = is_read c.args.given.now c.args.found.now given c.requires.found fl ms is
-    vs as_ made.flows made.memories made.assertions kinds ticks in
-    let types = are_kinds c.args.given.now c.args.found.now given c.requires.found fl ms is
-    vs as_ made.flows made.memories made.assertions kinds ticks
-    ls labels in
-    let named = is_named p main instances known in
-    let many = ap length node in
-    let number : observer ≡ index_of (sites_of c.args.given.now.sequence.now) (length (node_of p main).inputs ∷ []) =
-    c.number_at-observer.ensures ∙ ap (λ k. get_or c.args.found.now.numbering.flows k 0) (c.len.ensures ∙ many)
-    ∙ main_number p main instances known c.instance_numbers.ensures c.args.given.now.layout.now given.layout (numbers_of c.args.given.now c.args.found.now)
-    c.args.found.now.numbering c.requires.found.numbering (length (node_of p main).inputs) (observer_within p main instances known c.requires.observer) in
+    let read = is_read g d given c.requires.found fl ms is vs as_ made.flows made.memories made.assertions kinds ticks in
+    let types = are_kinds g d given c.requires.found fl ms is vs as_ made.flows made.memories made.assertions kinds ticks ls labels in
+    let named = is_named p main instances known in let many = ap length node in
+    let number : observer ≡ index_of (sites_of g.sequence.now) (length (node_of p main).inputs ∷ []) =
+    c.number_at-observer.ensures ∙ ap (λ k. get_or d.numbering.flows k 0) (c.len.ensures ∙ many)
+    ∙ main_number p main instances known c.instance_numbers.ensures g.layout.now given.layout (numbers_of g d) d.numbering
+    c.requires.found.numbering (length (node_of p main).inputs) (observer_within p main instances known c.requires.observer) in
     let light = given.light in
-    let flows = same_flows c.args.given.now c.args.found.now given c.requires.found fl ms is vs as_ made.flows made.memories
-    made.assertions kinds ticks in
+    let flows = same_flows g d given c.requires.found fl ms is vs as_ made.flows made.memories made.assertions kinds ticks in
     let tick_flows : c.in_ok-told.told.tick_flows ≡ numbers_among (places_of fl) (tick_places vs) =
     c.in_ok-told.ensures.tick_flows ∙ c.requires.found.tick_flows ∙ (λ i. numbers_among (sym flows i) (sym ticks i)) in
     record {
@@ -58,8 +44,8 @@ invariant_of-result c =
       flows_fit = flows_are p main known.well named light fl ms is vs as_ ls observer read types;
       memories_fit = memories_are p main known.well named light fl ms is vs as_ ls observer read types;
       assertions_fit = assertions_are p main known.well named light fl ms is vs as_ ls observer read types;
-      observed = observer_kind c.args.given.now c.args.found.now given c.requires.found fl ms is vs as_ made.flows made.memories
-          made.assertions kinds ticks c.requires.observer observer number;
+      observed = observer_kind g d given c.requires.found fl ms is vs as_ made.flows made.memories made.assertions kinds ticks c.requires.observer observer
+          number;
       ticks = all_ticks_known p main instances known (places_of fl) (tick_places vs) read.sequence read.ticks;
       tick_numbers = subst (λ l. is_same l (numbers_among (places_of fl) (tick_places vs)) ≡ true) (sym tick_flows)
           (text_itself (numbers_among (places_of fl) (tick_places vs)));
@@ -79,35 +65,22 @@ invariant_of-result c =
 
 pub returns-clause-flat : goal.returns-clause-flat
 returns-clause-flat c =
-    let p : ProgramTree = program_given c.args.given.now in
-    let main = main_given c.args.given.now in
-    let given = c.requires.given in
-    let known = given.known.expanded in
-    let instances = c.args.given.now.expanded.now.instances.now in
-    let node : (c.node-main.result.now.inputs) ≡ (node_of p main).inputs = ap (λ (n : NodeTree). n.inputs)
-    (c.node-main.ensures ∙ first_node p main instances known) in
-    let fl = c.in_ok-parts.parts.flows in
-    let ms = c.in_ok-parts.parts.memories in
-    let is = c.in_ok-declared.declared.inputs in
-    let vs = c.in_ok-declared.declared.variables in
-    let as_ = c.in_ok-parts.parts.assertions in
-    let ls = c.in_ok-told.told.labels in
-    let made = c.in_ok-parts.ensures in
-    let observer = c.number_at-observer.result in
-    let kinds = c.in_ok-declared.ensures.kinds in
-    let ticks : tick_places vs ≡ sites_of c.args.found.now.ticks = c.in_ok-declared.ensures.ticks in
+    let g = c.args.given.now in let d = c.args.found.now in let p : ProgramTree = program_given g in
+    let main = main_given g in let given = c.requires.given in let known = given.known.expanded in
+    let instances = g.expanded.now.instances.now in
+    let node : (c.node-main.result.now.inputs) ≡ (node_of p main).inputs = ap (λ (n : NodeTree). n.inputs) (c.node-main.ensures ∙ first_given g given) in
+    let fl = c.in_ok-parts.parts.flows in let ms = c.in_ok-parts.parts.memories in let is = c.in_ok-declared.declared.inputs in
+    let vs = c.in_ok-declared.declared.variables in let as_ = c.in_ok-parts.parts.assertions in let ls = c.in_ok-told.told.labels in
+    let made = c.in_ok-parts.ensures in let observer = c.number_at-observer.result in let kinds = c.in_ok-declared.ensures.kinds in
+    let ticks : tick_places vs ≡ sites_of d.ticks = c.in_ok-declared.ensures.ticks in
     let labels = c.in_ok-told.ensures.labels in
-    let read = is_read c.args.given.now c.args.found.now given c.requires.found fl ms is
-    vs as_ made.flows made.memories made.assertions kinds ticks in
-    let types = are_kinds c.args.given.now c.args.found.now given c.requires.found fl ms is
-    vs as_ made.flows made.memories made.assertions kinds ticks
-    ls labels in
-    let named = is_named p main instances known in
-    let many = ap length node in
-    let number : observer ≡ index_of (sites_of c.args.given.now.sequence.now) (length (node_of p main).inputs ∷ []) =
-    c.number_at-observer.ensures ∙ ap (λ k. get_or c.args.found.now.numbering.flows k 0) (c.len.ensures ∙ many)
-    ∙ main_number p main instances known c.instance_numbers.ensures c.args.given.now.layout.now given.layout (numbers_of c.args.given.now c.args.found.now)
-    c.args.found.now.numbering c.requires.found.numbering (length (node_of p main).inputs) (observer_within p main instances known c.requires.observer) in
+    let read = is_read g d given c.requires.found fl ms is vs as_ made.flows made.memories made.assertions kinds ticks in
+    let types = are_kinds g d given c.requires.found fl ms is vs as_ made.flows made.memories made.assertions kinds ticks ls labels in
+    let named = is_named p main instances known in let many = ap length node in
+    let number : observer ≡ index_of (sites_of g.sequence.now) (length (node_of p main).inputs ∷ []) =
+    c.number_at-observer.ensures ∙ ap (λ k. get_or d.numbering.flows k 0) (c.len.ensures ∙ many)
+    ∙ main_number p main instances known c.instance_numbers.ensures g.layout.now given.layout (numbers_of g d) d.numbering
+    c.requires.found.numbering (length (node_of p main).inputs) (observer_within p main instances known c.requires.observer) in
     let laws : Laws = record {
       whole = c.translated_expressions.ensures.whole;
       meaning = c.one_meaning.ensures;
@@ -121,12 +94,10 @@ returns-clause-flat c =
       name = c.in_ok-told.ensures.name;
       inputs = c.in_ok-declared.ensures.names;
       variables = c.in_ok-declared.ensures.variables;
-      counted = counted_variables p main known.sited known.well.numbered (node_in p main instances known)
-          c.requires.counted.all c.requires.counted.only vs
-          c.in_ok-declared.ensures.variables;
+      counted = counted_variables p main known.sited known.well.numbered (node_in p main instances known) c.requires.counted.all
+          c.requires.counted.only vs c.in_ok-declared.ensures.variables;
       columns = c.in_ok-declared.ensures.columns;
-      observer = observer_there c.args.given.now c.args.found.now given c.requires.found fl ms is
-          vs as_ made.flows made.memories made.assertions kinds ticks
-          c.requires.observer observer number;
+      observer = observer_there g d given c.requires.found fl ms is vs as_ made.flows made.memories made.assertions kinds ticks c.requires.observer observer
+          number;
       thresholds = c.in_ok-told.ensures.thresholds;
     })

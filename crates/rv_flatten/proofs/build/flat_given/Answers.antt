@@ -26,14 +26,12 @@ flat_by-requires-clause-few c = subst (λ n. n ≤ 200000) (sym c.requires.fits.
 
 pub flat_by-requires-clause-observer : goal.flat_by-requires-clause-observer
 flat_by-requires-clause-observer c =
-    let p = program_given c.args.given.now in
-    let s = c.requires.fits.settled in
+    let p = program_given c.args.given.now in let s = c.requires.fits.settled in
     let main : s.0 ≡ main_given c.args.given.now = sym (main_name p s.0 c.args.typed.now s.1) ∙ ap (name_at p) (sym c.requires.main) in
     subst (λ m. observer_faults p m ≡ []) main s.1.observer
 
 pub flat_by-requires-clause-main : goal.flat_by-requires-clause-main
 flat_by-requires-clause-main c =
-    let p = program_given c.args.given.now in
-    let s = c.requires.fits.settled in
+    let p = program_given c.args.given.now in let s = c.requires.fits.settled in
     let main : s.0 ≡ main_given c.args.given.now = sym (main_name p s.0 c.args.typed.now s.1) ∙ ap (name_at p) (sym c.requires.main) in
     s.1.main_number ∙ ap (node_number p) main

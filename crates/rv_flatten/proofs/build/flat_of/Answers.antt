@@ -16,7 +16,6 @@ flat_expanded-requires-clause-fits c =
 
 pub returns-clause-expanded : goal.returns-clause-expanded
 returns-clause-expanded c =
-    let p = program_tree c.args.program.now in
-    let name = name_at p c.args.typed.now.main in
+    let p = program_tree c.args.program.now in let name = name_at p c.args.typed.now.main in
     if_ok c.flat_expanded.result (λ (f : Flat). f.expanded ≡ c.args.order.now.expanded) (λ (f : Flat). f.expanded ≡ expanded p name)
     (λ f is. is ∙ c.requires.nodes) c.flat_expanded.ensures.expanded

@@ -5,8 +5,7 @@ use Rattle.rv_flatten.proofs.build.flat_read.Goals as goal
 
 pub flat_given-requires-clause-given : goal.flat_given-requires-clause-given
 flat_given-requires-clause-given c =
-    let e = c.args.expanded.now in
-    let p = program_of e in
+    let e = c.args.expanded.now in let p = program_of e in
     let name : name_at p c.args.typed.now.main ≡ main_of e = ap (name_at p) (sym c.requires.main) in
     record {
       known = c.requires.known;

@@ -12,8 +12,7 @@ node-main-requires-clause-within c = some_instance (program_given c.args.given.n
 pub returns-clause-name : goal.returns-clause-name
 returns-clause-name c =
     let p : ProgramTree = program_given c.args.given.now in
-    let main = main_given c.args.given.now in
-    let known = c.requires.given.known.expanded in
+    let main = main_given c.args.given.now in let known = c.requires.given.known.expanded in
     let instances = c.args.given.now.expanded.now.instances.now in
     sym c.in_ok-name.ensures.cases ∙ ap (λ (n : NodeTree). n.name.text) (c.node-main.ensures ∙ first_node p main instances known)
     ∙ main_name p main instances known

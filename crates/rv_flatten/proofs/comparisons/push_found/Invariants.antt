@@ -4,5 +4,4 @@ use Rattle.rv_flatten.proofs.comparisons.push_found.Given as goal
 
 abbrev pub invariant-loop-one : goal.invariant-loop-one
 invariant-loop-one l =
-    map found_comparison l.found ++ map (compared_at l.path) (drop l.one-index l.tested)
-    ≡ map found_comparison l.fn.found ++ map (compared_at l.path) l.tested
+    map found_comparison l.found ++ map (compared_at l.path) (drop l.one-index l.tested) ≡ map found_comparison l.fn.found ++ map (compared_at l.path) l.tested

@@ -7,9 +7,7 @@ use Rattle.rv_flatten.proofs.comparisons.tests_of_nodes.Goals as goal
 
 pub loop-clocks-preserved : goal.loop-clocks-preserved
 loop-clocks-preserved c =
-    let x = c.args.expanded.now in
-    let p = program_tree x.program.now in
-    let k = c.loop-clocks.clocks-index in
+    let x = c.args.expanded.now in let p = program_tree x.program.now in let k = c.loop-clocks.clocks-index in
     let node = c.clocks-item.result in
     let within : k < length x.clocks = subst (λ n. k < n) (ap length c.as_slice-clocks-items.ensures) c.loop-clocks-test.true in
     let is : get_or x.clocks k node ≡ node = sym (c.clocks-item.is ∙ (λ i. get_or (c.as_slice-clocks-items.ensures i) k node)) in
@@ -20,7 +18,6 @@ loop-clocks-preserved c =
 pub returns : goal.returns
 returns c =
     let x = c.args.expanded.now in
-    c.loop-clocks.invariant
-    ∙ each_node x c.requires.known (told_tests_in (program_tree x.program.now)) c.loop-clocks.clocks-index
+    c.loop-clocks.invariant ∙ each_node x c.requires.known (told_tests_in (program_tree x.program.now)) c.loop-clocks.clocks-index
     (subst (λ n. n ≤ c.loop-clocks.clocks-index) (ap length c.as_slice-clocks-items.ensures) c.loop-clocks-test.false)
     ∙ nodes_told (program_tree x.program.now) c.requires.known.expanded.well

@@ -15,23 +15,18 @@ giver_item-requires-clause-giver c =
 
 pub at-requires-3 : goal.at-requires-3
 at-requires-3 c =
-    let g = c.args.given.now in
-    let order = c.requires.found.order in
+    let g = c.args.given.now in let order = c.requires.found.order in
     let size = length-map g.sequence.now (λ (q : Place). q.sites) in
     let n : c.args.number < length c.args.found.now.order = let lt = c.requires.within in let many = order.size in omega (arith, lt, many, size) in
     let at = get_or_from_slice_get c.args.found.now.order c.args.number c.at.result.now 0 c.at.ensures.value in
-    let lt = (order.each c.args.number n).0 in
-    let flows = flows_size g c.requires.given in
-    omega (arith, lt, at, flows)
+    omega (arith, (order.each c.args.number n).0, at, flows_size g c.requires.given)
 
 pub returns : goal.returns
 returns c =
-    let g = c.args.given.now in
-    let p = program_given g in
-    let main = main_given g in
+    let g = c.args.given.now in let p = program_given g in let main = main_given g in
     let order = c.requires.found.order in
     let size = length-map g.sequence.now (λ (q : Place). q.sites) in
-    let n : c.args.number < length c.args.found.now.order = let lt = c.requires.within in let many = order.size in omega (arith, lt, many, size) in
+    let n : c.args.number < length c.args.found.now.order = omega (arith, c.requires.within, order.size, size) in
     let at = get_or_from_slice_get c.args.found.now.order c.args.number c.at.result.now 0 c.at.ensures.value in
     let there = ap (place_at (all_places p g.expanded.now.instances.now)) (sym at) ∙ (order.each c.args.number n).1 in
     let f = its_giver g c.requires.given c.at.result.now c.at-2.result.now c.at-2.ensures.value in

@@ -25,14 +25,9 @@ loop-number-preserved c =
 
 pub returns : goal.returns
 returns c =
-    let g = c.args.given.now in
-    let made = c.loop-number.invariant.made in
+    let g = c.args.given.now in let made = c.loop-number.invariant.made in
     record {
       many =
-          let size = length-map g.sequence.now (λ (q : Place). q.sites) in
-          let had = made.many in
-          let past = c.loop-number-test.false in
-          let to = c.loop-number.auto.number-end in
-          omega (arith, size, had, past, to);
+          omega (arith, length-map g.sequence.now (λ (q : Place). q.sites), made.many, c.loop-number-test.false, c.loop-number.auto.number-end);
       each = made.each;
     }

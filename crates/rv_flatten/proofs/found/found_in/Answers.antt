@@ -8,13 +8,9 @@ use Rattle.rv_flatten.proofs.found.found_in.Goals as goal
 
 pub returns : goal.returns
 returns c =
-    let x = c.args.expanded.now in
-    let p = program_of x in
-    let main = main_of x in
-    let all = all_places p x.instances.now in
-    let sequence = sites_of c.args.sequence.now in
-    let kept = map (λ k. k.place.sites) c.in_ok-kept.kept in
-    let ticking = c.in_ok-ticking.ticking in
+    let x = c.args.expanded.now in let p = program_of x in let main = main_of x in
+    let all = all_places p x.instances.now in let sequence = sites_of c.args.sequence.now in
+    let kept = map (λ k. k.place.sites) c.in_ok-kept.kept in let ticking = c.in_ok-ticking.ticking in
     let ticks : sites_of c.in_ok-ticks.ticks ≡ map (place_at all) ticking = c.in_ok-ticks.ensures in
     record {
       kept = c.in_ok-kept.ensures;

@@ -15,11 +15,8 @@ memory_numbers-requires c =
 
 pub returns : goal.returns
 returns c =
-    let x = c.args.expanded.now in
-    let p = program_of x in
-    let main = main_of x in
-    let instances = x.instances.now in
-    let known = c.requires.known.expanded in
+    let x = c.args.expanded.now in let p = program_of x in let main = main_of x in
+    let instances = x.instances.now in let known = c.requires.known.expanded in
     record {
       flows = c.in_ok-flows.ensures p main instances (sites_of c.args.sequence.now) known c.requires.sequence c.flow_count-count.ensures.count
           (subst (AreNumbersOf (all_places p instances) (sites_of c.args.sequence.now)) (sym c.as_slice.ensures) c.requires.order);

@@ -18,9 +18,7 @@ clock-clock-requires-clause-within c =
 
 pub returns : goal.returns
 returns c numbers q g light ticks numbering gives stands =
-    let x = c.args.expanded.now in
-    let p = program_of x in
-    let reader = c.new-reader.ensures in
+    let x = c.args.expanded.now in let p = program_of x in let reader = c.new-reader.ensures in
     let frame : Frame = record {
       expanded = c.args.expanded;
       reader = c.new-reader.result;

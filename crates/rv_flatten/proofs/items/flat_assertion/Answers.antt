@@ -9,9 +9,7 @@ use Rattle.rv_flatten.proofs.items.flat_assertion.Goals as goal
 
 pub returns : goal.returns
 returns c numbers i light ticks numbering of number there =
-    let x = c.args.expanded.now in
-    let p = program_of x in
-    let reader = c.new-reader.ensures in
+    let x = c.args.expanded.now in let p = program_of x in let reader = c.new-reader.ensures in
     let frame : Frame = record {
       expanded = c.args.expanded;
       reader = c.new-reader.result;

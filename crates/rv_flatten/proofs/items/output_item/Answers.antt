@@ -25,9 +25,7 @@ overflow_add-first c =
 
 pub returns : goal.returns
 returns c numbers q g light ticks numbering gives stands =
-    let x = c.args.expanded.now in
-    let o = c.args.output.now in
-    let p = program_of x in
+    let x = c.args.expanded.now in let o = c.args.output.now in let p = program_of x in
     let reader = c.new-reader.ensures in
     let frame : Frame = record {
       expanded = c.args.expanded;
@@ -41,8 +39,6 @@ returns c numbers q g light ticks numbering gives stands =
     (reader.node ∙ ap (node_at p x.instances.now) (sym reader.instance))
     (c.own_at-own.ensures ∙ ap (λ m. node_scope p (node_at p x.instances.now m)) (sym reader.instance))
     (subst (IsLayout p (main_of x) x.instances.now) (sym reader.layout) c.requires.layout)
-    c.requires.values numbering c.args.output.now q g _ _ reader.instance gives stands
-    (c.clock_number.ensures ∙ ap (clock_read frame) c.clock-clock.ensures)
-    (ap raw_tree c.into_inner.ensures ∙ c.in_ok-made.ensures
-    ∙ ap (λ k. unplaced (Flow k)) (c.number_at-flow.ensures ∙ ap (λ k. flow_read frame (k + o.output))
+    c.requires.values numbering c.args.output.now q g _ _ reader.instance gives stands (c.clock_number.ensures ∙ ap (clock_read frame) c.clock-clock.ensures)
+    (ap raw_tree c.into_inner.ensures ∙ c.in_ok-made.ensures ∙ ap (λ k. unplaced (Flow k)) (c.number_at-flow.ensures ∙ ap (λ k. flow_read frame (k + o.output))
     (c.output-first.ensures ∙ ap (numbers_of c.new-reader.result).output c.site_of-site.ensures)))

@@ -5,6 +5,4 @@ use Rattle.rv_flatten.proofs.memories.few_memories.Goals as goal
 
 pub returns : goal.returns
 returns c p main instances ks known counted limits kept =
-    let few = few_memories p main (map kept_memory ks) counted.all kept.list limits.expressions in
-    let long = length-map ks kept_memory in
-    omega (arith, few, long)
+    omega (arith, few_memories p main (map kept_memory ks) counted.all kept.list limits.expressions, length-map ks kept_memory)

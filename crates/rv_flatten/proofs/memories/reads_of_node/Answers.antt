@@ -10,9 +10,7 @@ use Rattle.rv_flatten.proofs.memories.reads_of_node.Goals as goal
 
 pub returns : goal.returns
 returns c p t different =
-    let n = node_tree c.args.clocks.now.node.now in
-    let s = node_scope p n in
-    let reader = c.in_ok-reader.reader in
+    let n = node_tree c.args.clocks.now.node.now in let s = node_scope p n in let reader = c.in_ok-reader.reader in
     let node : node_read reader ≡ n = c.in_ok-reader.ensures.node in
     let scope : scope_read reader ≡ s = c.in_ok-reader.ensures.scope p t different in
     let kinds : c.as_slice-2.result.now ≡ delayed_kinds s (node_delays n) =
@@ -22,5 +20,4 @@ returns c p t different =
     let all : joined (node_read reader) c.as_slice-2.result.now (map delay_listed c.as_slice.result.now) ≡ reads_in p n =
     (λ i. joined (node i) (kinds i) (delays i)) ∙ joined_reads n s (node_delays n) in
     if_ok c.together.result (λ (read : List MemoryRead). map read_seen read ≡ joined (node_read reader) c.as_slice-2.result.now
-    (map delay_listed c.as_slice.result.now)) (λ (read : List MemoryRead). map read_seen read ≡ reads_in p n)
-    (λ read is. is ∙ all) c.together.ensures
+    (map delay_listed c.as_slice.result.now)) (λ (read : List MemoryRead). map read_seen read ≡ reads_in p n) (λ read is. is ∙ all) c.together.ensures

@@ -8,9 +8,7 @@ use Rattle.rv_flatten.proofs.memories.reads_of_nodes.Goals as goal
 
 pub loop-clocks-preserved : goal.loop-clocks-preserved
 loop-clocks-preserved c =
-    let x = c.args.expanded.now in
-    let p = program_tree x.program.now in
-    let k = c.loop-clocks.clocks-index in
+    let x = c.args.expanded.now in let p = program_tree x.program.now in let k = c.loop-clocks.clocks-index in
     let node = c.clocks-item.result in
     let within : k < length x.clocks = subst (λ n. k < n) (ap length c.as_slice-clocks-items.ensures) c.loop-clocks-test.true in
     let is : get_or x.clocks k node ≡ node = sym (c.clocks-item.is ∙ (λ i. get_or (c.as_slice-clocks-items.ensures i) k node)) in
@@ -18,8 +16,7 @@ loop-clocks-preserved c =
     one_more (λ (c : NodeClocks). reads_in p (node_tree c.node.now)) x.clocks k node (map (map read_seen) c.loop-clocks.read)
     (map (map read_seen) c.push.new.self) (map read_seen c.in_ok-own.own) within is
     (ap (map (map read_seen)) c.in_ok-push.ensures.ok ∙ map-append (λ (rs : List MemoryRead). map read_seen rs) c.loop-clocks.read (c.in_ok-own.own ∷ []))
-    c.loop-clocks.invariant
-    found
+    c.loop-clocks.invariant found
 
 pub returns : goal.returns
 returns c =

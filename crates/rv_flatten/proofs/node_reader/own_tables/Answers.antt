@@ -8,21 +8,15 @@ use Rattle.rv_flatten.proofs.node_reader.own_tables.Goals as goal
 
 pub loop-clocks-preserved : goal.loop-clocks-preserved
 loop-clocks-preserved c =
-    let x = c.args.expanded.now in
-    let p = program_tree x.program.now in
-    let t = c.args.tables.now in
-    let k = c.loop-clocks.clocks-index in
-    let clocks = c.clocks-item.result in
-    let own = c.in_ok-own.own in
+    let x = c.args.expanded.now in let p = program_tree x.program.now in let t = c.args.tables.now in
+    let k = c.loop-clocks.clocks-index in let clocks = c.clocks-item.result in let own = c.in_ok-own.own in
     let within : k < length x.clocks = subst (λ n. k < n) (ap length c.as_slice-clocks-items.ensures) c.loop-clocks-test.true in
     let is : get_or x.clocks k clocks ≡ clocks = sym (c.clocks-item.is ∙ (λ i. get_or (c.as_slice-clocks-items.ensures i) k clocks)) in
     let scope : scope_by t own ≡ node_scope p (node_tree clocks.node.now) = c.in_ok-own.ensures.scope p c.requires.tables
     (clocked_once x c.requires.known k clocks within is) in
     one_more (λ (c : NodeClocks). node_scope p (node_tree c.node.now)) x.clocks k clocks (map (scope_by t) c.loop-clocks.owns)
     (map (scope_by t) c.push.new.self) (scope_by t own) within is
-    (ap (map (scope_by t)) c.in_ok-push.ensures.ok ∙ map-append (scope_by t) c.loop-clocks.owns (own ∷ []))
-    c.loop-clocks.invariant
-    scope
+    (ap (map (scope_by t)) c.in_ok-push.ensures.ok ∙ map-append (scope_by t) c.loop-clocks.owns (own ∷ [])) c.loop-clocks.invariant scope
 
 pub returns : goal.returns
 returns c =

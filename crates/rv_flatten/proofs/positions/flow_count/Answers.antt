@@ -7,17 +7,13 @@ use Rattle.rv_flatten.proofs.positions.flow_count.Goals as goal
 pub overflow_sub-last : goal.overflow_sub-last
 overflow_sub-last c =
     let x = c.args.expanded.now in
-    let some = some_instance (program_of x) (main_of x) x.instances.now c.requires.known.expanded in
-    let size = c.len-last.ensures in
-    omega (arith, some, size)
+    omega (arith, some_instance (program_of x) (main_of x) x.instances.now c.requires.known.expanded, c.len-last.ensures)
 
 pub at-requires : goal.at-requires
 at-requires c =
     let x = c.args.expanded.now in
-    let some = some_instance (program_of x) (main_of x) x.instances.now c.requires.known.expanded in
-    let size = c.len-last.ensures in
-    let all = ap length c.requires.layout.laid ∙ laid_size (program_of x) x.instances.now (length x.instances.now) in
-    omega (arith, some, size, all)
+    let laid = ap length c.requires.layout.laid ∙ laid_size (program_of x) x.instances.now (length x.instances.now) in
+    omega (arith, some_instance (program_of x) (main_of x) x.instances.now c.requires.known.expanded, c.len-last.ensures, laid)
 
 pub returns-clause-count : goal.returns-clause-count
 returns-clause-count c =
@@ -25,8 +21,7 @@ returns-clause-count c =
     let some = some_instance (program_of x) (main_of x) x.instances.now c.requires.known.expanded in
     let size = c.len-last.ensures in
     last_end (program_of x) (main_of x) x.instances.now c.requires.known.expanded c.args.layout.now.laid (c.len-last.result - 1) c.at.result.now c.count.result
-    (omega (arith, some, size)) c.requires.layout.laid
-    c.at.ensures.value c.count.ensures.count
+    (omega (arith, some, size)) c.requires.layout.laid c.at.ensures.value c.count.ensures.count
 
 pub returns-clause-few : goal.returns-clause-few
 returns-clause-few c =

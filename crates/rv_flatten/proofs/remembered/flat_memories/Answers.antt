@@ -9,19 +9,12 @@ use Rattle.rv_base.proofs.Lists.{contains_got}
 use Rattle.rv_flatten.proofs.remembered.flat_memories.Goals as goal
 
 pub loop-kept-init : goal.loop-kept-init
-loop-kept-init c = (
-  ap (map memory_of) c.new-memories.ensures,
-  λ m w. nothing_in m (subst (λ (l : List FlatMemory). Contains l m) c.new-memories.ensures w),
-)
+loop-kept-init c = (ap (map memory_of) c.new-memories.ensures, λ m w. nothing_in m (subst (λ (l : List FlatMemory). Contains l m) c.new-memories.ensures w))
 
 pub loop-kept-preserved : goal.loop-kept-preserved
 loop-kept-preserved c =
-    let g = c.args.given.now in
-    let k = c.loop-kept.kept-index in
-    let items = c.as_slice-kept-items.result.now in
-    let had = c.loop-kept.memories in
-    let made = c.in_ok-memory.memory in
-    let grown = c.in_ok-push.ensures.ok in
+    let g = c.args.given.now in let k = c.loop-kept.kept-index in let items = c.as_slice-kept-items.result.now in
+    let had = c.loop-kept.memories in let made = c.in_ok-memory.memory in let grown = c.in_ok-push.ensures.ok in
     let is : get_or items k c.kept-item.result ≡ c.kept-item.result = sym c.kept-item.is in (
       one_more kept_memory items k c.kept-item.result (map memory_of had) (map memory_of c.push.new.self) (memory_of made) c.loop-kept-test.true is
           (ap (map memory_of) grown ∙ map-append memory_of had (made ∷ []))

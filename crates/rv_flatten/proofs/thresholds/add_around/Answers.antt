@@ -21,9 +21,7 @@ returns c =
     on_ok_weaker c.push-6.result
     (λ last. six_more c.args.spread.now c.push.new.self c.push-2.new.self c.push-3.new.self c.push-4.new.self c.push-5.new.self c.push-6.new.self
     (n -ℤ pos 1) n (n +ℤ pos 1) (neg_ℤ (n -ℤ pos 1)) (neg_ℤ n) (neg_ℤ (n +ℤ pos 1)) _ _ _ _ _ _
-    c.in_ok-push.ensures.ok c.in_ok-push-2.ensures.ok c.in_ok-push-3.ensures.ok c.in_ok-push-4.ensures.ok c.in_ok-push-5.ensures.ok last
-    before same after
+    c.in_ok-push.ensures.ok c.in_ok-push-2.ensures.ok c.in_ok-push-3.ensures.ok c.in_ok-push-4.ensures.ok c.in_ok-push-5.ensures.ok last before same after
     (to_z-of_z w128 c.negative.result fits_4 ∙ c.negative.ensures ∙ ap neg_ℤ before)
     (to_z-of_z w128 c.negative-2.result fits_5 ∙ c.negative-2.ensures ∙ ap neg_ℤ same)
-    (to_z-of_z w128 c.negative-3.result fits_6 ∙ c.negative-3.ensures ∙ ap neg_ℤ after))
-    c.push-6.ensures.ok
+    (to_z-of_z w128 c.negative-3.result fits_6 ∙ c.negative-3.ensures ∙ ap neg_ℤ after)) c.push-6.ensures.ok

@@ -5,9 +5,7 @@ use Rattle.rv_instances.proofs.{ExpandedLaws.of_nodes, FlowTable.of_flows}
 use Rattle.rv_instances.proofs.flows.flows_in.Goals as goal
 
 pub flows_of-requires-clause-nodes : goal.flows_of-requires-clause-nodes
-flows_of-requires-clause-nodes c =
-    let x = c.args.expanded.now in
-    of_nodes (program_of x) (main_of x) x.instances.now c.requires.expanded
+flows_of-requires-clause-nodes c = let x = c.args.expanded.now in of_nodes (program_of x) (main_of x) x.instances.now c.requires.expanded
 
 pub returns-clause-instances : goal.returns-clause-instances
 returns-clause-instances c f w =

@@ -6,24 +6,20 @@ use Rattle.rv_instances.proofs.{ExpandedLaws.main_at, ExpandedLaws.node_is, Give
 use Rattle.rv_instances.proofs.givers.give_inputs.Goals as goal
 
 pub node-requires-clause-within : goal.node-requires-clause-within
-node-requires-clause-within c =
-    let x = c.args.expanded.now in
-    (main_at (program_of x) (main_of x) x.instances.now c.requires.known.expanded).0
+node-requires-clause-within c = let x = c.args.expanded.now in (main_at (program_of x) (main_of x) x.instances.now c.requires.known.expanded).0
 
 pub overflow_cast-input : goal.overflow_cast-input
 overflow_cast-input c =
     let x = c.args.expanded.now in
     let lt : c.loop-input.input < length (node_at (program_of x) x.instances.now 0).inputs = omega arith in
-    let few = input_few (program_of x) (main_of x) x.instances.now c.requires.known.expanded c.loop-input.input lt in
-    omega (arith, few)
+    omega (arith, input_few (program_of x) (main_of x) x.instances.now c.requires.known.expanded c.loop-input.input lt)
 
 pub set-requires : goal.set-requires
 set-requires c =
     let x = c.args.expanded.now in
     let lt : c.loop-input.input < length (node_at (program_of x) x.instances.now 0).inputs = omega arith in
-    let placed = (input_placed (program_of x) (main_of x) x.instances.now c.requires.known.expanded c.loop-input.input lt).0 in
     let size = c.loop-input.invariant.given.size in
-    omega (arith, placed, size)
+    omega (arith, (input_placed (program_of x) (main_of x) x.instances.now c.requires.known.expanded c.loop-input.input lt).0, size)
 
 pub loop-input-preserved : goal.loop-input-preserved
 loop-input-preserved c =
@@ -43,6 +39,4 @@ returns-clause-inputs c j lt =
     let root = node_is (program_of x) (main_of x) x.instances.now c.requires.known.expanded 0 (main_instance (program_of x) (main_of x)) is_main
     (main_at (program_of x) (main_of x) x.instances.now c.requires.known.expanded).1 in
     let all = ap (λ (n : NodeTree). length n.inputs) root in
-    let end = c.loop-input.invariant.end in
-    let done = c.loop-input-test.false in
-    c.loop-input.invariant.inputs j (omega (arith, lt, all, end, done))
+    c.loop-input.invariant.inputs j (omega (arith, lt, all, c.loop-input.invariant.end, c.loop-input-test.false))

@@ -30,10 +30,7 @@ returns-clause-rights c y r right =
     let x = c.args.expanded.now in
     let items = c.as_slice-equation-items.result.now in
     let n = node_at (program_of x) x.instances.now c.args.instance in
-    let are : map equation_tree items ≡ n.equations = ap (map equation_tree) c.as_slice-equation-items.ensures
-    ∙ ap (λ (k : NodeTree). k.equations) c.clocks.ensures in
+    let are = ap (map equation_tree) c.as_slice-equation-items.ensures ∙ ap (λ (k : NodeTree). k.equations) c.clocks.ensures in
     let v = right_listed n items are y r right in
-    let end = c.loop-equation-test.false in
-    let lt = v.3 in
     subst (λ z. IsGiven c.loop-equation.found (number_at (program_of x) x.instances.now c.args.instance z)) v.6
-    (c.loop-equation.invariant.lefts v.0 v.1 v.2 (omega (arith, lt, end)) v.4 v.5)
+    (c.loop-equation.invariant.lefts v.0 v.1 v.2 (omega (arith, v.3, c.loop-equation-test.false)) v.4 v.5)

@@ -9,9 +9,7 @@ use Rattle.rv_instances.proofs.givers.givers_of.Goals as goal
 
 pub loop-instance-preserved : goal.loop-instance-preserved
 loop-instance-preserved c =
-    let x = c.args.expanded.now in
-    let p = program_of x in
-    let ins = x.instances.now in
+    let x = c.args.expanded.now in let p = program_of x in let ins = x.instances.now in
     let t = c.loop-instance.instance in
     let both : (k : ℕ) → IsGiven c.loop-instance.found k → IsGiven c.give_arguments.new.found k = λ k g. c.give_arguments.ensures.kept k
     (c.give_rights.ensures.kept k g) in
@@ -37,15 +35,12 @@ loop-instance-preserved c =
 
 pub all_found-requires : goal.all_found-requires
 all_found-requires c k lt =
-    let x = c.args.expanded.now in
-    let size = c.loop-instance.invariant.given.size in
-    let done = c.loop-instance-test.false in
+    let x = c.args.expanded.now in let done = c.loop-instance-test.false in
     let end = c.loop-instance.invariant.end in
     all_given (program_of x) (main_of x) x.instances.now c.requires.known.expanded c.args.layout.now.callees c.requires.layout.callees c.loop-instance.found
-    c.loop-instance.invariant.inputs
-    (λ m y r less. c.loop-instance.invariant.rights m y r (omega (arith, less, done, end)))
+    c.loop-instance.invariant.inputs (λ m y r less. c.loop-instance.invariant.rights m y r (omega (arith, less, done, end)))
     (λ m d j e less. c.loop-instance.invariant.arguments m d j e (omega (arith, less, done, end)))
-    k (omega (arith, lt, size))
+    k (omega (arith, lt, c.loop-instance.invariant.given.size))
 
 pub returns : goal.returns
 returns c =

@@ -13,7 +13,6 @@ invariant-loop-instance l = record {
   rights : (m : ℕ) (x : Identifier) (r : Right) → m < l.instance → IsRight (node_at (program_of l.expanded) l.expanded.instances.now m) x r
       → IsGiven l.found (number_at (program_of l.expanded) l.expanded.instances.now m x);
   arguments : (m : ℕ) (c : CallTree) (j : ℕ) (e : Tree) → m < l.instance → Contains (calls (node_at (program_of l.expanded) l.expanded.instances.now m)) c
-      → IsArgument c.args j e
-      → IsGiven l.found (first_of (program_of l.expanded) l.expanded.instances.now (callee_or_main l.layout.callees m c.site) + j);
+      → IsArgument c.args j e → IsGiven l.found (first_of (program_of l.expanded) l.expanded.instances.now (callee_or_main l.layout.callees m c.site) + j);
   end : l.instance-end ≡ length l.expanded.instances.now;
 }

@@ -1,6 +1,6 @@
-use Rattle.std.proofs.Common.{◌≡◌, ℕ, ◌+◌, ◌≤◌, ◌++◌, ◌∷◌, [], List, Option, length, map, sym, ◌∙◌, ap, arith, inl, inr, get_or, Some, below_more, nat_eq}
+use Rattle.std.proofs.Common.{◌≡◌, ℕ, ◌≤◌, ◌++◌, ◌∷◌, [], List, Option, length, map, sym, ◌∙◌, ap, arith, inl, inr, get_or, Some, below_more, nat_eq}
 use Rattle.std.proofs.Common.{length-append, None as Nothing}
-use Rattle.std.proofs.{lemmas.Bool.cases_order, lemmas.List.length-map, lemmas.List.get_or-map, lemmas.List.get_or_past, lemmas.Option.slice_get_past}
+use Rattle.std.proofs.{lemmas.Bool.cases_lt, lemmas.List.length-map, lemmas.List.get_or-map, lemmas.List.get_or_past, lemmas.Option.slice_get_past}
 use Rattle.std.specs.HashMap as hash
 use Rattle.std.specs.Option.{option_map}
 use Rattle.rv_tree.specs.{Tree.NodeTree, Tree.node_tree, Places.index_of}
@@ -8,10 +8,6 @@ use Rattle.rv_types.specs.Instances.{no_node}
 use Rattle.rv_meaning.specs.{Callings.first_callee, Callings.callee_in, Leading.callee_at, Leading.callee_in_node, Leading.node_texts}
 use Rattle.rv_meaning.proofs.Entering.{called_in_node, others_stay, last_is}
 use Rattle.rv_meaning.proofs.calls.callees_of.Goals as goal
-
--- of a list and one more element, what is known of the length
-one_longer : {X : Type 0} (xs ys : List X) (x : X) (k : ℕ) → ys ≡ xs ++ x ∷ [] → length xs ≡ k → length ys ≡ k + 1
-one_longer xs ys x k e is = let long = ap length e in omega (arith, long, is, length-append xs (x ∷ []))
 
 pub loop-node-preserved : goal.loop-node-preserved
 loop-node-preserved c =
@@ -24,7 +20,7 @@ loop-node-preserved c =
     let lt = c.loop-node-test.true in
     let at : get_or ns i no_node ≡ n = get_or-map node_tree c.args.nodes.now i c.node-item.result no_node lt ∙ ap node_tree (sym c.node-item.is) in
     record {
-      size = one_longer tables c.push.new.self table i c.in_ok-push.ensures.ok size;
+      size = omega (arith, size, ap length c.in_ok-push.ensures.ok, length-append tables (table ∷ []));
       each = λ k s below.
           below_more (λ k. callee_in c.push.new.self k s ≡ callee_at ns k s) i
           (λ k less. ap (λ ts. callee_in ts k s) c.in_ok-push.ensures.ok ∙ others_stay tables table k s (omega (arith, size, less))
@@ -52,7 +48,4 @@ returns c = λ k s.
     let beyond : c.loop-node.node-index ≤ k → callee_in tables k s ≡ callee_at ns k s =
     λ le. ap (λ o. elim o as (λ _. Option ℕ) [ Nothing ↦ Nothing | Some table ↦ hash.get nat_eq table s ]) (slice_get_past tables k (omega (arith, size, le)))
     ∙ past ns k s (omega (arith, length-map c.args.nodes.now node_tree, le, end)) in
-    elim (cases_order k c.loop-node.node-index) [
-      | inl same ↦ beyond (omega (arith, same))
-      | inr other ↦ elim other [ inl below ↦ c.loop-node.invariant.each k s below | inr above ↦ beyond (omega (arith, above)) ]
-    ]
+    elim (cases_lt k c.loop-node.node-index) [ inl below ↦ c.loop-node.invariant.each k s below | inr le ↦ beyond le ]

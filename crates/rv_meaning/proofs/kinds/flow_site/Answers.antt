@@ -22,9 +22,8 @@ returns-then-input-len c =
 pub overflow_add-result : goal.overflow_add-result
 overflow_add-result c =
     let x = c.args.name.now in
-    let a = index_low (names c.as_slice.result.now) x in
-    let b = index_low (names c.as_slice-2.result.now) x in
-    omega (arith, a, b, many c.as_slice.result.now, many c.as_slice-2.result.now)
+    let i = c.as_slice.result.now in
+    let o = c.as_slice-2.result.now in omega (arith, index_low (names i) x, index_low (names o) x, many i, many o)
 
 pub returns-then-output-len : goal.returns-then-output-len
 returns-then-output-len c =
@@ -38,17 +37,16 @@ returns-then-output-len c =
 pub overflow_add-result-2 : goal.overflow_add-result-2
 overflow_add-result-2 c =
     let x = c.args.name.now in
-    let a = index_low (names c.as_slice.result.now) x in
-    let b = index_low (names c.as_slice-2.result.now) x in
-    omega (arith, a, b, many c.as_slice.result.now, many c.as_slice-2.result.now)
+    let i = c.as_slice.result.now in
+    let o = c.as_slice-2.result.now in omega (arith, index_low (names i) x, index_low (names o) x, many i, many o)
 
 pub overflow_add-result-3 : goal.overflow_add-result-3
 overflow_add-result-3 c =
     let x = c.args.name.now in
-    let a = index_low (names c.as_slice.result.now) x in
-    let b = index_low (names c.as_slice-2.result.now) x in
-    let l = index_low (names c.as_slice-3.result.now) x in
-    omega (arith, a, b, l, many c.as_slice.result.now, many c.as_slice-2.result.now, many c.as_slice-3.result.now)
+    let i = c.as_slice.result.now in
+    let o = c.as_slice-2.result.now in
+    let l = c.as_slice-3.result.now in
+    omega (arith, index_low (names i) x, index_low (names o) x, index_low (names l) x, many i, many o, many l)
 
 pub returns : goal.returns
 returns c =

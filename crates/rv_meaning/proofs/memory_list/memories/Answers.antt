@@ -10,14 +10,10 @@ use Rattle.rv_meaning.proofs.memory_list.memories.Goals as goal
 pub callees_of-requires : goal.callees_of-requires
 callees_of-requires c =
     let b = c.requires.tree.bounded in
-    let few = b.nodes in
-    let same = ap length c.as_slice.ensures in
-    omega (arith, few, same, length-map c.args.p.now.nodes node_tree)
+    let few = b.nodes in let same = ap length c.as_slice.ensures in omega (arith, few, same, length-map c.args.p.now.nodes node_tree)
 
 pub sites_of_nodes-requires : goal.sites_of_nodes-requires
-sites_of_nodes-requires c = λ n w.
-    let b = c.requires.tree.bounded in
-    b.node_flows n (subst (λ l. Contains (map node_tree l) n) c.as_slice-2.ensures w)
+sites_of_nodes-requires c = λ n w. let b = c.requires.tree.bounded in b.node_flows n (subst (λ l. Contains (map node_tree l) n) c.as_slice-2.ensures w)
 
 pub returns : goal.returns
 returns c =

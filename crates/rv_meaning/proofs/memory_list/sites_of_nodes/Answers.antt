@@ -1,5 +1,5 @@
 use Rattle.std.proofs.Common.{◌≡◌, ℕ, ◌+◌, ◌<◌, ◌≤◌, ◌++◌, ◌∷◌, [], List, length, map, sym, ◌∙◌, ap, subst, arith, inl, inr, get_or, below_more, length-append}
-use Rattle.std.proofs.lemmas.Bool.{cases_order}
+use Rattle.std.proofs.lemmas.Bool.{cases_lt}
 use Rattle.std.proofs.lemmas.List.{length-map, get_or-map, get_or_past, get_or_append_left, get_or-append-add}
 use Rattle.rv_tree.specs.Tree.{NodeTree, node_tree}
 use Rattle.rv_types.specs.Instances.{no_node}
@@ -15,10 +15,7 @@ sites_of_node-requires c =
     let at : get_or ns i n ≡ n = get_or-map node_tree c.args.nodes.now i c.node-item.result n lt ∙ ap node_tree (sym c.node-item.is) in
     c.requires n (i, omega (arith, length-map c.args.nodes.now node_tree, lt), at)
 
--- of a list and one more element: its length, its elements before the last, and the last
-longer : (xs ys : List (List ℕ)) (x : List ℕ) (k : ℕ) → ys ≡ xs ++ x ∷ [] → length xs ≡ k → length ys ≡ k + 1
-longer xs ys x k e is = let long = ap length e in omega (arith, long, is, length-append xs (x ∷ []))
-
+-- of a list and one more element: its elements before the last, and the last
 before : (xs ys : List (List ℕ)) (x : List ℕ) (k : ℕ) → ys ≡ xs ++ x ∷ [] → k < length xs → get_or xs k [] ≡ get_or ys k []
 before xs ys x k e lt = sym (ap (λ l. get_or l k []) e ∙ get_or_append_left xs (x ∷ []) [] k lt)
 
@@ -38,7 +35,7 @@ loop-node-preserved c =
     let own = c.in_ok-sites_of_node.field-0 in
     let at : get_or ns i no_node ≡ n = get_or-map node_tree c.args.nodes.now i c.node-item.result no_node lt ∙ ap node_tree (sym c.node-item.is) in
     record {
-      size = longer c.loop-node.sites c.push.new.self own i grown size;
+      size = omega (arith, size, ap length grown, length-append c.loop-node.sites (own ∷ []));
       each = below_more (λ k. AreSites (get_or ns k no_node) (get_or c.push.new.self k [])) i
           (λ k less. subst (λ l. AreSites (get_or ns k no_node) l) (before c.loop-node.sites c.push.new.self own k grown (omega (arith, size, less)))
           (c.loop-node.invariant.each k less))
@@ -62,7 +59,4 @@ returns c = λ k.
     let end = c.loop-node-test.false in
     let beyond : c.loop-node.node-index ≤ k → AreSites (get_or ns k no_node) (get_or sites k []) =
     λ le. past ns sites k (omega (arith, length-map c.args.nodes.now node_tree, le, end)) (omega (arith, size, le)) in
-    elim (cases_order k c.loop-node.node-index) [
-      | inl same ↦ beyond (omega (arith, same))
-      | inr other ↦ elim other [ inl below ↦ c.loop-node.invariant.each k below | inr above ↦ beyond (omega (arith, above)) ]
-    ]
+    elim (cases_lt k c.loop-node.node-index) [ inl below ↦ c.loop-node.invariant.each k below | inr le ↦ beyond le ]

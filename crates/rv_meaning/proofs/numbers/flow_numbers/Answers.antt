@@ -1,4 +1,4 @@
-use Rattle.std.proofs.Common.{◌≡◌, ℕ, ◌+◌, List, [], ◌++◌, length, sym, ◌∙◌, ap, arith, length-append, None as Nothing}
+use Rattle.std.proofs.Common.{◌≡◌, ℕ, ◌+◌, List, ◌++◌, length, sym, ◌∙◌, ap, arith, length-append, None as Nothing}
 use Rattle.std.proofs.lemmas.List.{length-map}
 use Rattle.std.specs.{HashMap.get, Map.lookup}
 use Rattle.rv_tree.specs.{declared.tree.Decl.Decl, Places.Identifier, Places.is_same, Places.names, Places.flows, Tree.node_tree}
@@ -24,19 +24,12 @@ pub returns : goal.returns
 returns c =
     let n = c.args.node.now in
     let m = c.enter-3.new.numbers in
-    let empty = ap (λ es. lookup (is_same []) es) c.new-numbers.ensures.empty in
     are_numbers (flows (node_tree n)) (record { numbers = m; count = c.len-outputs.result + c.len.result + c.len-2.result })
-    (let i = c.len-outputs.ensures in
+    (let all : length (flows (node_tree n)) ≡ length n.inputs + length n.outputs + length n.locals = simp (length-append, length-map) in
+    let i = c.len-outputs.ensures in
     let o = c.len.ensures in
     let l = c.len-2.ensures in
-    omega (
-      arith,
-      length-append (names n.inputs ++ names n.outputs) (names n.locals),
-      length-append (names n.inputs) (names n.outputs),
-      many n.inputs,
-      many n.outputs,
-      many n.locals,
-    ))
+    omega (arith, all))
     (λ x.
     c.in_ok-enter-3.ensures x
     ∙ ap (λ ds. entered 0 (names ds) (get is_same c.enter-2.new.numbers x) x) c.as_slice-3.ensures
@@ -49,5 +42,4 @@ returns c =
     ∙ three (names n.inputs) (names n.outputs) (names n.locals) c.len-outputs.result (c.len-outputs.result + c.len.result) x
     (c.len-outputs.ensures ∙ sym (many n.inputs))
     (let i = c.len-outputs.ensures in
-    let o = c.len.ensures in
-    omega (arith, many n.inputs, many n.outputs)))
+    let o = c.len.ensures in omega (arith, many n.inputs, many n.outputs)))

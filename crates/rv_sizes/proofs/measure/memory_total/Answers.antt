@@ -1,25 +1,19 @@
-use Rattle.std.proofs.Common.{◌≡◌, length, map, sym, ◌∙◌, ap, subst, ℕ}
-use Rattle.rv_tree.specs.Tree.{NodeTree, program_tree}
+use Rattle.std.proofs.Common.{◌≡◌, length, ℕ}
+use Rattle.rv_tree.specs.Tree.{program_tree}
 use Rattle.rv_instances.specs.Counts.{integer_memories}
 use Rattle.rv_types.specs.{Variables.over_instances, Instances.name_at}
-use Rattle.rv_sizes.specs.{Totals.AreCapped, Totals.total_at, Capped.capped}
+use Rattle.rv_sizes.specs.{Totals.total_at, Capped.capped}
 use Rattle.rv_calls.specs.Callings.{callings_of}
-use Rattle.rv_instances.proofs.Lists.{length_map, if_ok}
-use Rattle.rv_sizes.proofs.Measured.{numbers_capped, sum_measured, integers_measured}
+use Rattle.rv_instances.proofs.Lists.{if_ok}
+use Rattle.rv_sizes.proofs.Measured.{of_each, sum_measured, integers_measured}
 use Rattle.rv_sizes.proofs.measure.memory_total.Goals as goal
 
 pub total_of-requires : goal.total_of-requires
 total_of-requires c =
     let p = program_tree c.args.p.now in
-    let own : c.in_ok-own.own ≡ map (λ (n : NodeTree). capped (integer_memories p n)) p.nodes = integers_measured p c.in_ok-kinds.kinds c.in_ok-own.own
-    c.in_ok-kinds.ensures c.in_ok-own.ensures in
-    record {
-      named = c.requires.named;
-      nodes = c.requires.nodes;
-      main = c.requires.main;
-      size = ap length own ∙ length_map (λ (n : NodeTree). capped (integer_memories p n)) p.nodes;
-      own = subst AreCapped (sym own) (numbers_capped (integer_memories p) p.nodes);
-    }
+    let own = integers_measured p c.in_ok-kinds.kinds c.in_ok-own.own c.in_ok-kinds.ensures c.in_ok-own.ensures in
+    let each = of_each (integer_memories p) p.nodes c.in_ok-own.own own in
+    record { named = c.requires.named; nodes = c.requires.nodes; main = c.requires.main; size = each.0; own = each.1 }
 
 pub returns : goal.returns
 returns c =

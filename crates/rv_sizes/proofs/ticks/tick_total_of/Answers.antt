@@ -1,23 +1,17 @@
-use Rattle.std.proofs.Common.{◌≡◌, length, sym, ◌∙◌, ap, subst, ℕ}
-use Rattle.rv_tree.specs.Tree.{NodeTree, program_tree}
+use Rattle.std.proofs.Common.{◌≡◌, length, sym, ◌∙◌, ap, ℕ}
+use Rattle.rv_tree.specs.Tree.{program_tree}
 use Rattle.rv_types.specs.{Variables.ticks, Instances.name_at}
-use Rattle.rv_sizes.specs.{Ticks.own_ticks, Totals.AreCapped, Totals.total_at, Capped.capped}
+use Rattle.rv_sizes.specs.{Ticks.own_ticks, Totals.total_at, Capped.capped}
 use Rattle.rv_calls.specs.Callings.{callings_of}
-use Rattle.rv_instances.proofs.{Known.name_declared, Lists.length_map, Lists.if_ok}
-use Rattle.rv_sizes.proofs.{Measured.numbers_capped, Measured.sum_measured, TickLevels.ticks_summed}
+use Rattle.rv_instances.proofs.{Known.name_declared, Lists.if_ok}
+use Rattle.rv_sizes.proofs.{Measured.of_each, Measured.sum_measured, TickLevels.ticks_summed}
 use Rattle.rv_sizes.proofs.ticks.tick_total_of.Goals as goal
 
 pub total_of-requires : goal.total_of-requires
 total_of-requires c =
     let p = program_tree c.args.p.now in
-    let own = c.in_ok-ticks.ensures in
-    record {
-      named = c.requires.named;
-      nodes = c.requires.nodes;
-      main = c.requires.main;
-      size = ap length own ∙ length_map (λ (n : NodeTree). capped (own_ticks p n)) p.nodes;
-      own = subst AreCapped (sym own) (numbers_capped (own_ticks p) p.nodes);
-    }
+    let each = of_each (own_ticks p) p.nodes c.in_ok-ticks.ticks.own c.in_ok-ticks.ensures in
+    record { named = c.requires.named; nodes = c.requires.nodes; main = c.requires.main; size = each.0; own = each.1 }
 
 pub returns : goal.returns
 returns c =

@@ -29,9 +29,7 @@ slice_bounds-bits_of_kinds-end c =
     c.as_slice-kinds.ensures ∙ main_kinds p c.args.p.now.nodes c.args.t.now.main n refl c.requires.main c.at.ensures.value c.args.t.now.kinds c.at-2.result.now
     c.requires.kinds c.at-2.ensures.value in
     let few = inputs_few p (node_tree n) c.as_slice-kinds.result.now kinds in
-    let count = c.len-count.ensures in
-    let all = take_length c.len-count.result c.as_slice-kinds.result.now (omega (arith, few, count)) in
-    omega (arith, few, count, all)
+    omega (arith, few, c.len-count.ensures, take_length c.len-count.result c.as_slice-kinds.result.now (omega (arith, few, c.len-count.ensures)))
 
 pub returns : goal.returns
 returns c =

@@ -1,11 +1,10 @@
-use Rattle.std.proofs.Common.{◌≡◌, ◌≤◌, List, length, map, sym, ◌∙◌, ap, subst, ℕ}
-use Rattle.rv_tree.specs.{declared.tree.TypeDecl.TypeDecl, Tree.NodeTree, Tree.program_tree, Bounded.most}
-use Rattle.rv_types.specs.{declared.typed.Kind.Kind, Variables.memory_bits, Variables.over_instances, Values.labels_at, Instances.name_at}
-use Rattle.rv_instances.specs.Bits.{bits_of_all}
-use Rattle.rv_instances.proofs.{LabelCodes.few_labels, Lists.length_map, Lists.if_ok}
-use Rattle.rv_sizes.specs.{Totals.AreCapped, Totals.total_at, Capped.capped}
+use Rattle.std.proofs.Common.{◌≡◌, ◌≤◌, List, length, sym, subst, ℕ}
+use Rattle.rv_tree.specs.{declared.tree.TypeDecl.TypeDecl, Tree.program_tree, Bounded.most}
+use Rattle.rv_types.specs.{Variables.memory_bits, Variables.over_instances, Values.labels_at, Instances.name_at}
+use Rattle.rv_instances.proofs.{LabelCodes.few_labels, Lists.if_ok}
+use Rattle.rv_sizes.specs.{Totals.total_at, Capped.capped}
 use Rattle.rv_calls.specs.Callings.{callings_of}
-use Rattle.rv_sizes.proofs.{Measured.numbers_capped, Measured.sum_measured, Varied.bits_measured}
+use Rattle.rv_sizes.proofs.{Measured.of_each, Measured.sum_measured, Varied.bits_measured}
 use Rattle.rv_sizes.proofs.variables.memory_bit_total.Goals as goal
 
 pub memory_bits_of-requires : goal.memory_bits_of-requires
@@ -17,23 +16,14 @@ memory_bits_of-requires c = record {
 pub total_of-requires : goal.total_of-requires
 total_of-requires c =
     let p = program_tree c.args.p.now in
-    let own : c.in_ok-own.own ≡ map (λ (n : NodeTree). capped (memory_bits p n)) p.nodes =
-    bits_measured p c.in_ok-kinds.kinds c.in_ok-own.own c.in_ok-kinds.ensures
-    (c.in_ok-own.ensures ∙ ap (λ (ds : List TypeDecl). map (λ (ks : List Kind). capped (bits_of_all ds ks)) c.in_ok-kinds.kinds) c.as_slice.ensures) in
-    record {
-      named = c.requires.named;
-      nodes = c.requires.nodes;
-      main = c.requires.main;
-      size = ap length own ∙ length_map (λ (n : NodeTree). capped (memory_bits p n)) p.nodes;
-      own = subst AreCapped (sym own) (numbers_capped (memory_bits p) p.nodes);
-    }
+    let own = bits_measured p c.as_slice.result.now c.in_ok-kinds.kinds c.in_ok-own.own c.as_slice.ensures c.in_ok-kinds.ensures c.in_ok-own.ensures in
+    let each = of_each (memory_bits p) p.nodes c.in_ok-own.own own in
+    record { named = c.requires.named; nodes = c.requires.nodes; main = c.requires.main; size = each.0; own = each.1 }
 
 pub returns : goal.returns
 returns c =
     let p = program_tree c.args.p.now in
-    let own : c.in_ok-own.own ≡ map (λ (n : NodeTree). capped (memory_bits p n)) p.nodes =
-    bits_measured p c.in_ok-kinds.kinds c.in_ok-own.own c.in_ok-kinds.ensures
-    (c.in_ok-own.ensures ∙ ap (λ (ds : List TypeDecl). map (λ (ks : List Kind). capped (bits_of_all ds ks)) c.in_ok-kinds.kinds) c.as_slice.ensures) in
+    let own = bits_measured p c.as_slice.result.now c.in_ok-kinds.kinds c.in_ok-own.own c.as_slice.ensures c.in_ok-kinds.ensures c.in_ok-own.ensures in
     if_ok c.total_of.result (λ (sum : ℕ). sum ≡ capped (total_at c.in_ok-own.own (callings_of p) (length p.nodes) c.args.main))
     (λ (sum : ℕ). sum ≡ capped (over_instances p (name_at p c.args.main) (memory_bits p)))
     (λ sum is. sum_measured p c.requires.named c.args.main c.requires.main (memory_bits p) c.in_ok-own.own sum own is) c.total_of.ensures

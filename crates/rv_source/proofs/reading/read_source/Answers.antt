@@ -19,54 +19,39 @@ pub returns-in-Err-settle-clause-only : goal.returns-in-Err-settle-clause-only
 returns-in-Err-settle-clause-only c p t is =
     c.name_fault.ensures
     ∙ name_only c.args.bytes.now c.args.main.now (program_tree c.in-Ok.program) c.in-Ok.ensures.found
-    (λ q text. c.one_tree.ensures c.args.bytes.now q (program_tree c.in-Ok.program) text c.in-Ok.ensures.found)
-    (λ f h. c.one_fault.ensures.no_tree c.args.bytes.now f (program_tree c.in-Ok.program) h c.in-Ok.ensures.found)
-    p t c.in-Err-settle.fault is.text is.settled c.in-Err-settle.ensures.only
+    c.one_tree.ensures c.one_fault.ensures.no_tree p t c.in-Err-settle.fault is.text is.settled c.in-Err-settle.ensures.only
 
 pub returns-in-Err-settle-clause-refused : goal.returns-in-Err-settle-clause-refused
 returns-in-Err-settle-clause-refused c =
     subst (HasSourceCause c.args.bytes.now c.args.main.now) (sym c.name_fault.ensures)
     (name_refused c.args.bytes.now c.args.main.now (program_tree c.in-Ok.program) c.in-Ok.ensures.found
-    (λ q text. c.one_tree.ensures c.args.bytes.now q (program_tree c.in-Ok.program) text c.in-Ok.ensures.found)
-    (λ f h. c.one_fault.ensures.no_tree c.args.bytes.now f (program_tree c.in-Ok.program) h c.in-Ok.ensures.found)
-    c.in-Err-settle.fault c.in-Err-settle.ensures.refused)
+    c.one_tree.ensures c.one_fault.ensures.no_tree c.in-Err-settle.fault c.in-Err-settle.ensures.refused)
 
 pub returns-in-Err-settle-clause-only_refused : goal.returns-in-Err-settle-clause-only_refused
 returns-in-Err-settle-clause-only_refused c f h =
     subst (λ e. RefusesSource f (Err e)) (sym c.name_fault.ensures)
     (name_only_refused c.args.bytes.now c.args.main.now (program_tree c.in-Ok.program) c.in-Ok.ensures.found
-    (λ q text. c.one_tree.ensures c.args.bytes.now q (program_tree c.in-Ok.program) text c.in-Ok.ensures.found)
-    (λ g bad. c.one_fault.ensures.no_tree c.args.bytes.now g (program_tree c.in-Ok.program) bad c.in-Ok.ensures.found)
-    f c.in-Err-settle.fault c.in-Err-settle.ensures.only_refused c.in-Err-settle.ensures.only h)
+    c.one_tree.ensures c.one_fault.ensures.no_tree f c.in-Err-settle.fault c.in-Err-settle.ensures.only_refused c.in-Err-settle.ensures.only h)
 
 pub returns-in-Err-order-clause-only : goal.returns-in-Err-order-clause-only
 returns-in-Err-order-clause-only c p t is =
     c.cause_fault.ensures
     ∙ cause_only c.args.bytes.now c.args.main.now (program_tree c.in-Ok.program) c.in-Ok.ensures.found
-    (λ q text. c.one_tree.ensures c.args.bytes.now q (program_tree c.in-Ok.program) text c.in-Ok.ensures.found)
-    (λ g bad. c.one_fault.ensures.no_tree c.args.bytes.now g (program_tree c.in-Ok.program) bad c.in-Ok.ensures.found)
-    c.in-Ok-settle.typed c.in-Ok-settle.ensures.found (λ g first. c.settled_or_refused.ensures.never_both (program_tree c.in-Ok.program) c.args.main.now
-    c.in-Ok-settle.typed g c.in-Ok-settle.ensures.found first)
+    c.one_tree.ensures c.one_fault.ensures.no_tree c.in-Ok-settle.typed c.in-Ok-settle.ensures.found c.settled_or_refused.ensures.never_both
     p c.in-Err-order.fault is.text is.accepted c.in-Err-order.ensures.only
 
 pub returns-in-Err-order-clause-refused : goal.returns-in-Err-order-clause-refused
 returns-in-Err-order-clause-refused c =
     subst (HasSourceCause c.args.bytes.now c.args.main.now) (sym c.cause_fault.ensures)
     (cause_refused c.args.bytes.now c.args.main.now (program_tree c.in-Ok.program) c.in-Ok.ensures.found
-    (λ q text. c.one_tree.ensures c.args.bytes.now q (program_tree c.in-Ok.program) text c.in-Ok.ensures.found)
-    (λ g bad. c.one_fault.ensures.no_tree c.args.bytes.now g (program_tree c.in-Ok.program) bad c.in-Ok.ensures.found)
-    c.in-Ok-settle.typed c.in-Ok-settle.ensures.found (λ g first. c.settled_or_refused.ensures.never_both (program_tree c.in-Ok.program) c.args.main.now
-    c.in-Ok-settle.typed g c.in-Ok-settle.ensures.found first)
+    c.one_tree.ensures c.one_fault.ensures.no_tree c.in-Ok-settle.typed c.in-Ok-settle.ensures.found c.settled_or_refused.ensures.never_both
     c.in-Err-order.fault c.in-Err-order.ensures.refused)
 
 pub returns-in-Err-order-clause-only_refused : goal.returns-in-Err-order-clause-only_refused
 returns-in-Err-order-clause-only_refused c f h =
     subst (λ e. RefusesSource f (Err e)) (sym c.cause_fault.ensures)
     (cause_only_refused c.args.bytes.now c.args.main.now (program_tree c.in-Ok.program) c.in-Ok.ensures.found
-    (λ q text. c.one_tree.ensures c.args.bytes.now q (program_tree c.in-Ok.program) text c.in-Ok.ensures.found)
-    (λ g bad. c.one_fault.ensures.no_tree c.args.bytes.now g (program_tree c.in-Ok.program) bad c.in-Ok.ensures.found)
-    c.in-Ok-settle.typed c.in-Ok-settle.ensures.found (λ g first. c.settled_or_refused.ensures.never_both (program_tree c.in-Ok.program) c.args.main.now
-    c.in-Ok-settle.typed g c.in-Ok-settle.ensures.found first)
+    c.one_tree.ensures c.one_fault.ensures.no_tree c.in-Ok-settle.typed c.in-Ok-settle.ensures.found c.settled_or_refused.ensures.never_both
     f c.in-Err-order.fault c.in-Err-order.ensures.only_refused h)
 
 pub invariant_of-result : goal.invariant_of-result
@@ -90,8 +75,5 @@ returns-clause-found c =
 pub returns-clause-only_refused : goal.returns-clause-only_refused
 returns-clause-only_refused c f h =
     not_refused c.args.bytes.now c.args.main.now (program_tree c.in-Ok.program) c.in-Ok.ensures.found
-    (λ q text. c.one_tree.ensures c.args.bytes.now q (program_tree c.in-Ok.program) text c.in-Ok.ensures.found)
-    (λ g bad. c.one_fault.ensures.no_tree c.args.bytes.now g (program_tree c.in-Ok.program) bad c.in-Ok.ensures.found)
-    c.in-Ok-settle.typed c.in-Ok-settle.ensures.found (λ g first. c.settled_or_refused.ensures.never_both (program_tree c.in-Ok.program) c.args.main.now
-    c.in-Ok-settle.typed g c.in-Ok-settle.ensures.found first)
+    c.one_tree.ensures c.one_fault.ensures.no_tree c.in-Ok-settle.typed c.in-Ok-settle.ensures.found c.settled_or_refused.ensures.never_both
     f c.in-Ok-order.ensures.only_refused h

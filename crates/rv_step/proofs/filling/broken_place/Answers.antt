@@ -49,8 +49,7 @@ loop-assertion-preserved c =
         | then-is_false w ↦ subst (λ least. IsLeastOf (IsPicked test places (k + 1)) least)
             (sym (ap option_copied w.least-is ∙ ap (λ p. Some p) w.sooner.ensures))
             (picked_yes test places k (option_copied c.loop-assertion.least) item.at (tested ∙ w.if-is_false.true) here c.loop-assertion.invariant.least)
-        | else-is_false w ↦ subst (λ least. IsLeastOf (IsPicked test places (k + 1)) (option_copied least))
-            (sym w.least-is)
+        | else-is_false w ↦ subst (λ least. IsLeastOf (IsPicked test places (k + 1)) (option_copied least)) (sym w.least-is)
             (picked_no test places k (option_copied c.loop-assertion.least) (tested ∙ w.if-is_false.false) c.loop-assertion.invariant.least)
       ];
       shown = c.is_false.ensures.shown;

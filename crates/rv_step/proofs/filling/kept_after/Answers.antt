@@ -21,8 +21,8 @@ current_of-requires-clause-ready c =
     record {
       tame = subst (λ (x : Item). IsTame (found_at now inputs) row x.body) here
           (memory_tame f now inputs c.requires.state c.requires.inputs row c.requires.row m (omega arith));
-      over = subst (λ (x : Item). IsOver (length row) x.body) here (memory_over f now inputs c.requires.state c.requires.inputs row c.requires.row m
-          (omega arith));
+      over = subst (λ (x : Item). IsOver (length row) x.body) here
+          (memory_over f now inputs c.requires.state c.requires.inputs row c.requires.row m (omega arith));
     }
 
 pub loop-number-preserved : goal.loop-number-preserved
@@ -36,8 +36,8 @@ loop-number-preserved c =
     record {
       kept = subst (IsKept f now inputs row (m + 1)) (sym c.in_ok-push.ensures.ok)
           (one_kept f now inputs row m c.loop-number.kept c.current_of.result
-          (c.current_of.ensures.value ∙ (λ i. cond (is_on_at row (sym here i).clock) (value_at now inputs row (sym here i).body)
-          (get_or now.kept m (Flag false))))
+          (c.current_of.ensures.value
+          ∙ (λ i. cond (is_on_at row (sym here i).clock) (value_at now inputs row (sym here i).body) (get_or now.kept m (Flag false))))
           c.loop-number.invariant.kept);
       shown = c.current_of.ensures.shown;
     }

@@ -19,10 +19,9 @@ loop-number-preserved c =
           (sym (ap option_copied w.least-is ∙ ap (λ p. Some p) w.sooner.ensures))
           (picked_yes (is_grown_memory c.args.kept.now) places n (option_copied c.loop-number.least) item.place
           (sym c.is_grown_memory.ensures ∙ w.if-is_grown_memory.true) here c.loop-number.invariant)
-      | else-is_grown_memory w ↦ subst (λ least. IsLeastOf (IsPicked (is_grown_memory c.args.kept.now) places (n + 1)) (option_copied least))
-          (sym w.least-is)
-          (picked_no (is_grown_memory c.args.kept.now) places n (option_copied c.loop-number.least) (sym c.is_grown_memory.ensures ∙ w.if-is_grown_memory.false)
-          c.loop-number.invariant)
+      | else-is_grown_memory w ↦ subst (λ least. IsLeastOf (IsPicked (is_grown_memory c.args.kept.now) places (n + 1)) (option_copied least)) (sym w.least-is)
+          (picked_no (is_grown_memory c.args.kept.now) places n (option_copied c.loop-number.least)
+          (sym c.is_grown_memory.ensures ∙ w.if-is_grown_memory.false) c.loop-number.invariant)
     ]
 
 pub returns : goal.returns

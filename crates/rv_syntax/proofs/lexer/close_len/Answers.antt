@@ -1,7 +1,7 @@
 use Rattle.std.proofs.Common.{◌∙◌, sym, arith}
 use Rattle.rv_syntax.proofs.Closing.{not-star, not-last, ends-none}
-use Rattle.rv_syntax.proofs.lexer.close_len.Goals as goal
 use Rattle.rv_syntax.proofs.lexer.close_len.Goals.{else-bytes-at-eq42-via-then-bytes-at-eq42+else-bytes-at, else-bytes-at-eq42-via-else-bytes-at-eq42}
+use Rattle.rv_syntax.proofs.lexer.close_len.Goals as goal
 
 pub more-preserved : goal.more-preserved
 more-preserved c =

@@ -8,6 +8,4 @@ pub returns : goal.returns
 returns c =
     let e = ap (map constant_tree) c.in_ok-push.ensures.ok ∙ map_push constant_tree c.args.found c.in_ok-read_constant.field-0 in
     subst (λ r. Reads {X = List ConstDecl} (map constant_tree) r c.read_next_constants.result c.read_next_constants.new.parser.rest)
-    (from-constants (map constant_tree c.args.found) (map constant_tree c.push.new.self) c.args.parser.now.rest c.expect.new.self.rest
-    c.read_constant.new.parser.rest (constant_tree c.in_ok-read_constant.field-0) c.in_ok-expect.ensures c.in_ok-read_constant.ensures e)
-    c.read_next_constants.ensures
+    (from-constants _ _ c.in_ok-expect.ensures c.in_ok-read_constant.ensures e) c.read_next_constants.ensures

@@ -1,37 +1,25 @@
-use Rattle.std.proofs.{Common.List, lemmas.Result.err_from_is_err_and}
+use Rattle.std.proofs.{lemmas.Result.err_from_is_err_and}
+use Rattle.std.proofs.Common.{List}
 use Rattle.rv_tree.specs.{declared.tree.Decl.Decl, declared.tree.Node.Node, Tree.node_tree}
-use Rattle.rv_syntax.specs.Reading.{body, mapped, node, signature, statements, statements_of, vars}
-use Rattle.rv_syntax.specs.{declared.rules.Body.Body, declared.rules.Signature.Signature, ProgramText.joined, Reads.same}
+use Rattle.rv_syntax.specs.{declared.rules.Body.Body, declared.rules.Signature.Signature, Reads.same, Reading.statements}
 use Rattle.rv_syntax.proofs.Loop.{node-stops-at-signature, node-stops-at-vars, node-stops-at-body, whole-node, stop-through}
 use Rattle.rv_syntax.proofs.rules.read_node.Goals as goal
 
 pub returns-in_err-signature : goal.returns-in_err-signature
 returns-in_err-signature c =
     let p = err_from_is_err_and c.from_residual.result c.from_residual.ensures.1 in
-    let ts = c.args.parser.now.rest in
-    rw (p.1, p.2) (stop-through {X = Node} {Y = Signature} node_tree same (node ts) (signature ts)
-    c.in_err-signature.field-0.0 c.read_signature.new.parser.rest (node-stops-at-signature ts) c.in_err-signature.ensures)
+    rw (p.1, p.2) (stop-through {X = Node} {Y = Signature} node_tree same _ _ (node-stops-at-signature c.args.parser.now.rest) c.in_err-signature.ensures)
 
 pub returns-in_err-locals : goal.returns-in_err-locals
 returns-in_err-locals c =
     let p = err_from_is_err_and c.from_residual-in_err-locals.result c.from_residual-in_err-locals.ensures.1 in
-    let ts = c.args.parser.now.rest in
-    rw (p.1, p.2) (stop-through {X = Node} {Y = List Decl} node_tree same (node ts) (mapped joined (vars c.read_signature.new.parser.rest))
-    c.in_err-locals.field-0.0 c.read_vars.new.parser.rest
-    (node-stops-at-vars ts c.read_signature.new.parser.rest c.in_ok-signature.signature c.in_ok-signature.ensures)
-    c.in_err-locals.ensures)
+    rw (p.1, p.2) (stop-through {X = Node} {Y = List Decl} node_tree same _ _ (node-stops-at-vars _ c.in_ok-signature.ensures) c.in_err-locals.ensures)
 
 pub returns-in_err-body : goal.returns-in_err-body
 returns-in_err-body c =
     let p = err_from_is_err_and c.from_residual-in_err-body.result c.from_residual-in_err-body.ensures.1 in
-    let ts = c.args.parser.now.rest in
-    rw (p.1, p.2) (stop-through {X = Node} {Y = Body} node_tree statements (node ts) (mapped statements_of (body c.read_vars.new.parser.rest))
-    c.in_err-body.field-0.0 c.read_body.new.parser.rest
-    (node-stops-at-body ts c.read_signature.new.parser.rest c.in_ok-signature.signature c.in_ok-signature.ensures
-    c.in_ok-locals.locals c.read_vars.new.parser.rest c.in_ok-locals.ensures)
-    c.in_err-body.ensures)
+    rw (p.1, p.2) (stop-through {X = Node} {Y = Body} node_tree statements _ _
+    (node-stops-at-body _ c.in_ok-signature.ensures c.in_ok-locals.ensures) c.in_err-body.ensures)
 
 pub returns : goal.returns
-returns c =
-    whole-node c.args.parser.now.rest c.read_signature.new.parser.rest c.in_ok-signature.signature c.in_ok-signature.ensures
-    c.in_ok-locals.locals c.read_vars.new.parser.rest c.in_ok-locals.ensures (statements c.in_ok-body.body) c.read_body.new.parser.rest c.in_ok-body.ensures
+returns c = whole-node _ c.in_ok-signature.ensures c.in_ok-locals.ensures c.in_ok-body.ensures

@@ -7,6 +7,4 @@ use Rattle.rv_syntax.proofs.rules.read_types.Goals as goal
 pub returns : goal.returns
 returns c =
     subst (λ r. Reads (same {A = List TypeDecl}) r c.read_next_types.result c.read_next_types.new.parser.rest)
-    (from-types c.args.found c.push.new.self c.args.parser.now.rest c.expect.new.self.rest c.read_type.new.parser.rest c.in_ok-read_type.field-0
-    c.in_ok-expect.ensures c.in_ok-read_type.ensures c.in_ok-push.ensures.ok)
-    c.read_next_types.ensures
+    (from-types _ _ c.in_ok-expect.ensures c.in_ok-read_type.ensures c.in_ok-push.ensures.ok) c.read_next_types.ensures

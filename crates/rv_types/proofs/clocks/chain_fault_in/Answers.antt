@@ -8,9 +8,9 @@ pub returns-then-goes_on : goal.returns-then-goes_on
 returns-then-goes_on c = λ d is.
     let on = c.if-goes_on.true in
     kept (λ (d : Decl). d.clock) (λ (o : Option Name). first (chain_clash (node_tree c.args.timing.now.node.now) (record d { clock = o })))
-    c.args.decls.now c.args.index c.args.before d (c.goes_on.ensures.later on) c.requires.within (c.goes_on.ensures.clock on) c.requires.before is
+    _ _ _ d (c.goes_on.ensures.later on) c.requires.within (c.goes_on.ensures.clock on) c.requires.before is
 
 pub returns-else-goes_on : goal.returns-else-goes_on
 returns-else-goes_on c = λ d is.
     looked_up (λ (e : Decl). first (chain_clash (node_tree c.args.timing.now.node.now) e))
-    c.args.decls.now c.args.index c.chain_fault.result c.at.result.now d c.chain_fault.ensures c.at.ensures.value is
+    c.args.decls.now c.args.index _ _ d c.chain_fault.ensures c.at.ensures.value is

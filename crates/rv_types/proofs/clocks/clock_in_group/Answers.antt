@@ -8,9 +8,8 @@ pub returns-then-goes_on : goal.returns-then-goes_on
 returns-then-goes_on c = λ d is.
     let on = c.if-goes_on.true in
     kept (λ (d : Decl). d.clock) (λ (o : Option Name). clock_by c.args.flows.now o)
-    c.args.decls.now c.args.index c.args.before d (c.goes_on.ensures.later on) c.requires.within (c.goes_on.ensures.clock on) c.requires.before is
+    _ _ _ d (c.goes_on.ensures.later on) c.requires.within (c.goes_on.ensures.clock on) c.requires.before is
 
 pub returns-else-goes_on : goal.returns-else-goes_on
 returns-else-goes_on c = λ d is.
-    looked_up (λ (e : Decl). clock_by c.args.flows.now e.clock)
-    c.args.decls.now c.args.index c.declared_clock.result c.at.result.now d c.declared_clock.ensures c.at.ensures.value is
+    looked_up (λ (e : Decl). clock_by c.args.flows.now e.clock) c.args.decls.now c.args.index _ _ d c.declared_clock.ensures c.at.ensures.value is

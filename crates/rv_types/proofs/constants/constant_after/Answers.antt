@@ -8,8 +8,7 @@ use Rattle.rv_types.proofs.constants.constant_after.Goals as goal
 pub returns-clause-kind : goal.returns-clause-kind
 returns-clause-kind c =
     let g = c.args.globals.now in
-    let s = empty_scope c.args.none.now g.constants.now c.as_slice.result.now c.args.before.now.kinds g.labels.now g.places.now c.requires.none
-    c.as_slice.ensures in
+    let s = empty_scope _ g.constants.now _ _ g.labels.now g.places.now c.requires.none c.as_slice.ensures in
     c.typed-kind.ensures.kind ∙ ap (λ s. as_declared_by (entry_in g.types.now g.type_kinds.now) c.args.c.now.kind (kind_of s (tree_of c.args.c.now.body))) s
 
 pub returns-clause-value : goal.returns-clause-value
@@ -21,6 +20,5 @@ returns-clause-value c =
 pub returns-clause-fault : goal.returns-clause-fault
 returns-clause-fault c =
     let g = c.args.globals.now in
-    let s = empty_scope c.args.none.now g.constants.now c.as_slice.result.now c.args.before.now.kinds g.labels.now g.places.now c.requires.none
-    c.as_slice.ensures in
+    let s = empty_scope _ g.constants.now _ _ g.labels.now g.places.now c.requires.none c.as_slice.ensures in
     c.typed-kind.ensures.fault ∙ ap (λ s. first (constant_types_by (entry_in g.types.now g.type_kinds.now) s (constant_tree c.args.c.now))) s

@@ -7,9 +7,9 @@ pub returns-then-goes_on : goal.returns-then-goes_on
 returns-then-goes_on c = λ d is.
     let on = c.if-goes_on.true in
     kept (λ (d : Decl). d.kind) (λ (t : TypeName). written_kind (entry_in c.args.names.now c.args.types.now) t)
-    c.args.decls.now c.args.index c.args.before d (c.goes_on.ensures.later on) c.requires.within (c.goes_on.ensures.kind on) c.requires.before is
+    _ _ _ d (c.goes_on.ensures.later on) c.requires.within (c.goes_on.ensures.kind on) c.requires.before is
 
 pub returns-else-goes_on : goal.returns-else-goes_on
 returns-else-goes_on c = λ d is.
     looked_up (λ (e : Decl). written_kind (entry_in c.args.names.now c.args.types.now) e.kind)
-    c.args.decls.now c.args.index c.written.result c.at.result.now d c.written.ensures c.at.ensures.value is
+    c.args.decls.now c.args.index _ _ d c.written.ensures c.at.ensures.value is

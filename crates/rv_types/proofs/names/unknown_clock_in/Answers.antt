@@ -8,9 +8,8 @@ pub returns-then-goes_on : goal.returns-then-goes_on
 returns-then-goes_on c = λ d is.
     let on = c.if-goes_on.true in
     kept (λ (d : Decl). d.clock) (λ (o : Option Name). first (clock_use_in c.args.flows.now (record d { clock = o })))
-    c.args.decls.now c.args.index c.args.before d (c.goes_on.ensures.later on) c.requires.within (c.goes_on.ensures.clock on) c.requires.before is
+    _ _ _ d (c.goes_on.ensures.later on) c.requires.within (c.goes_on.ensures.clock on) c.requires.before is
 
 pub returns-else-goes_on : goal.returns-else-goes_on
 returns-else-goes_on c = λ d is.
-    looked_up (λ (e : Decl). first (clock_use_in c.args.flows.now e))
-    c.args.decls.now c.args.index c.unknown_clock.result c.at.result.now d c.unknown_clock.ensures c.at.ensures.value is
+    looked_up (λ (e : Decl). first (clock_use_in c.args.flows.now e)) c.args.decls.now c.args.index _ _ d c.unknown_clock.ensures c.at.ensures.value is

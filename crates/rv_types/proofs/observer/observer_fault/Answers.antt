@@ -1,4 +1,4 @@
-use Rattle.std.proofs.{Common.ap, Common.sym, Common.◌∙◌, Common.Some, Common.slice_get, Common.List, lemmas.Option.slice_get-map}
+use Rattle.std.proofs.{Common.ap, Common.sym, Common.◌∙◌, Common.slice_get, Common.List, lemmas.Option.slice_get-map}
 use Rattle.std.specs.Option.{option_map}
 use Rattle.rv_tree.specs.Tree.{node_tree, program_tree}
 use Rattle.rv_types.specs.{declared.typed.Kind.Kind, Earliest.first, Kinds.flow_kinds}

@@ -8,9 +8,7 @@ pub returns-clause-scope : goal.returns-clause-scope
 returns-clause-scope c p t different =
     let g = c.args.tables.now in
     let n = node_tree c.args.node.now in
-    scope_is p n g.spaces.types g.types g.spaces.constants g.spaces.labels g.places g.constant_kinds g.spaces.nodes g.signatures c.in_ok-flows.field-0.space
-    c.in_ok-kinds.kinds
-    t.globals t.nodes different c.in_ok-flows.ensures.space
+    scope_is p n _ _ _ _ _ _ _ _ _ _ t.globals t.nodes different c.in_ok-flows.ensures.space
     (c.in_ok-kinds.ensures ∙ ap (λ (ks : List Kind). flow_kinds_by (entry_in g.spaces.types ks) n) c.as_slice.ensures)
 
 pub returns-clause-flows : goal.returns-clause-flows

@@ -3,7 +3,7 @@ use Rattle.rv_types.specs.Constants.{whole_in, value_under, weight_under, weight
 use Rattle.rv_types.specs.ConstantParts.{IsKnownBound, constant_part}
 use Rattle.rv_base.specs.Limits.{too_heavy}
 use Rattle.rv_tree.specs.Tree.{Binary}
-use Rattle.rv_types.proofs.ConstantValues.{is_part, makes_form, not_arrow}
+use Rattle.rv_types.proofs.{ConstantValues.is_part, ConstantValues.makes_form, ConstantValues.not_arrow, Weights.capped}
 use Rattle.rv_types.proofs.reading_values.constant_binary.Goals as goal
 
 pub returns-in-Some-b : goal.returns-in-Some-b
@@ -13,9 +13,7 @@ returns-in-Some-b c = record {
     weight =
         let a = subst IsKnownBound c.in-Some.is c.requires.a in
         let b = subst IsKnownBound c.in-Some-b.is c.requires.b in
-        let v : c.in-Some.a.weight ≡ min c.in-Some.a.weight too_heavy = let h = a.weight in omega (arith, h) in
-        let w : c.in-Some-b.b.weight ≡ min c.in-Some-b.b.weight too_heavy = let h = b.weight in omega (arith, h) in
-        let e = c.of_operator.ensures.weight c.in-Some.a.weight c.in-Some-b.b.weight v w in
+        let e = c.of_operator.ensures.weight _ _ (capped _ a.weight) (capped _ b.weight) in
         omega (arith, e);
   };
   value = λ s known x y a b.

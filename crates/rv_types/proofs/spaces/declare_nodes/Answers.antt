@@ -8,8 +8,7 @@ pub loop-node-preserved : goal.loop-node-preserved
 loop-node-preserved c =
     let d = next_of c.args.nodes.now c.loop-node.node-index c.node-item.result c.loop-node-test.true c.node-item.is in
     record {
-      space = space_step _ _ _ _ _ c.node-item.result.name (λ i. map (λ n. n.name) (map node_tree (d i))) c.in_ok-declare.ensures.space
-          c.loop-node.invariant.space;
-      fault = fault_step _ _ _ _ _ _ _ _ c.node-item.result.name (λ i. map (λ n. n.name) (map node_tree (d i))) c.in_ok-declare.ensures.space
+      space = space_step _ _ _ _ _ _ (λ i. map (λ n. n.name) (map node_tree (d i))) c.in_ok-declare.ensures.space c.loop-node.invariant.space;
+      fault = fault_step _ _ _ _ _ _ _ _ _ (λ i. map (λ n. n.name) (map node_tree (d i))) c.in_ok-declare.ensures.space
           c.in_ok-declare.ensures.fault c.sooner_of-fault.ensures.value c.loop-node.invariant.fault;
     }

@@ -10,8 +10,7 @@ returns c =
     let declared : c.as_slice.result.now ≡ c.args.p.now.constants = search rules in
     let kept : c.as_slice-2.result.now ≡ c.args.p.now.types = search rules in
     let one : c.constants_after.result ≡ first (flat_map (repeated_after (label_names p)) (constant_names p)) =
-    c.constants_after.ensures
-    ∙ (λ i. first (flat_map (repeated_after (c.requires.labels i)) (map (λ c. c.name) (map constant_tree (declared i)))))
+    c.constants_after.ensures ∙ (λ i. first (flat_map (repeated_after (c.requires.labels i)) (map (λ c. c.name) (map constant_tree (declared i)))))
     ∙ ap (λ f. first (flat_map f (constant_names p))) (after_firsts (label_names p)) in
     let other : c.labels_after.result ≡ first (flat_map (repeated_after (constant_names p)) (label_names p)) =
     c.labels_after.ensures ∙ (λ i. first (flat_map (repeated_after (c.requires.constants i)) (flat_map labels_of (kept i))))

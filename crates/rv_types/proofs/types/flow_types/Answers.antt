@@ -13,8 +13,6 @@ loop-node-preserved c =
     let k = c.in_ok-own.ensures.kinds p c.requires.tables in
     let f = c.in_ok-own.ensures.fault p c.requires.tables c.requires.node_tables names in
     record {
-      kinds = c.in_ok-push.ensures.ok ∙ one_node (flow_kinds p) c.as_slice-all.result.now c.loop-node.node-index c.node-item.result c.loop-node.kinds
-          c.in_ok-own.field-0.kinds c.loop-node.invariant.kinds k c.loop-node-test.true c.node-item.is;
-      fault = c.sooner_of-fault.ensures.value ∙ one_fault_more (types_in_node p) c.as_slice-all.result.now c.loop-node.node-index c.node-item.result
-          c.loop-node.fault c.in_ok-own.field-0.fault c.loop-node.invariant.fault f c.loop-node-test.true c.node-item.is;
+      kinds = c.in_ok-push.ensures.ok ∙ one_node (flow_kinds p) _ _ _ _ _ c.loop-node.invariant.kinds k c.loop-node-test.true c.node-item.is;
+      fault = c.sooner_of-fault.ensures.value ∙ one_fault_more (types_in_node p) _ _ _ _ _ c.loop-node.invariant.fault f c.loop-node-test.true c.node-item.is;
     }

@@ -5,17 +5,10 @@ use Rattle.rv_types.proofs.{ConstantMeanings.types_named, NodeScope.scope_is, No
 use Rattle.rv_types.proofs.types.node_types.Goals as goal
 
 pub returns-clause-kinds : goal.returns-clause-kinds
-returns-clause-kinds c p t =
-    let g = c.args.globals.now in
-    c.in_ok-kinds.ensures ∙ (λ i. flow_kinds_by (types_named p g.types.now g.type_kinds.now g.constants.now g.labels.now g.places.now t i)
-    (node_tree c.args.node.now))
+returns-clause-kinds c p t = c.in_ok-kinds.ensures ∙ (λ i. flow_kinds_by (types_named p _ _ _ _ _ t i) (node_tree c.args.node.now))
 
 pub returns-clause-fault : goal.returns-clause-fault
 returns-clause-fault c p t s different =
-    let g = c.args.globals.now in
-    let m = c.args.nodes.now in
     let n = node_tree c.args.node.now in
-    let scope = scope_is p n g.types.now g.type_kinds.now g.constants.now g.labels.now g.places.now m.constant_kinds.now m.names.now m.signatures.now
-    c.in_ok-space.field-0.space c.as_slice.result.now
-    t s different (c.in_ok-space.ensures.space) (c.as_slice.ensures ∙ c.in_ok-kinds.ensures) in
+    let scope = scope_is p n _ _ _ _ _ _ _ _ _ _ t s different c.in_ok-space.ensures.space (c.as_slice.ensures ∙ c.in_ok-kinds.ensures) in
     c.type_fault-fault.ensures ∙ ap (λ x. first (types_by x n)) scope ∙ ap first (types_are p n)

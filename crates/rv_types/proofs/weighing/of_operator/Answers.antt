@@ -6,10 +6,8 @@ use Rattle.rv_types.proofs.weighing.of_operator.Goals as goal
 
 pub returns-clause-bound : goal.returns-clause-bound
 returns-clause-bound c =
-    let a : c.args.a.now.weight ≡ min c.args.a.now.weight too_heavy = omega arith in
-    let b : c.args.b.now.weight ≡ min c.args.b.now.weight too_heavy = omega arith in
     let s : c.size_of_whole.result ≡ nat_abs (whole_in c.args.a.now.value) = search rules in
-    let w = c.weight_of-weight.ensures c.args.a.now.weight c.args.b.now.weight a b
+    let w = c.weight_of-weight.ensures c.args.a.now.weight c.args.b.now.weight (omega arith) (omega arith)
     ∙ ap (λ n. min (weight_under c.args.op n c.args.a.now.weight c.args.b.now.weight) too_heavy) s in
     let v = c.value_of-value.ensures (weight_under c.args.op (nat_abs (whole_in c.args.a.now.value)) c.args.a.now.weight c.args.b.now.weight) w in
     no_larger c.args.op c.args.a.now.value c.args.b.now.value c.args.a.now.weight c.args.b.now.weight _ _ c.requires.a c.requires.b w v

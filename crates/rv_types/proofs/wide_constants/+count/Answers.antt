@@ -18,12 +18,10 @@ count_all-loop-e-preserved t c =
           (λ i. not (c.seen_after-seen.ensures.several i) && at_most_after (c.seen_after-seen.ensures.some i) (flags_of_all known after))
           ∙ seen_more c.loop-e.seen.some c.loop-e.seen.several c.flag.result (flags_of_all known after)
           ∙ ap (λ f. not c.loop-e.seen.several && at_most_after c.loop-e.seen.some (f ∷ flags_of_all known after)) flag
-          ∙ ap (λ ts. not c.loop-e.seen.several && at_most_after c.loop-e.seen.some (flags_of_all known ts)) (sym rest)
-          ∙ c.loop-e.invariant.seen;
+          ∙ ap (λ ts. not c.loop-e.seen.several && at_most_after c.loop-e.seen.some (flags_of_all known ts)) (sym rest) ∙ c.loop-e.invariant.seen;
       first =
           ap (λ o. lesser o (first_wide_of_all known after)) c.lesser_of-first.ensures
           ∙ ap (λ o. lesser (lesser c.loop-e.first o) (first_wide_of_all known after)) c.count-part.ensures.first
           ∙ lesser_more c.loop-e.first (first_wide known (tree_of e)) (first_wide_of_all known after)
-          ∙ ap (λ ts. lesser c.loop-e.first (first_wide_of_all known ts)) (sym rest)
-          ∙ c.loop-e.invariant.first;
+          ∙ ap (λ ts. lesser c.loop-e.first (first_wide_of_all known ts)) (sym rest) ∙ c.loop-e.invariant.first;
     }

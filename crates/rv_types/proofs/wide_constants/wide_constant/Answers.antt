@@ -31,7 +31,6 @@ loop-number-preserved c =
     let one = c.index-constants-number.result in
     let is = subst (λ (l : List ConstDecl). one ≡ get_or l k one) c.as_slice-constants.ensures c.index-constants-number.is in
     let lt = subst (λ (l : List ConstDecl). k < length l) c.as_slice-constants.ensures c.loop-number-test.true in
-    c.lesser_of-first.ensures
-    ∙ ap (λ o. lesser o c.count-body.result.first) c.loop-number.invariant
+    c.lesser_of-first.ensures ∙ ap (λ o. lesser o c.count-body.result.first) c.loop-number.invariant
     ∙ ap (lesser (first_wide_constant p before)) (c.count-body.ensures.first ∙ ap (λ known. first_wide known (tree_of one.body)) c.values_before-known.ensures)
     ∙ ap (first_wide_constant p) (sym (one_mapped constant_tree c.args.p.now.constants k one lt is))

@@ -19,5 +19,4 @@ returns-clause-few c =
     let x = c.args.self.now in
     let few = node_few (program_tree x.program.now) (name_at (program_tree x.program.now) x.main) x.instances.now c.requires.known.expanded c.args.instance
     c.requires.within in
-    let is = c.count_flows.ensures ∙ ap (λ (n : NodeTree). length (flows n)) c.node.ensures in
-    omega (arith, few, is)
+    let is = c.count_flows.ensures ∙ ap (λ (n : NodeTree). length (flows n)) c.node.ensures in omega (arith, few, is)

@@ -7,7 +7,6 @@ use Rattle.rv_instances.proofs.reader.Reader.told_clock_of.Goals as goal
 
 pub clock-requires-clause-within : goal.clock-requires-clause-within
 clock-requires-clause-within c =
-    let n = node_read c.args.self.now in
-    let e = tree_of c.args.e.now in
+    let n = node_read c.args.self.now in let e = tree_of c.args.e.now in
     subst (IsWithin (numbers_of c.args.self.now).offset) (sym (c.clock_or_base.ensures ∙ ap (taken Base) c.told_pace.ensures.told))
     (low_within n (numbers_of c.args.self.now).offset (taken Base (told_pace n e)) c.requires.room (taken_low n (told_pace n e) (told_low n e)))

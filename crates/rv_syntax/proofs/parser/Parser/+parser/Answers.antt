@@ -1,15 +1,13 @@
-use Rattle.std.proofs.Common.{false, [], ◌∷◌, ◌++◌, map, length, refl, sym, ap, ◌∙◌, arith}
+use Rattle.std.proofs.Common.{List, false, [], ◌∷◌, ◌++◌, map, length, refl, sym, ap, ◌∙◌, arith}
 use Rattle.std.proofs.{lemmas.Result.err_from_is_err_and, lemmas.List.map_push}
 use Rattle.std.specs.Prelude.{Ok, Err}
 use Rattle.rv_syntax.specs.declared.token.Mark.TheVariants as mark
-use Rattle.rv_syntax.specs.declared.parser.Start.TheVariants as start
 use Rattle.rv_syntax.specs.declared.parser.Link.TheVariants as link
 use Rattle.rv_syntax.specs.Grammar.{Function, Hash, Invoked}
-use Rattle.rv_syntax.specs.Machine.{Brackets, Under, After, Asked, Else, Within, held, whole, Want, Have, Hashed}
-use Rattle.rv_syntax.specs.Reads.{Around, from, Wanting, Choosing, next_frame, part_from, Calling, argued_from, held_of, linked, joined_held, sampled_held}
-use Rattle.rv_syntax.specs.Reads.{chosen_held}
+use Rattle.rv_syntax.specs.Machine.{Brackets, Under, After, Else, Within, held, whole, Want, Have}
+use Rattle.rv_syntax.specs.Reads.{from, next_frame, argued_from, held_of, linked, joined_held, sampled_held, chosen_held}
 use Rattle.rv_syntax.specs.{declared.fault.Why.TheVariants.Offends, Limited.counts, Limited.leave, Marks.is_mark, Parse.starts}
-use Rattle.rv_tree.specs.Tree.{tree_of}
+use Rattle.rv_tree.specs.Tree.{Tree, tree_of}
 use Rattle.rv_syntax.proofs.Complete.{below-eight}
 use Rattle.rv_syntax.proofs.Steps.{operator-goes, operator-deep, bracket-goes, bracket-deep, none-begins, leaf-goes, leaf-none, link-goes, link-deep, leaves}
 use Rattle.rv_syntax.proofs.Steps.{close-goes, comma-goes, last-goes, close-missing, last-missing, part-goes, part-missing, part-wanted, as-test, as-yes}
@@ -21,8 +19,7 @@ use Rattle.rv_syntax.proofs.parser.Parser.+parser.Goals as goal
 pub expr-returns-in_err-left-clause-reads : goal.expr-returns-in_err-left-clause-reads
 expr-returns-in_err-left-clause-reads t c =
     let p = err_from_is_err_and c.from_residual.result c.from_residual.ensures.1 in
-    rw (p.1, p.2) (stop-from (Wanting c.args.least) Around (λ x. from c.args.self.now Want x.around) (from c.args.self.now Want) c.in_err-left.field-0.0
-    c.operand.new.self (λ x. (x.around, refl)) c.in_err-left.ensures.reads)
+    rw (p.1, p.2) (stop-from _ _ c.in_err-left.ensures.reads (λ x. (x.around, refl)))
 
 pub expr-more-init : goal.expr-more-init
 expr-more-init t c = record { shorter = c.in_ok-left.ensures.shorter; low = c.in_ok-left.ensures.reads.0; reads = λ x. c.in_ok-left.ensures.reads.1 x.around }
@@ -30,29 +27,24 @@ expr-more-init t c = record { shorter = c.in_ok-left.ensures.shorter; low = c.in
 pub expr-returns-in_err-enter-clause-reads : goal.expr-returns-in_err-enter-clause-reads
 expr-returns-in_err-enter-clause-reads t c =
     let p = err_from_is_err_and c.from_residual-in_err-enter.result c.from_residual-in_err-enter.ensures.1 in
-    rw (p.1, p.2) (deep-stop (Wanting c.args.least) (λ x. from c.args.self.now Want x.around) c.in_err-enter.field-0.0 c.more.self c.enter.new.self
-    c.in_err-enter.ensures
-    (λ le x. c.more.invariant.reads x ∙ link-deep c.more.self c.args.least c.in-Some.link (held_of c.more.left) c.in-Some.ensures le x.around x.wants))
+    rw (p.1, p.2) (deep-stop _ _ c.in_err-enter.ensures (λ le x.
+    c.more.invariant.reads x ∙ link-deep c.more.self c.args.least c.in-Some.link (held_of c.more.left) c.in-Some.ensures le x.around x.wants))
 
 pub expr-returns-in_err-left-2-clause-reads : goal.expr-returns-in_err-left-2-clause-reads
 expr-returns-in_err-left-2-clause-reads t c =
     let p = err_from_is_err_and c.from_residual-in_err-left-2.result c.from_residual-in_err-left-2.ensures.1 in
-    rw (p.1, p.2) (stop-from (Wanting c.args.least) Around (λ x. from c.args.self.now Want x.around)
-    (from c.enter.new.self (linked c.in-Some.link (held_of c.more.left))) c.in_err-left-2.field-0.0 c.linked.new.self
-    (λ x. (
+    rw (p.1, p.2) (stop-from _ _ c.in_err-left-2.ensures.reads (λ x. (
       x.around,
-      c.more.invariant.reads x ∙ link-goes c.more.self c.enter.new.self c.args.least c.in-Some.link (held_of c.more.left) c.in-Some.ensures
-          c.in_ok-enter.ensures x.around x.wants,
-    ))
-    c.in_err-left-2.ensures.reads)
+      c.more.invariant.reads x
+          ∙ link-goes c.more.self c.args.least c.in-Some.link (held_of c.more.left) c.in-Some.ensures c.enter.new.self c.in_ok-enter.ensures x.around x.wants,
+    )))
 
 pub expr-more-preserved : goal.expr-more-preserved
 expr-more-preserved t c = record {
   shorter = omega (arith, c.in_ok-left-2.ensures.shorter, ap length c.in_ok-enter.ensures.1, tail-short c.more.self.rest, c.more.invariant.shorter);
   low = c.in_ok-left-2.ensures.reads.0;
-  reads = λ x.
-      c.more.invariant.reads x
-      ∙ link-goes c.more.self c.enter.new.self c.args.least c.in-Some.link (held_of c.more.left) c.in-Some.ensures c.in_ok-enter.ensures x.around x.wants
+  reads = λ x. c.more.invariant.reads x
+      ∙ link-goes c.more.self c.args.least c.in-Some.link (held_of c.more.left) c.in-Some.ensures c.enter.new.self c.in_ok-enter.ensures x.around x.wants
       ∙ c.in_ok-left-2.ensures.reads.1 x.around;
 }
 
@@ -64,26 +56,21 @@ expr-returns-clause-reads t c = λ x.
 pub prefixed-returns-in_err-enter-clause-reads : goal.prefixed-returns-in_err-enter-clause-reads
 prefixed-returns-in_err-enter-clause-reads t c =
     let p = err_from_is_err_and c.from_residual.result c.from_residual.ensures.1 in
-    rw (p.1, p.2) (deep-stop Around (from c.args.self.now Want) c.in_err-enter.field-0.0 c.args.self.now c.enter.new.self c.in_err-enter.ensures
-    (operator-deep c.args.self.now (start.Before c.args.op c.args.at) (λ s. Want (Under c.args.op c.args.at ∷ s)) c.requires (λ h s. refl) (λ w e. e)))
+    rw (p.1, p.2) (deep-stop _ _ c.in_err-enter.ensures (operator-deep c.args.self.now c.requires (λ h s. refl) (λ w e. e)))
 
 pub prefixed-returns-in_err-inner-clause-reads : goal.prefixed-returns-in_err-inner-clause-reads
 prefixed-returns-in_err-inner-clause-reads t c =
     let p = err_from_is_err_and c.from_residual-in_err-inner.result c.from_residual-in_err-inner.ensures.1 in
-    rw (p.1, p.2) (stop-from Around (Wanting 9) (from c.args.self.now Want) (λ x. from c.enter.new.self Want x.around) c.in_err-inner.field-0.0 c.expr.new.self
-    (λ x. (
+    rw (p.1, p.2) (stop-from _ _ c.in_err-inner.ensures.reads (λ x. (
       wanted 9 (Under c.args.op c.args.at ∷ x.frames) x.outside refl,
-      operator-goes c.args.self.now (start.Before c.args.op c.args.at) (λ s. Want (Under c.args.op c.args.at ∷ s)) c.requires (λ h s. refl)
-          (λ w e. e) c.enter.new.self c.in_ok-enter.ensures x,
-    ))
-    c.in_err-inner.ensures.reads)
+      operator-goes c.args.self.now c.requires (λ h s. refl) (λ w e. e) c.enter.new.self c.in_ok-enter.ensures x,
+    )))
 
 pub prefixed-returns-clause-reads : goal.prefixed-returns-clause-reads
 prefixed-returns-clause-reads t c = (
   omega arith,
   λ x.
-      operator-goes c.args.self.now (start.Before c.args.op c.args.at) (λ s. Want (Under c.args.op c.args.at ∷ s)) c.requires (λ h s. refl)
-      (λ w e. e) c.enter.new.self c.in_ok-enter.ensures x
+      operator-goes c.args.self.now c.requires (λ h s. refl) (λ w e. e) c.enter.new.self c.in_ok-enter.ensures x
       ∙ c.in_ok-inner.ensures.reads (wanted 9 (Under c.args.op c.args.at ∷ x.frames) x.outside refl)
       ∙ ap (λ e. from c.expr.new.self (Have (held 9 c.in_ok-inner.inner.is_open e)) x) (sym c.in_ok-applied.ensures.value),
 )
@@ -92,25 +79,21 @@ prefixed-returns-clause-reads t c = (
 pub bracketed-returns-in_err-enter-clause-reads : goal.bracketed-returns-in_err-enter-clause-reads
 bracketed-returns-in_err-enter-clause-reads t c =
     let p = err_from_is_err_and c.from_residual.result c.from_residual.ensures.1 in
-    rw (p.1, p.2) (deep-stop Around (from c.args.self.now Want) c.in_err-enter.field-0.0 c.args.self.now c.enter.new.self c.in_err-enter.ensures
-    (bracket-deep c.args.self.now c.requires))
+    rw (p.1, p.2) (deep-stop _ _ c.in_err-enter.ensures (bracket-deep c.args.self.now c.requires))
 
 pub bracketed-returns-in_err-inner-clause-reads : goal.bracketed-returns-in_err-inner-clause-reads
 bracketed-returns-in_err-inner-clause-reads t c =
     let p = err_from_is_err_and c.from_residual-in_err-inner.result c.from_residual-in_err-inner.ensures.1 in
-    rw (p.1, p.2) (stop-from Around (Wanting 0) (from c.args.self.now Want) (λ x. from c.enter.new.self Want x.around) c.in_err-inner.field-0.0 c.expr.new.self
-    (λ x. (
+    rw (p.1, p.2) (stop-from _ _ c.in_err-inner.ensures.reads (λ x. (
       wanted 0 (Brackets ∷ x.frames) (c.args.self.now.depth ∷ x.outside) refl,
-      bracket-goes c.args.self.now c.enter.new.self c.requires
-          c.in_ok-enter.ensures x,
-    ))
-    c.in_err-inner.ensures.reads)
+      bracket-goes c.args.self.now c.requires c.enter.new.self c.in_ok-enter.ensures x,
+    )))
 
 pub bracketed-returns-then-takes-clause-reads : goal.bracketed-returns-then-takes-clause-reads
 bracketed-returns-then-takes-clause-reads t c = (
   omega arith,
   λ x.
-      bracket-goes c.args.self.now c.enter.new.self c.requires c.in_ok-enter.ensures x
+      bracket-goes c.args.self.now c.requires c.enter.new.self c.in_ok-enter.ensures x
       ∙ c.in_ok-inner.ensures.reads (wanted 0 (Brackets ∷ x.frames) (c.args.self.now.depth ∷ x.outside) refl)
       ∙ ap (λ d. leave (counts c.expr.new.self.depth (d ∷ x.outside)) (held_of c.in_ok-inner.inner) (Brackets ∷ x.frames) c.expr.new.self.rest)
       (sym c.depth-outside.ensures.value)
@@ -123,7 +106,7 @@ bracketed-returns-else-takes-clause-reads t c =
     rw c.fault.ensures (
       refl,
       λ x.
-          bracket-goes c.args.self.now c.enter.new.self c.requires c.in_ok-enter.ensures x
+          bracket-goes c.args.self.now c.requires c.enter.new.self c.in_ok-enter.ensures x
           ∙ c.in_ok-inner.ensures.reads (wanted 0 (Brackets ∷ x.frames) (c.args.self.now.depth ∷ x.outside) refl)
           ∙ close-missing c.expr.new.self.rest (counts c.expr.new.self.depth (c.args.self.now.depth ∷ x.outside)) (held_of c.in_ok-inner.inner) x.frames o.0
           ∙ ap (λ a. Err (Offends, a.rest)) (sym o.1),
@@ -137,57 +120,45 @@ operand-returns-in-Other-clause-reads t c = rw c.fault.ensures (refl, λ x. none
 pub linked-returns-in_err-right-in-Between-clause-reads : goal.linked-returns-in_err-right-in-Between-clause-reads
 linked-returns-in_err-right-in-Between-clause-reads t c =
     let p = err_from_is_err_and c.from_residual-in_err-right-in-Between.result c.from_residual-in_err-right-in-Between.ensures.1 in
-    rw (p.1, p.2, c.in-Between.is) (stop-from Around (Wanting c.right_need.result)
-    (from c.args.self.now (linked (link.Between c.in-Between.op c.in-Between.at) (held_of c.args.left))) (λ x. from c.args.self.now Want x.around)
-    c.in_err-right-in-Between.field-0.0 c.expr.new.self
-    (λ x. (wanted c.right_need.result (After c.in-Between.op c.in-Between.at (tree_of c.args.left.tree) ∷ x.frames) x.outside (sym c.right_need.ensures), refl))
-    c.in_err-right-in-Between.ensures.reads)
+    rw (p.1, p.2, c.in-Between.is) (stop-from _ _ c.in_err-right-in-Between.ensures.reads (λ x.
+    (wanted c.right_need.result (After c.in-Between.op c.in-Between.at (tree_of c.args.left.tree) ∷ x.frames) x.outside (sym c.right_need.ensures), refl)))
 
 pub choice-returns-in_err-enter-clause-reads : goal.choice-returns-in_err-enter-clause-reads
 choice-returns-in_err-enter-clause-reads t c =
     let p = err_from_is_err_and c.from_residual.result c.from_residual.ensures.1 in
-    rw (p.1, p.2) (deep-stop Around (from c.args.self.now Want) c.in_err-enter.field-0.0 c.args.self.now c.enter.new.self c.in_err-enter.ensures
-    (operator-deep c.args.self.now (start.Asks c.args.at) (λ s. Want (Asked c.args.at ∷ s)) c.requires (λ h s. refl) (λ w e. e)))
+    rw (p.1, p.2) (deep-stop _ _ c.in_err-enter.ensures (operator-deep c.args.self.now c.requires (λ h s. refl) (λ w e. e)))
 
 pub choice-returns-in_err-test-clause-reads : goal.choice-returns-in_err-test-clause-reads
 choice-returns-in_err-test-clause-reads t c =
     let p = err_from_is_err_and c.from_residual-in_err-test.result c.from_residual-in_err-test.ensures.1 in
-    rw (p.1, p.2) (stop-from Around (Choosing mark.Then) (from c.args.self.now Want) (part_from c.enter.new.self) c.in_err-test.field-0.0 c.part.new.self
-    (λ x. (
+    rw (p.1, p.2) (stop-from _ _ c.in_err-test.ensures.reads (λ x. (
       as-test c.args.at x,
-      operator-goes c.args.self.now (start.Asks c.args.at) (λ s. Want (Asked c.args.at ∷ s))
-          c.requires (λ h s. refl) (λ w e. e) c.enter.new.self c.in_ok-enter.ensures x,
-    )) c.in_err-test.ensures.reads)
+      operator-goes c.args.self.now c.requires (λ h s. refl) (λ w e. e) c.enter.new.self c.in_ok-enter.ensures x,
+    )))
 
 pub choice-returns-in_err-yes-clause-reads : goal.choice-returns-in_err-yes-clause-reads
 choice-returns-in_err-yes-clause-reads t c =
     let p = err_from_is_err_and c.from_residual-in_err-yes.result c.from_residual-in_err-yes.ensures.1 in
-    rw (p.1, p.2) (stop-from Around (Choosing mark.Else) (from c.args.self.now Want) (part_from c.part.new.self) c.in_err-yes.field-0.0 c.part-2.new.self
-    (λ x. (
+    rw (p.1, p.2) (stop-from _ _ c.in_err-yes.ensures.reads (λ x. (
       as-yes c.args.at (tree_of c.in_ok-test.test) x,
-      operator-goes c.args.self.now (start.Asks c.args.at) (λ s. Want (Asked c.args.at ∷ s))
-          c.requires (λ h s. refl) (λ w e. e) c.enter.new.self c.in_ok-enter.ensures x
+      operator-goes c.args.self.now c.requires (λ h s. refl) (λ w e. e) c.enter.new.self c.in_ok-enter.ensures x
           ∙ c.in_ok-test.ensures.reads (as-test c.args.at x),
-    )) c.in_err-yes.ensures.reads)
+    )))
 
 pub choice-returns-in_err-no-clause-reads : goal.choice-returns-in_err-no-clause-reads
 choice-returns-in_err-no-clause-reads t c =
     let p = err_from_is_err_and c.from_residual-in_err-no.result c.from_residual-in_err-no.ensures.1 in
-    rw (p.1, p.2) (stop-from Around (Wanting 0) (from c.args.self.now Want) (λ x. from c.part-2.new.self Want x.around) c.in_err-no.field-0.0 c.expr.new.self
-    (λ x. (
+    rw (p.1, p.2) (stop-from _ _ c.in_err-no.ensures.reads (λ x. (
       wanted 0 (Else c.args.at (tree_of c.in_ok-test.test) (tree_of c.in_ok-yes.yes) ∷ x.frames) x.outside refl,
-      operator-goes c.args.self.now (start.Asks c.args.at) (λ s. Want (Asked c.args.at ∷ s))
-          c.requires (λ h s. refl) (λ w e. e) c.enter.new.self c.in_ok-enter.ensures x
+      operator-goes c.args.self.now c.requires (λ h s. refl) (λ w e. e) c.enter.new.self c.in_ok-enter.ensures x
           ∙ c.in_ok-test.ensures.reads (as-test c.args.at x) ∙ c.in_ok-yes.ensures.reads (as-yes c.args.at (tree_of c.in_ok-test.test) x),
-    ))
-    c.in_err-no.ensures.reads)
+    )))
 
 pub choice-returns-clause-reads : goal.choice-returns-clause-reads
 choice-returns-clause-reads t c = made-read c.args.self.now c.expr.new.self Want
     (chosen_held c.args.at (tree_of c.in_ok-test.test) (tree_of c.in_ok-yes.yes) (tree_of c.in_ok-no.no.tree)) c.chosen.result (omega arith)
     c.chosen.ensures.value c.chosen.ensures.memory
-    (λ x. operator-goes c.args.self.now (start.Asks c.args.at) (λ s. Want (Asked c.args.at ∷ s))
-    c.requires (λ h s. refl) (λ w e. e) c.enter.new.self c.in_ok-enter.ensures x
+    (λ x. operator-goes c.args.self.now c.requires (λ h s. refl) (λ w e. e) c.enter.new.self c.in_ok-enter.ensures x
     ∙ c.in_ok-test.ensures.reads (as-test c.args.at x) ∙ c.in_ok-yes.ensures.reads (as-yes c.args.at (tree_of c.in_ok-test.test) x)
     ∙ c.in_ok-no.ensures.reads (wanted 0 (Else c.args.at (tree_of c.in_ok-test.test) (tree_of c.in_ok-yes.yes) ∷ x.frames) x.outside refl))
 
@@ -195,15 +166,13 @@ choice-returns-clause-reads t c = made-read c.args.self.now c.expr.new.self Want
 pub part-returns-in_err-part-clause-reads : goal.part-returns-in_err-part-clause-reads
 part-returns-in_err-part-clause-reads t c =
     let p = err_from_is_err_and c.from_residual.result c.from_residual.ensures.1 in
-    rw (p.1, p.2) (stop-from (Choosing c.args.mark) (Wanting 0) (part_from c.args.self.now) (λ x. from c.args.self.now Want x.around)
-    c.in_err-part.field-0.0 c.expr.new.self (λ x. (part-wanted c.args.mark x, refl)) c.in_err-part.ensures.reads)
+    rw (p.1, p.2) (stop-from _ _ c.in_err-part.ensures.reads (λ x. (part-wanted c.args.mark x, refl)))
 
 pub part-returns-in_err-pass-clause-reads : goal.part-returns-in_err-pass-clause-reads
 part-returns-in_err-pass-clause-reads t c =
     let p = err_from_is_err_and c.from_residual-in_err-pass.result c.from_residual-in_err-pass.ensures.1 in
-    rw (p.1, p.2) (pass-stop (Choosing c.args.mark) (part_from c.args.self.now) c.args.mark c.in_err-pass.field-0.0 c.expr.new.self c.pass.new.self
-    c.in_err-pass.ensures
-    (λ n x. c.in_ok-part.ensures.reads (part-wanted c.args.mark x) ∙ part-missing c.args.mark c.expr.new.self (held_of c.in_ok-part.part) n x))
+    rw (p.1, p.2) (pass-stop c.args.mark _ _ _ c.in_err-pass.ensures (λ n x.
+    c.in_ok-part.ensures.reads (part-wanted c.args.mark x) ∙ part-missing c.args.mark c.expr.new.self (held_of c.in_ok-part.part) n x))
 
 pub part-returns-clause-reads : goal.part-returns-clause-reads
 part-returns-clause-reads t c = λ x.
@@ -214,42 +183,40 @@ part-returns-clause-reads t c = λ x.
 pub hashed-returns-in_err-enter-clause-reads : goal.hashed-returns-in_err-enter-clause-reads
 hashed-returns-in_err-enter-clause-reads t c =
     let p = err_from_is_err_and c.from_residual.result c.from_residual.ensures.1 in
-    rw (p.1, p.2) (deep-stop Around (from c.args.self.now Want) c.in_err-enter.field-0.0 c.args.self.now c.enter.new.self c.in_err-enter.ensures
-    (operator-deep c.args.self.now (start.Counts c.args.at) (λ s. Hashed c.args.at s) c.requires (λ h s. refl) (λ w e. e)))
+    rw (p.1, p.2) (deep-stop _ _ c.in_err-enter.ensures (operator-deep c.args.self.now c.requires (λ h s. refl) (λ w e. e)))
 
 pub hashed-returns-then-not-sees-clause-reads : goal.hashed-returns-then-not-sees-clause-reads
 hashed-returns-then-not-sees-clause-reads t c =
     rw c.fault.ensures (
       refl,
-      λ x. operator-goes c.args.self.now (start.Counts c.args.at) (λ s. Hashed c.args.at s) c.requires (λ h s. refl)
-          (λ w e. e) c.enter.new.self c.in_ok-enter.ensures x ∙ hash-missing c.enter.new.self.rest (counts c.enter.new.self.depth x.outside) c.args.at x.frames
-          (sym c.sees.ensures ∙ c.if-not-sees.true),
+      λ x.
+          operator-goes c.args.self.now c.requires (λ h s. refl) (λ w e. e) c.enter.new.self c.in_ok-enter.ensures x
+          ∙ hash-missing c.enter.new.self.rest (counts c.enter.new.self.depth x.outside) c.args.at x.frames (sym c.sees.ensures ∙ c.if-not-sees.true),
     )
 
 pub hashed-returns-in_err-enter-2-clause-reads : goal.hashed-returns-in_err-enter-2-clause-reads
 hashed-returns-in_err-enter-2-clause-reads t c =
     let p = err_from_is_err_and c.from_residual-in_err-enter-2.result c.from_residual-in_err-enter-2.ensures.1 in
-    rw (p.1, p.2) (deep-stop Around (from c.args.self.now Want) c.in_err-enter-2.field-0.0 c.enter.new.self c.enter-2.new.self c.in_err-enter-2.ensures
-    (λ le x. operator-goes c.args.self.now (start.Counts c.args.at) (λ s. Hashed c.args.at s) c.requires (λ h s. refl) (λ w e. e) c.enter.new.self
-    c.in_ok-enter.ensures x ∙ hash-deep c.enter.new.self c.args.at (sym c.sees.ensures ∙ c.if-not-sees.false) le x))
+    rw (p.1, p.2) (deep-stop _ _ c.in_err-enter-2.ensures (λ le x.
+    operator-goes c.args.self.now c.requires (λ h s. refl) (λ w e. e) c.enter.new.self c.in_ok-enter.ensures x
+    ∙ hash-deep c.enter.new.self c.args.at (sym c.sees.ensures ∙ c.if-not-sees.false) le x))
 
 pub hashed-returns-in_err-arguments-clause-reads : goal.hashed-returns-in_err-arguments-clause-reads
 hashed-returns-in_err-arguments-clause-reads t c =
     let p = err_from_is_err_and c.from_residual-in_err-arguments.result c.from_residual-in_err-arguments.ensures.1 in
-    rw (p.1, p.2) (stop-from Around Calling (from c.args.self.now Want) (argued_from c.depth-outside.result [] c.enter-2.new.self) c.in_err-arguments.field-0.0
-    c.arguments.new.self (λ x. (
+    rw (p.1, p.2) (stop-from _ _ c.in_err-arguments.ensures.reads (λ x. (
       calling (Hash c.args.at) x,
-      operator-goes c.args.self.now (start.Counts c.args.at) (λ s. Hashed c.args.at s) c.requires
-          (λ h s. refl) (λ w e. e) c.enter.new.self c.in_ok-enter.ensures x
+      operator-goes c.args.self.now c.requires (λ h s. refl) (λ w e. e) c.enter.new.self c.in_ok-enter.ensures x
           ∙ hash-goes c.enter.new.self c.enter-2.new.self c.args.at (sym c.sees.ensures ∙ c.if-not-sees.false) c.in_ok-enter-2.ensures x
           ∙ ap (λ d. argued_from d [] c.enter-2.new.self (calling (Hash c.args.at) x)) (sym c.depth-outside.ensures.value),
-    )) c.in_err-arguments.ensures.reads)
+    )))
 
 pub hashed-returns-clause-reads : goal.hashed-returns-clause-reads
 hashed-returns-clause-reads t c = (
   omega arith,
-  λ x. operator-goes c.args.self.now (start.Counts c.args.at) (λ s. Hashed c.args.at s) c.requires (λ h s. refl) (λ w e. e) c.enter.new.self
-      c.in_ok-enter.ensures x ∙ hash-goes c.enter.new.self c.enter-2.new.self c.args.at (sym c.sees.ensures ∙ c.if-not-sees.false) c.in_ok-enter-2.ensures x
+  λ x.
+      operator-goes c.args.self.now c.requires (λ h s. refl) (λ w e. e) c.enter.new.self c.in_ok-enter.ensures x
+      ∙ hash-goes c.enter.new.self c.enter-2.new.self c.args.at (sym c.sees.ensures ∙ c.if-not-sees.false) c.in_ok-enter-2.ensures x
       ∙ ap (λ d. argued_from d [] c.enter-2.new.self (calling (Hash c.args.at) x)) (sym c.depth-outside.ensures.value)
       ∙ c.in_ok-arguments.ensures.reads (calling (Hash c.args.at) x) ∙ ap (λ e. from c.arguments.new.self (Have (held 10 false e)) x) (sym c.counted.ensures),
 )
@@ -257,40 +224,39 @@ hashed-returns-clause-reads t c = (
 pub named-returns-in_err-name-clause-reads : goal.named-returns-in_err-name-clause-reads
 named-returns-in_err-name-clause-reads t c =
     let p = err_from_is_err_and c.from_residual.result c.from_residual.ensures.1 in
-    rw (p.1, p.2) (call-none Around (from c.args.self.now Want) c.in_err-name.field-0.0 c.args.self.now c.inner_name.new.self
-    (sym c.sees_call.ensures ∙ c.if-sees_call.true) c.in_err-name.ensures.takes)
+    rw (p.1, p.2) (call-none _ _ c.args.self.now c.inner_name.new.self (sym c.sees_call.ensures ∙ c.if-sees_call.true) c.in_err-name.ensures.takes)
 
 pub named-returns-in_err-enter-clause-reads : goal.named-returns-in_err-enter-clause-reads
 named-returns-in_err-enter-clause-reads t c =
     let p = err_from_is_err_and c.from_residual-in_err-enter.result c.from_residual-in_err-enter.ensures.1 in
-    rw (p.1, p.2) (deep-stop Around (from c.args.self.now Want) c.in_err-enter.field-0.0 c.inner_name.new.self c.enter.new.self c.in_err-enter.ensures
+    rw (p.1, p.2) (deep-stop _ _ c.in_err-enter.ensures
     (call-deep c.args.self.now c.inner_name.new.self c.in_ok-name.name (sym c.sees_call.ensures ∙ c.if-sees_call.true) c.in_ok-name.ensures.takes))
 
 pub named-returns-in_err-arguments-clause-reads : goal.named-returns-in_err-arguments-clause-reads
 named-returns-in_err-arguments-clause-reads t c =
     let p = err_from_is_err_and c.from_residual-in_err-arguments.result c.from_residual-in_err-arguments.ensures.1 in
-    rw (p.1, p.2) (stop-from Around Calling (from c.args.self.now Want) (argued_from c.depth-outside.result [] c.enter.new.self) c.in_err-arguments.field-0.0
-    c.arguments.new.self (λ x. (
+    rw (p.1, p.2) (stop-from _ _ c.in_err-arguments.ensures.reads (λ x. (
       calling (Function c.in_ok-name.name) x,
-      call-goes c.args.self.now c.inner_name.new.self c.enter.new.self c.in_ok-name.name
-          (sym c.sees_call.ensures ∙ c.if-sees_call.true) c.in_ok-name.ensures.takes c.in_ok-enter.ensures x
+      call-goes c.args.self.now c.inner_name.new.self c.enter.new.self c.in_ok-name.name (sym c.sees_call.ensures ∙ c.if-sees_call.true)
+          c.in_ok-name.ensures.takes c.in_ok-enter.ensures x
           ∙ ap (λ d. argued_from d [] c.enter.new.self (calling (Function c.in_ok-name.name) x)) (sym c.depth-outside.ensures.value),
-    ))
-    c.in_err-arguments.ensures.reads)
+    )))
 
 pub named-returns-then-sees_call-clause-reads : goal.named-returns-then-sees_call-clause-reads
 named-returns-then-sees_call-clause-reads t c = (
   omega arith,
-  λ x. call-goes c.args.self.now c.inner_name.new.self c.enter.new.self c.in_ok-name.name (sym c.sees_call.ensures ∙ c.if-sees_call.true)
-      c.in_ok-name.ensures.takes c.in_ok-enter.ensures x ∙ ap (λ d. argued_from d [] c.enter.new.self (calling (Function c.in_ok-name.name) x))
-      (sym c.depth-outside.ensures.value) ∙ c.in_ok-arguments.ensures.reads (calling (Function c.in_ok-name.name) x)
+  λ x.
+      call-goes c.args.self.now c.inner_name.new.self c.enter.new.self c.in_ok-name.name (sym c.sees_call.ensures ∙ c.if-sees_call.true)
+      c.in_ok-name.ensures.takes c.in_ok-enter.ensures x
+      ∙ ap (λ d. argued_from d [] c.enter.new.self (calling (Function c.in_ok-name.name) x)) (sym c.depth-outside.ensures.value)
+      ∙ c.in_ok-arguments.ensures.reads (calling (Function c.in_ok-name.name) x)
       ∙ ap (λ e. from c.arguments.new.self (Have (held 10 false e)) x) (sym c.called.ensures),
 )
 
 pub named-returns-in_err-leaf-clause-reads : goal.named-returns-in_err-leaf-clause-reads
 named-returns-in_err-leaf-clause-reads t c =
     let p = err_from_is_err_and c.from_residual-in_err-leaf.result c.from_residual-in_err-leaf.ensures.1 in
-    rw (p.1, p.2) (leaf-none Around (from c.args.self.now Want) c.in_err-leaf.field-0.0 c.args.self.now c.leaf.new.self c.requires c.in_err-leaf.ensures.takes)
+    rw (p.1, p.2) (leaf-none _ _ c.args.self.now c.leaf.new.self c.requires c.in_err-leaf.ensures.takes)
 
 pub named-returns-clause-reads : goal.named-returns-clause-reads
 named-returns-clause-reads t c =
@@ -303,54 +269,47 @@ named-returns-clause-reads t c =
 pub arguments-returns-in_err-last-clause-reads : goal.arguments-returns-in_err-last-clause-reads
 arguments-returns-in_err-last-clause-reads t c =
     let p = err_from_is_err_and c.from_residual.result c.from_residual.ensures.1 in
-    rw (p.1, p.2) (stop-from Calling (Wanting 0) (argued_from c.args.outside [] c.args.self.now) (λ x. from c.args.self.now Want x.around)
-    c.in_err-last.field-0.0 c.expr.new.self (λ x. (wanted 0 (Within x.callee [] ∷ x.around.frames) (c.args.outside ∷ x.around.outside) refl, refl))
-    c.in_err-last.ensures.reads)
+    rw (p.1, p.2) (stop-from _ _ c.in_err-last.ensures.reads (λ x.
+    (wanted 0 (Within x.callee [] ∷ x.around.frames) (c.args.outside ∷ x.around.outside) refl, refl)))
 
 pub arguments-more-init : goal.arguments-more-init
-arguments-more-init t c =
-    record {
-      shorter = c.in_ok-last.ensures.shorter;
-      reads = λ x. c.in_ok-last.ensures.reads (wanted 0 (Within x.callee [] ∷ x.around.frames) (c.args.outside ∷ x.around.outside) refl)
-          ∙ ap (λ l. leave (counts c.expr.new.self.depth (c.args.outside ∷ x.around.outside)) (held_of c.in_ok-last.last)
-          (Within x.callee (map tree_of l) ∷ x.around.frames) c.expr.new.self.rest) (sym c.new-arguments.ensures);
-    }
+arguments-more-init t c = record {
+  shorter = c.in_ok-last.ensures.shorter;
+  reads = λ x. c.in_ok-last.ensures.reads (wanted 0 (Within x.callee [] ∷ x.around.frames) (c.args.outside ∷ x.around.outside) refl)
+      ∙ ap (λ l. leave (counts c.expr.new.self.depth (c.args.outside ∷ x.around.outside)) (held_of c.in_ok-last.last)
+      (Within x.callee (map tree_of l) ∷ x.around.frames) c.expr.new.self.rest) (sym c.new-arguments.ensures);
+}
 
 pub arguments-returns-in_err-last-2-clause-reads : goal.arguments-returns-in_err-last-2-clause-reads
 arguments-returns-in_err-last-2-clause-reads t c =
     let p = err_from_is_err_and c.from_residual-in_err-last-2.result c.from_residual-in_err-last-2.ensures.1 in
-    rw (p.1, p.2) (stop-from Calling (Wanting 0) (argued_from c.args.outside [] c.args.self.now) (λ x. from c.takes.new.self Want x.around)
-    c.in_err-last-2.field-0.0 c.expr-in-more.new.self (λ x. (
-      wanted 0
-          (Within x.callee ((map tree_of c.more.arguments) ++ tree_of c.more.last.tree ∷ []) ∷ x.around.frames) (c.args.outside ∷ x.around.outside) refl,
-      c.more.invariant.reads x ∙ comma-goes c.args.outside c.more.self c.takes.new.self (held_of c.more.last) (map tree_of c.more.arguments) c.requires
-          c.more-test.ensures x,
-    )) c.in_err-last-2.ensures.reads)
+    rw (p.1, p.2) (stop-from _ _ c.in_err-last-2.ensures.reads (λ x. (
+      wanted 0 (Within x.callee ((map tree_of c.more.arguments) ++ tree_of c.more.last.tree ∷ []) ∷ x.around.frames) (c.args.outside ∷ x.around.outside) refl,
+      c.more.invariant.reads x
+          ∙ comma-goes c.args.outside c.more.self c.takes.new.self (held_of c.more.last) (map tree_of c.more.arguments) c.requires c.more-test.ensures x,
+    )))
 
 pub arguments-more-preserved : goal.arguments-more-preserved
-arguments-more-preserved t c =
-    record {
-      shorter = omega (arith, c.in_ok-last-2.ensures.shorter, ap length c.more-test.ensures.1, tail-short c.more.self.rest, c.more.invariant.shorter);
-      reads = λ x.
-          c.more.invariant.reads x ∙ comma-goes c.args.outside c.more.self c.takes.new.self (held_of c.more.last) (map tree_of c.more.arguments) c.requires
-          c.more-test.ensures x
-          ∙ c.in_ok-last-2.ensures.reads (wanted 0 (Within x.callee ((map tree_of c.more.arguments) ++ tree_of c.more.last.tree ∷ []) ∷ x.around.frames)
-          (c.args.outside ∷ x.around.outside) refl)
-          ∙ ap (λ l. leave (counts c.expr-in-more.new.self.depth (c.args.outside ∷ x.around.outside)) (held_of c.in_ok-last-2.last)
-          (Within x.callee l ∷ x.around.frames) c.expr-in-more.new.self.rest) (sym (map_push tree_of c.more.arguments c.more.last.tree))
-          ∙ ap (λ l. leave (counts c.expr-in-more.new.self.depth (c.args.outside ∷ x.around.outside)) (held_of c.in_ok-last-2.last)
-          (Within x.callee (map tree_of l) ∷ x.around.frames) c.expr-in-more.new.self.rest) (sym c.in_ok-push.ensures.ok);
-    }
+arguments-more-preserved t c = record {
+  shorter = omega (arith, c.in_ok-last-2.ensures.shorter, ap length c.more-test.ensures.1, tail-short c.more.self.rest, c.more.invariant.shorter);
+  reads = λ x.
+      let leaving = λ (l : List Tree). leave (counts c.expr-in-more.new.self.depth (c.args.outside ∷ x.around.outside)) (held_of c.in_ok-last-2.last)
+      (Within x.callee l ∷ x.around.frames) c.expr-in-more.new.self.rest in
+      c.more.invariant.reads x
+      ∙ comma-goes c.args.outside c.more.self c.takes.new.self (held_of c.more.last) (map tree_of c.more.arguments) c.requires c.more-test.ensures x
+      ∙ c.in_ok-last-2.ensures.reads (wanted 0 (Within x.callee ((map tree_of c.more.arguments) ++ tree_of c.more.last.tree ∷ []) ∷ x.around.frames)
+      (c.args.outside ∷ x.around.outside) refl)
+      ∙ ap leaving (sym (map_push tree_of c.more.arguments c.more.last.tree)) ∙ ap (λ l. leaving (map tree_of l)) (sym c.in_ok-push.ensures.ok);
+}
 
 pub arguments-returns-then-takes-clause-reads : goal.arguments-returns-then-takes-clause-reads
-arguments-returns-then-takes-clause-reads t c =
-    λ x.
+arguments-returns-then-takes-clause-reads t c = λ x.
     c.more.invariant.reads x
     ∙ ap (λ a. leave (counts a.depth (c.args.outside ∷ x.around.outside)) (held_of c.more.last)
     (Within x.callee (map tree_of c.more.arguments) ∷ x.around.frames) a.rest) (sym c.more-test.ensures.1)
     ∙ last-goes c.args.outside c.takes.new.self c.takes-2.new.self (held_of c.more.last) (map tree_of c.more.arguments) (omega arith) c.if-takes.ensures x
-    ∙ ap (λ l. from c.takes-2.new.self (Have (whole (Invoked x.callee l))) x.around) (sym (map_push tree_of c.more.arguments c.more.last.tree))
-    ∙ ap (λ l. from c.takes-2.new.self (Have (whole (Invoked x.callee (map tree_of l)))) x.around) (sym c.in_ok-push-2.ensures.ok)
+    ∙ ap (λ l. from c.takes-2.new.self (Have (whole (Invoked x.callee l))) x.around)
+    (sym (map_push tree_of c.more.arguments c.more.last.tree) ∙ ap (map tree_of) (sym c.in_ok-push-2.ensures.ok))
 
 pub arguments-returns-else-takes-clause-reads : goal.arguments-returns-else-takes-clause-reads
 arguments-returns-else-takes-clause-reads t c =
@@ -379,9 +338,8 @@ linked-returns-in_ok-right-in-Between-clause-reads t c =
 pub linked-returns-in_err-clock-in-When-clause-reads : goal.linked-returns-in_err-clock-in-When-clause-reads
 linked-returns-in_err-clock-in-When-clause-reads t c =
     let p = err_from_is_err_and c.from_residual-in_err-clock-in-When.result c.from_residual-in_err-clock-in-When.ensures.1 in
-    rw (p.1, p.2, c.in-When.is) (name-stop Around (from c.args.self.now (linked (link.When c.in-When.at) (held_of c.args.left)))
-    c.in_err-clock-in-When.field-0.0 c.args.self.now c.inner_name.new.self c.in_err-clock-in-When.ensures.takes
-    (λ n x. clock-missing c.args.self.now.rest (counts c.args.self.now.depth x.outside) c.in-When.at (tree_of c.args.left.tree) x.frames n))
+    rw (p.1, p.2, c.in-When.is) (name-stop _ _ _ c.in_err-clock-in-When.ensures.takes (λ n x.
+    clock-missing c.args.self.now.rest (counts c.args.self.now.depth x.outside) c.in-When.at (tree_of c.args.left.tree) x.frames n))
 
 pub linked-returns-in_ok-clock-in-When-clause-reads : goal.linked-returns-in_ok-clock-in-When-clause-reads
 linked-returns-in_ok-clock-in-When-clause-reads t c =
@@ -393,21 +351,16 @@ linked-returns-in_ok-clock-in-When-clause-reads t c =
     ∙ ap (λ e. from c.inner_name.new.self (Have (sampled_held c.in-When.at (tree_of e) c.in_ok-clock-in-When.clock)) x) (sym c.in_ok-left.ensures)))
 
 pub operand-returns-in-Operand-clause-reads : goal.operand-returns-in-Operand-clause-reads
-operand-returns-in-Operand-clause-reads t c =
-    c.named.ensures.reads
+operand-returns-in-Operand-clause-reads t c = c.named.ensures.reads
 
 pub operand-returns-in-Before-clause-reads : goal.operand-returns-in-Before-clause-reads
-operand-returns-in-Before-clause-reads t c =
-    c.prefixed.ensures.reads
+operand-returns-in-Before-clause-reads t c = c.prefixed.ensures.reads
 
 pub operand-returns-in-Opens-clause-reads : goal.operand-returns-in-Opens-clause-reads
-operand-returns-in-Opens-clause-reads t c =
-    c.bracketed.ensures.reads
+operand-returns-in-Opens-clause-reads t c = c.bracketed.ensures.reads
 
 pub operand-returns-in-Asks-clause-reads : goal.operand-returns-in-Asks-clause-reads
-operand-returns-in-Asks-clause-reads t c =
-    c.choice.ensures.reads
+operand-returns-in-Asks-clause-reads t c = c.choice.ensures.reads
 
 pub operand-returns-in-Counts-clause-reads : goal.operand-returns-in-Counts-clause-reads
-operand-returns-in-Counts-clause-reads t c =
-    c.hashed.ensures.reads
+operand-returns-in-Counts-clause-reads t c = c.hashed.ensures.reads

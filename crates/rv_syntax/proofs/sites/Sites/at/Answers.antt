@@ -1,6 +1,6 @@
 use Rattle.std.proofs.Common.{◌+◌, ltb, ap, sym, subst, ◌∙◌, rules}
-use Rattle.std.specs.List.Sorted.{IsNonDecreasing}
 use Rattle.std.proofs.lemmas.List.Sorted.{IsPartitionPoint-from_clause, IsPartitionedBy-ltb}
+use Rattle.std.specs.List.Sorted.{IsNonDecreasing}
 use Rattle.rv_tree.specs.Sites.{earlier}
 use Rattle.rv_syntax.proofs.Earlier.{earlier-place}
 use Rattle.rv_syntax.proofs.sites.Sites.at.Goals as goal

@@ -37,5 +37,4 @@ returns-in_ok-insert-in-None-clause-names c =
     let new = insert_entry-new (pointwise nat_eq) c.self.inside.names c.args.name.now.text c.args.name.now.at none in
     let entries = c.in_ok-insert-in-None.ensures.entries
     ∙ (λ i. insert_entry (pointwise nat_eq) c.self.inside.names.entries (copied i) c.args.name.now.at) ∙ new in
-    entry_added c.self.inside.names.entries c.insert.new.self.entries c.args.name.now none entries
-    ∙ (λ i. with_name (c.self.view_is i) c.args.name.now)
+    entry_added c.self.inside.names.entries c.insert.new.self.entries c.args.name.now none entries ∙ (λ i. with_name (c.self.view_is i) c.args.name.now)
