@@ -70,8 +70,7 @@ reads_next s d p set r c n low = go (node_at set.nodes n).var (c.states n low)
 
 pub dead_no_step : (kind : EntryKind) → IsDeadKind kind → IsStepKind kind → ⊥
 dead_no_step (Dead by) d t = t
-dead_no_step (Go target reach) d t = d
-dead_no_step (Loop f b a t') d t = d
+dead_no_step _ d t = d
 
 pub go_step : (kind : EntryKind) (b : Bool) → MatchBool b (IsStepKind kind) (IsDeadKind kind) → b ≡ true → IsStepKind kind
 go_step kind true m h = m

@@ -47,88 +47,58 @@ never_self v (x, same, off, on) = clash (v x) on off
 
 pub is_initial : (q : Reason) (rest : List ℕ) → place q ≡ 0 ∷ rest → (w : List Bool) × (q ≡ reason.NoInitial w)
 is_initial (reason.NoInitial w') rest e = (w', refl)
-is_initial (reason.Inclusion k' n') rest e = absurd (apart 0 _ _ e refl)
-is_initial (reason.Uncovered k' w') rest e = absurd (apart 0 _ _ e refl)
-is_initial (reason.Unsettled k' j') rest e = absurd (apart 0 _ _ e refl)
-is_initial (reason.Observer k' j' w') rest e = absurd (apart 0 _ _ e refl)
-is_initial (reason.Target k' j' w') rest e = absurd (apart 0 _ _ e refl)
-is_initial (reason.Multipliers k' j' n') rest e = absurd (apart 0 _ _ e refl)
+is_initial _ rest e = absurd (apart 0 _ _ e refl)
 
 pub is_inclusion : (q : Reason) (k : ℕ) (n : ℕ) (rest : List ℕ) → place q ≡ 1 ∷ k ∷ 0 ∷ n ∷ rest → q ≡ reason.Inclusion k n
 is_inclusion (reason.NoInitial w') k n rest e = absurd (apart 0 _ _ e refl)
 is_inclusion (reason.Inclusion k' n') k n rest e = ap (λ z. reason.Inclusion z n') (nth 1 _ _ e) ∙ ap (λ z. reason.Inclusion k z) (nth 3 _ _ e)
-is_inclusion (reason.Uncovered k' w') k n rest e = absurd (apart 2 _ _ e refl)
-is_inclusion (reason.Unsettled k' j') k n rest e = absurd (apart 2 _ _ e refl)
-is_inclusion (reason.Observer k' j' w') k n rest e = absurd (apart 2 _ _ e refl)
-is_inclusion (reason.Target k' j' w') k n rest e = absurd (apart 2 _ _ e refl)
-is_inclusion (reason.Multipliers k' j' n') k n rest e = absurd (apart 2 _ _ e refl)
+is_inclusion _ k n rest e = absurd (apart 2 _ _ e refl)
 
 pub is_uncovered : (q : Reason) (k : ℕ) (rest : List ℕ) → place q ≡ 1 ∷ k ∷ 1 ∷ rest → (w : List Bool) × (q ≡ reason.Uncovered k w)
 is_uncovered (reason.NoInitial w') k rest e = absurd (apart 0 _ _ e refl)
-is_uncovered (reason.Inclusion k' n') k rest e = absurd (apart 2 _ _ e refl)
 is_uncovered (reason.Uncovered k' w') k rest e = (w', ap (λ z. reason.Uncovered z w') (nth 1 _ _ e))
-is_uncovered (reason.Unsettled k' j') k rest e = absurd (apart 2 _ _ e refl)
-is_uncovered (reason.Observer k' j' w') k rest e = absurd (apart 2 _ _ e refl)
-is_uncovered (reason.Target k' j' w') k rest e = absurd (apart 2 _ _ e refl)
-is_uncovered (reason.Multipliers k' j' n') k rest e = absurd (apart 2 _ _ e refl)
+is_uncovered _ k rest e = absurd (apart 2 _ _ e refl)
 
 pub is_unsettled : (q : Reason) (k : ℕ) (j : ℕ) (rest : List ℕ) → place q ≡ 1 ∷ k ∷ 2 ∷ j ∷ 0 ∷ rest → q ≡ reason.Unsettled k j
 is_unsettled (reason.NoInitial w') k j rest e = absurd (apart 0 _ _ e refl)
 is_unsettled (reason.Inclusion k' n') k j rest e = absurd (apart 2 _ _ e refl)
 is_unsettled (reason.Uncovered k' w') k j rest e = absurd (apart 2 _ _ e refl)
 is_unsettled (reason.Unsettled k' j') k j rest e = ap (λ z. reason.Unsettled z j') (nth 1 _ _ e) ∙ ap (λ z. reason.Unsettled k z) (nth 3 _ _ e)
-is_unsettled (reason.Observer k' j' w') k j rest e = absurd (apart 4 _ _ e refl)
-is_unsettled (reason.Target k' j' w') k j rest e = absurd (apart 4 _ _ e refl)
-is_unsettled (reason.Multipliers k' j' n') k j rest e = absurd (apart 4 _ _ e refl)
+is_unsettled _ k j rest e = absurd (apart 4 _ _ e refl)
 
 pub is_observer : (q : Reason) (k : ℕ) (j : ℕ) (rest : List ℕ) → place q ≡ 1 ∷ k ∷ 2 ∷ j ∷ 1 ∷ rest → (w : List Bool) × (q ≡ reason.Observer k j w)
 is_observer (reason.NoInitial w') k j rest e = absurd (apart 0 _ _ e refl)
 is_observer (reason.Inclusion k' n') k j rest e = absurd (apart 2 _ _ e refl)
 is_observer (reason.Uncovered k' w') k j rest e = absurd (apart 2 _ _ e refl)
-is_observer (reason.Unsettled k' j') k j rest e = absurd (apart 4 _ _ e refl)
 is_observer (reason.Observer k' j' w') k j rest e = (w', ap (λ z. reason.Observer z j' w') (nth 1 _ _ e) ∙ ap (λ z. reason.Observer k z w') (nth 3 _ _ e))
-is_observer (reason.Target k' j' w') k j rest e = absurd (apart 4 _ _ e refl)
-is_observer (reason.Multipliers k' j' n') k j rest e = absurd (apart 4 _ _ e refl)
+is_observer _ k j rest e = absurd (apart 4 _ _ e refl)
 
 pub is_target : (q : Reason) (k : ℕ) (j : ℕ) (rest : List ℕ) → place q ≡ 1 ∷ k ∷ 2 ∷ j ∷ 2 ∷ rest → (w : List Bool) × (q ≡ reason.Target k j w)
 is_target (reason.NoInitial w') k j rest e = absurd (apart 0 _ _ e refl)
 is_target (reason.Inclusion k' n') k j rest e = absurd (apart 2 _ _ e refl)
 is_target (reason.Uncovered k' w') k j rest e = absurd (apart 2 _ _ e refl)
-is_target (reason.Unsettled k' j') k j rest e = absurd (apart 4 _ _ e refl)
-is_target (reason.Observer k' j' w') k j rest e = absurd (apart 4 _ _ e refl)
 is_target (reason.Target k' j' w') k j rest e = (w', ap (λ z. reason.Target z j' w') (nth 1 _ _ e) ∙ ap (λ z. reason.Target k z w') (nth 3 _ _ e))
-is_target (reason.Multipliers k' j' n') k j rest e = absurd (apart 4 _ _ e refl)
+is_target _ k j rest e = absurd (apart 4 _ _ e refl)
 
 pub is_multipliers : (q : Reason) (k : ℕ) (j : ℕ) (n : ℕ) (rest : List ℕ) → place q ≡ 1 ∷ k ∷ 2 ∷ j ∷ 3 ∷ n ∷ rest → q ≡ reason.Multipliers k j n
 is_multipliers (reason.NoInitial w') k j n rest e = absurd (apart 0 _ _ e refl)
 is_multipliers (reason.Inclusion k' n') k j n rest e = absurd (apart 2 _ _ e refl)
 is_multipliers (reason.Uncovered k' w') k j n rest e = absurd (apart 2 _ _ e refl)
-is_multipliers (reason.Unsettled k' j') k j n rest e = absurd (apart 4 _ _ e refl)
-is_multipliers (reason.Observer k' j' w') k j n rest e = absurd (apart 4 _ _ e refl)
-is_multipliers (reason.Target k' j' w') k j n rest e = absurd (apart 4 _ _ e refl)
 is_multipliers (reason.Multipliers k' j' n') k j n rest e = ap (λ z. reason.Multipliers z j' n') (nth 1 _ _ e)
     ∙ ap (λ z. reason.Multipliers k z n') (nth 3 _ _ e) ∙ ap (λ z. reason.Multipliers k j z) (nth 5 _ _ e)
+is_multipliers _ k j n rest e = absurd (apart 4 _ _ e refl)
 
 pub some_inclusion : (q : Reason) (k : ℕ) (rest : List ℕ) → place q ≡ 1 ∷ k ∷ 0 ∷ rest → (n : ℕ) × (q ≡ reason.Inclusion k n)
 some_inclusion (reason.NoInitial w') k rest e = absurd (apart 0 _ _ e refl)
 some_inclusion (reason.Inclusion k' n') k rest e = (n', ap (λ z. reason.Inclusion z n') (nth 1 _ _ e))
-some_inclusion (reason.Uncovered k' w') k rest e = absurd (apart 2 _ _ e refl)
-some_inclusion (reason.Unsettled k' j') k rest e = absurd (apart 2 _ _ e refl)
-some_inclusion (reason.Observer k' j' w') k rest e = absurd (apart 2 _ _ e refl)
-some_inclusion (reason.Target k' j' w') k rest e = absurd (apart 2 _ _ e refl)
-some_inclusion (reason.Multipliers k' j' n') k rest e = absurd (apart 2 _ _ e refl)
+some_inclusion _ k rest e = absurd (apart 2 _ _ e refl)
 
 unlike : (a b : List ℕ) → a ≡ b → (length a == length b) ≡ false → ⊥
 unlike a b e h = clash (length a == length b) (eq-eqb (length a) (length b) (ap (λ l. length l) e)) h
 
 pub not_top : (q : Reason) → place q ≡ 1 ∷ [] → ⊥
 not_top (reason.NoInitial w') e = apart 0 _ _ e refl
-not_top (reason.Inclusion k' n') e = unlike _ _ e refl
-not_top (reason.Uncovered k' w') e = unlike _ _ e refl
-not_top (reason.Unsettled k' j') e = unlike _ _ e refl
-not_top (reason.Observer k' j' w') e = unlike _ _ e refl
-not_top (reason.Target k' j' w') e = unlike _ _ e refl
-not_top (reason.Multipliers k' j' n') e = unlike _ _ e refl
+not_top _ e = unlike _ _ e refl
 
 pub not_location : (q : Reason) (k : ℕ) → place q ≡ 1 ∷ k ∷ [] → ⊥
 not_location (reason.NoInitial w') k e = unlike _ _ e refl
@@ -140,37 +110,19 @@ not_location (reason.Target k' j' w') k e = unlike _ _ e refl
 not_location (reason.Multipliers k' j' n') k e = unlike _ _ e refl
 
 pub not_rows : (q : Reason) (k : ℕ) → place q ≡ 1 ∷ k ∷ 0 ∷ [] → ⊥
-not_rows (reason.NoInitial w') k e = unlike _ _ e refl
-not_rows (reason.Inclusion k' n') k e = unlike _ _ e refl
 not_rows (reason.Uncovered k' w') k e = apart 2 _ _ e refl
-not_rows (reason.Unsettled k' j') k e = unlike _ _ e refl
-not_rows (reason.Observer k' j' w') k e = unlike _ _ e refl
-not_rows (reason.Target k' j' w') k e = unlike _ _ e refl
-not_rows (reason.Multipliers k' j' n') k e = unlike _ _ e refl
+not_rows _ k e = unlike _ _ e refl
 
 pub not_entries : (q : Reason) (k : ℕ) → place q ≡ 1 ∷ k ∷ 2 ∷ [] → ⊥
-not_entries (reason.NoInitial w') k e = unlike _ _ e refl
-not_entries (reason.Inclusion k' n') k e = unlike _ _ e refl
 not_entries (reason.Uncovered k' w') k e = apart 2 _ _ e refl
-not_entries (reason.Unsettled k' j') k e = unlike _ _ e refl
-not_entries (reason.Observer k' j' w') k e = unlike _ _ e refl
-not_entries (reason.Target k' j' w') k e = unlike _ _ e refl
-not_entries (reason.Multipliers k' j' n') k e = unlike _ _ e refl
+not_entries _ k e = unlike _ _ e refl
 
 pub not_entry : (q : Reason) (k : ℕ) (j : ℕ) → place q ≡ 1 ∷ k ∷ 2 ∷ j ∷ [] → ⊥
-not_entry (reason.NoInitial w') k j e = unlike _ _ e refl
 not_entry (reason.Inclusion k' n') k j e = apart 2 _ _ e refl
-not_entry (reason.Uncovered k' w') k j e = unlike _ _ e refl
-not_entry (reason.Unsettled k' j') k j e = unlike _ _ e refl
-not_entry (reason.Observer k' j' w') k j e = unlike _ _ e refl
-not_entry (reason.Target k' j' w') k j e = unlike _ _ e refl
-not_entry (reason.Multipliers k' j' n') k j e = unlike _ _ e refl
+not_entry _ k j e = unlike _ _ e refl
 
 pub not_implications : (q : Reason) (k : ℕ) (j : ℕ) → place q ≡ 1 ∷ k ∷ 2 ∷ j ∷ 3 ∷ [] → ⊥
-not_implications (reason.NoInitial w') k j e = unlike _ _ e refl
-not_implications (reason.Inclusion k' n') k j e = unlike _ _ e refl
-not_implications (reason.Uncovered k' w') k j e = unlike _ _ e refl
 not_implications (reason.Unsettled k' j') k j e = apart 4 _ _ e refl
 not_implications (reason.Observer k' j' w') k j e = apart 4 _ _ e refl
 not_implications (reason.Target k' j' w') k j e = apart 4 _ _ e refl
-not_implications (reason.Multipliers k' j' n') k j e = unlike _ _ e refl
+not_implications _ k j e = unlike _ _ e refl

@@ -37,12 +37,8 @@ side_back side.AtLeast = refl
 
 bit_back : (b : Bit) → bit_of (variable_of b) ≡ b
 unfolding bit_of
-bit_back bit.MainTick = refl
-bit_back (bit.Tick p) = refl
-bit_back (bit.Kept p b) = refl
-bit_back bit.Next = refl
-bit_back (bit.Input j b) = refl
 bit_back (bit.Test p s) = ap (bit.Test p) (side_back s)
+bit_back _ = refl
 
 declared_column : lists.Column → Column
 declared_column (lists.KeptColumn p) = column.Kept (record { sites = p })

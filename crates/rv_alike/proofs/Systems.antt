@@ -4,7 +4,7 @@ use Rattle.std.proofs.Common.{◌∙◌, ap, subst, arith, Option, Some, None as
 use Rattle.std.proofs.{lemmas.Bool.cases_lt, lemmas.List.length-map, lemmas.List.get_or_past}
 use Rattle.std.specs.{Prelude.slice_index_or, List.Contains}
 use Rattle.rv_tree.specs.{Tree.Tree, Tree.ProgramTree, Places.Identifier, Places.Sites, Places.index_of, Delays.Delay}
-use Rattle.rv_types.specs.Lists.{Side, MemoryAt, delay_place, Variable, MainTick, Tick, Kept, Next, Input, Test}
+use Rattle.rv_types.specs.Lists.{Side, MemoryAt, delay_place, Variable, MainTick, Tick, Kept, Next, Test}
 use Rattle.rv_types.specs.{declared.typed.Clock.TheVariants.Base, Instances.Instance, Instances.clock_in}
 use Rattle.rv_types.specs.Lists as lists
 use Rattle.rv_meaning.specs.Runs.{observer_place}
@@ -289,20 +289,14 @@ module _ (program : ProgramTree) (main : Identifier) (laws : Laws program main) 
               )
 
           same_row : (x : Variable) → row_of s w row x ≡ row_of t w other x
-          same_row MainTick = refl
-          same_row (Tick p) = refl
-          same_row (Kept p b) = refl
-          same_row Next = refl
-          same_row (Input j b) = refl
           same_row (Test p side) = same_rows laws.tight s t w row other same_width first.well.apart second.well.apart tested_to tested_from p side
+          same_row _ = refl
 
           same_next : (x : Variable) → next_truth s w row x ≡ next_truth t w other x
           same_next MainTick = same_tick (tick_index s.ticks Nothing) ∙ ap (λ ts. next_tick t w other (tick_index ts Nothing)) same_ticks
           same_next (Tick p) = same_tick (tick_index s.ticks (Some p)) ∙ ap (λ ts. next_tick t w other (tick_index ts (Some p))) same_ticks
           same_next (Kept p b) = ap (λ a. bit_of a b) (same_updated (index_of (memory_places s) p) ∙ ap (λ ps. updated t w other (index_of ps p)) same_places)
-          same_next Next = refl
-          same_next (Input j b) = refl
-          same_next (Test p side) = refl
+          same_next _ = refl
 
           pub same_at : AreSameAt s t w row other
           same_at = record {

@@ -4,8 +4,7 @@ use Rattle.rv_tree.specs.Places.{Sites}
 use Rattle.rv_types.specs.declared.typed.Kind.{Kind}
 use Rattle.rv_types.specs.declared.typed.Kind.TheVariants as kind
 use Rattle.rv_agreement.specs.Agreement.{Fits, FormFits, AllFit, IsNamed}
-use Rattle.rv_agreement.specs.Trees.{FlatTree, Node, TreeForm, FlatTrees, Constant, Flow, Memory, Ticked, Input, Not, Binary, Scale, If, AtMostOne, When}
-use Rattle.rv_agreement.specs.Trees.{Current, None, More, nth_item, System}
+use Rattle.rv_agreement.specs.Trees.{FlatTree, Node, TreeForm, FlatTrees, Flow, Not, Binary, Scale, If, AtMostOne, When, Current, None, More, nth_item, System}
 use Rattle.rv_flat.specs.Tame.{IsOver, FormIsOver, AreOver}
 
 module _ (s : System) (n : ℕ) where
@@ -15,11 +14,7 @@ module _ (s : System) (n : ℕ) where
     over_fits k j (Node at form) fit = form_over k j at form fit
 
     form_over : (k : Option ℕ) (j : Kind) (at : Sites) (form : TreeForm) → FormFits s n k j at form → FormIsOver n form
-    form_over k j at (Constant c) fit = tt
     form_over k j at (Flow c) fit = fit.0
-    form_over k j at (Memory m) fit = tt
-    form_over k j at (Ticked t) fit = tt
-    form_over k j at (Input i) fit = tt
     form_over k j at (Not e) fit = over_fits k kind.Bool e fit.1
     form_over k j at (Binary o a b) fit = (over_fits k fit.0 a fit.3, over_fits k fit.0 b fit.4)
     form_over k j at (Scale z e) fit = over_fits k kind.Int e fit.1
@@ -27,6 +22,7 @@ module _ (s : System) (n : ℕ) where
     form_over k j at (AtMostOne es) fit = all_over k es fit.1
     form_over k j at (When c e) fit = over_fits (nth_item s.flows c).clock j e fit.2
     form_over k j at (Current m i e) fit = (fit.3, over_fits i j e fit.4)
+    form_over k j at _ fit = tt
 
     all_over : (k : Option ℕ) (es : FlatTrees) → AllFit s n k es → AreOver n es
     all_over k None fit = tt
@@ -43,11 +39,7 @@ module _ (s : System) (n m : ℕ) (le : n ≤ m) where
     fits_more k j (Node at form) fit = form_more k j at form fit
 
     form_more : (k : Option ℕ) (j : Kind) (at : Sites) (form : TreeForm) → FormFits s n k j at form → FormFits s m k j at form
-    form_more k j at (Constant c) fit = fit
     form_more k j at (Flow c) fit = (omega (arith, fit.0), fit.1, fit.2)
-    form_more k j at (Memory i) fit = fit
-    form_more k j at (Ticked t) fit = fit
-    form_more k j at (Input i) fit = fit
     form_more k j at (Not e) fit = (fit.0, fits_more k kind.Bool e fit.1)
     form_more k j at (Binary o a b) fit = (fit.0, fit.1, fit.2, fits_more k fit.0 a fit.3, fits_more k fit.0 b fit.4)
     form_more k j at (Scale z e) fit = (fit.0, fits_more k kind.Int e fit.1)
@@ -55,6 +47,7 @@ module _ (s : System) (n m : ℕ) (le : n ≤ m) where
     form_more k j at (AtMostOne es) fit = (fit.0, all_more k es fit.1)
     form_more k j at (When c e) fit = (fit.0, omega (arith, fit.1), fits_more (nth_item s.flows c).clock j e fit.2)
     form_more k j at (Current i c e) fit = (fit.0, fit.1, fit.2, named_more n m le c fit.3, fits_more c j e fit.4)
+    form_more k j at _ fit = fit
 
     all_more : (k : Option ℕ) (es : FlatTrees) → AllFit s n k es → AllFit s m k es
     all_more k None fit = fit

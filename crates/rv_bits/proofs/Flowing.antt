@@ -34,8 +34,7 @@ clock_kept a b on (Some c) v e are = e.kept (ref_at on c) (any_ref a.nodes on ar
 pub on_kept : (a b : Diagrams) (on bits : List ℕ) (j : Kind) (clock : Option ℕ) (v : Valuation) → Extends a b → AreRefs a.nodes on → AreRefs a.nodes bits
     → on_bit b.nodes on j clock bits v ≡ on_bit a.nodes on j clock bits v
 on_kept a b on bits kind.Bool clock v e are_on are_bits = λ i. clock_kept a b on clock v e are_on i && bits_kept a b bits e are_bits v 0 i
-on_kept a b on bits kind.Int clock v e are_on are_bits = refl
-on_kept a b on bits (kind.Labels n) clock v e are_on are_bits = refl
+on_kept a b on bits _ clock v e are_on are_bits = refl
 
 -- the truth of what is there
 is_on_there : (nodes : List Triple) (on bits : List ℕ) (clock : Option ℕ) (v : Valuation) (j : Kind) (a : Reading) → clock_bit nodes on clock v ≡ true
@@ -49,8 +48,7 @@ is_on_there nodes on bits clock v (kind.Labels n) a there (l, is, number) = sym 
 is_off_absent : (nodes : List Triple) (on bits : List ℕ) (clock : Option ℕ) (v : Valuation) (j : Kind) → clock_bit nodes on clock v ≡ false
     → on_bit nodes on j clock bits v ≡ false
 is_off_absent nodes on bits clock v kind.Bool off = ap (λ b. b && bit nodes bits v 0) off
-is_off_absent nodes on bits clock v kind.Int off = refl
-is_off_absent nodes on bits clock v (kind.Labels n) off = refl
+is_off_absent nodes on bits clock v _ off = refl
 
 pub nothing_some : {A : Type 0} (x : A) → Nothing ≡ Some x → ⊥
 nothing_some x e = cc

@@ -14,9 +14,8 @@ use Rattle.rv_control.proofs.Alike.{code_same}
 
 pub label_same : (labels : List ℕ) (j : Kind) (g h : ℕ → Bool) → ((b : ℕ) → b < bit_count labels j → g b ≡ h b)
     → names_label labels j g ≡ names_label labels j h
-label_same labels kind.Bool g h same = refl
-label_same labels kind.Int g h same = refl
 label_same labels (kind.Labels i) g h same = ap (λ n. nat_lt n (slice_index_or labels i 0)) (code_same (bits_for (slice_index_or labels i 0)) g h same)
+label_same labels _ g h same = refl
 
 pub and_step : (all one rest total : Bool) → (all && (one && rest)) ≡ total → ((all && one) && rest) ≡ total
 and_step true one rest total e = e

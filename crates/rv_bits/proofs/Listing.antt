@@ -64,11 +64,7 @@ ticks_more vs k x e before = ap (λ l. before ++ map (λ p. Some p) (tick_places
 
     by : (y : Bit) → before ++ map (λ p. Some p) (tick_places (y ∷ drop (k + 1) vs)) ≡ (before ++ ticks_in y) ++ rest
     by (variant.Tick p) = sym (append_assoc before (Some p.sites ∷ []) rest)
-    by variant.MainTick = none
-    by (variant.Kept p b) = none
-    by variant.Next = none
-    by (variant.Input j b) = none
-    by (variant.Test p s) = none
+    by _ = none
 
 bits_of_spelled : (a b : Diagrams) (names : List Variable) (owned : ℕ → Variable) (count : ℕ) (refs : List ℕ) → length refs ≡ count
     → Spells a b (λ n v. nat_lt n count && truth_at names v (owned n)) refs

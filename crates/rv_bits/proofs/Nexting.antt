@@ -88,12 +88,8 @@ tick_later vs i x p left is = ap (λ l. tick_index (ticks_of l) (Some p)) left �
     rest = tick_index (ticks_of (drop (i + 1) vs)) (Some p)
 
     by : (y : Bit) → same_variable (variable_of y) (lists.Tick p) ≡ false → tick_index (ticks_of (y ∷ drop (i + 1) vs)) (Some p) ≡ length (ticks_in y) + rest
-    by variant.Next e = omega arith
-    by variant.MainTick e = omega arith
     by (variant.Tick q) e = ap (λ b. cond b 0 (suc rest)) e ∙ (let z : suc rest ≡ 1 + rest = omega arith in z)
-    by (variant.Kept q b) e = omega arith
-    by (variant.Input j b) e = omega arith
-    by (variant.Test q s) e = omega arith
+    by _ e = omega arith
 
 pub tick_none : (vs : List Bit) (i : ℕ) (p : Sites) → length vs ≤ i → tick_index (map (λ q. Some q) (tick_places (drop i vs))) (Some p) ≡ 0
 unfolding tick_index

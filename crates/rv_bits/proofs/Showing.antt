@@ -205,7 +205,6 @@ module _ (nodes : List Triple) (names : List Variable) (columns : ℕ) (at : Sit
       → Shows nodes v i left a → Shows nodes v i right b
       → value_of new one v ≡ operated_by nodes names at left right v o
       → Shows new v j (one ∷ []) (operated columns (λ p side. truth_at names v (Test p side)) at o a b)
-  operator_shown new op.Arrow i j left right a b one rule placed first second is = absurd rule
   operator_shown new op.Implies i j left right a b one rule placed first second is =
       shows_single new v j one (not (holds_true a) || holds_true b) rule.1
       (is ∙ (λ k. not (truth_of i left a rule.0 first k) || truth_of i right b rule.0 second k))
@@ -226,10 +225,7 @@ module _ (nodes : List Triple) (names : List Variable) (columns : ℕ) (at : Sit
   operator_shown new op.AtLeast i j left right a b one rule placed first second is = shows_single new v j one (tests at AtLeast) rule.1 is
   operator_shown new op.Plus i j left right a b one rule placed first second is = linear_shown new j one (operated columns tests at op.Plus a b) rule.1 refl
   operator_shown new op.Minus i j left right a b one rule placed first second is = linear_shown new j one (operated columns tests at op.Minus a b) rule.1 refl
-  operator_shown new op.Times i j left right a b one rule placed first second is = absurd rule
-  operator_shown new op.Slash i j left right a b one rule placed first second is = absurd rule
-  operator_shown new op.Div i j left right a b one rule placed first second is = absurd rule
-  operator_shown new op.Mod i j left right a b one rule placed first second is = absurd rule
+  operator_shown new _ i j left right a b one rule placed first second is = absurd rule
 
 pub reads_binary : (f : Flat) (a b c d : Diagrams) (at : Sites) (o : Op) (e g : FlatTree) (left right : List ℕ) (one : ℕ) → ReadsTo f a b e left
     → ReadsTo f b c g right

@@ -7,9 +7,8 @@ use Rattle.rv_proofs.specs.{Systems.System, Scopes.IsIn, Ranges.IsControlSet, Ra
 use Rattle.rv_proofs.specs.{Cases.IsInitialSet, declared.certificate.Certificate.Certificate, declared.certificate.Location.Location}
 use Rattle.rv_proofs.specs.{declared.certificate.Entry.Entry, declared.report.Case.Case}
 use Rattle.rv_walk.specs.Ends.{has}
-use Rattle.rv_boxes.specs.Built.{AreBounds, HasBounds, IsBuiltEntry, IsBuiltLocation, IsBuilt}
-use Rattle.rv_boxes.specs.Rounds.{IsSetting, IsInCases}
-use Rattle.rv_boxes.specs.Certifying.{IsJudgeable, AreEntriesOf, IsLocationOf, IsPart, IsCertifiable}
+use Rattle.rv_boxes.specs.{Built.AreBounds, Built.HasBounds, Built.IsBuiltEntry, Built.IsBuiltLocation, Built.IsBuilt, Rounds.IsSetting, Rounds.IsInCases}
+use Rattle.rv_boxes.specs.{Certifying.IsJudgeable, Certifying.AreEntriesOf, Certifying.IsLocationOf, Certifying.IsPart, Certifying.IsCertifiable}
 use Rattle.rv_boxes.specs.{declared.frame.Frame.Frame, declared.claim.Claim.Claim, declared.rounds.Others.Others, Claiming.claim_of, Passing.IsProof}
 use Rattle.rv_boxes.proofs.{Building.accepted, Building.plain, Rounding.setting_first, Rounding.setting_others, Rounding.in_a_case}
 use Rattle.rv_walk.proofs.Stages.{rest_from}

@@ -190,10 +190,6 @@ module _ (width : ℕ) (rows : List Row) (pre : ArePremises width rows) (ends : 
       let c = x.crossed in
       omega (arith, ints)
 
--- a number between the ends that is at the end towards which a multiple grows
-negated : ℤ → ℤ
-negated z = pos 0 -ℤ z
-
 abbrev pub at_high : List Row → Option ℕ → Option ℕ → ℤ
 at_high rows (Some p) low = (row_at rows p).bound
 at_high rows None (Some q) = pos 0 -ℤ (row_at rows q).bound

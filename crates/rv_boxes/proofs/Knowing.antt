@@ -3,11 +3,11 @@ use Rattle.std.proofs.Common.{◌≡◌, ℕ, Bool, true, false, not, ◌&&◌, 
 use Rattle.std.proofs.lemmas.Bool.{or_right}
 use Rattle.rv_diagram.specs.{Nodes.Valuation, declared.frozen.Frozen.Frozen}
 use Rattle.rv_proofs.specs.{Systems.System, Ranges.IsControlSet, Cases.AreCases, declared.report.Case.Case}
-use Rattle.rv_walk.specs.{Ends.has, Extended.fresh_of, Extended.IsExtended, Extended.IsWithout, declared.sets.Extended.Extended}
+use Rattle.rv_walk.specs.{Ends.has, Extended.IsExtended, Extended.IsWithout, declared.sets.Extended.Extended}
 use Rattle.rv_rows.specs.declared.linear.Row.{Row}
 use Rattle.rv_boxes.specs.Knowing.{IsWithin, IsWider, IsKnown, Knows}
 use Rattle.rv_boxes.specs.{declared.known.Known.Known, declared.claim.Claim.Claim, Rounds.IsRest}
-use Rattle.rv_walk.proofs.Stages.{no_rest, rest_from, rest_parts}
+use Rattle.rv_walk.proofs.Stages.{rest_from, rest_parts}
 
 never : (a : Bool) → (a && not a) ≡ true → ⊥
 never true e = cc
@@ -40,9 +40,6 @@ wider_self s a b same control = rw same (record { control = control; within = λ
 
 pub wider_both : (s : System) (a b c : Frozen) → IsWider s a b → IsWider s b c → IsWider s a c
 wider_both s a b c g h = record { control = h.control; within = λ v i. h.within v (g.within v i) }
-
-pub within_is : (a b : Frozen) → ((v : Valuation) → fresh_of b a v ≡ false) → IsWithin a b
-within_is a b none v i = no_rest (has a v) (has b v) (none v) i
 
 -- what is known of what lies ahead
 pub knows_ahead : (s : System) (m : ℕ) (first reached all from : Frozen) (cases : List Case) → IsWider s reached all → IsWithout m all first from

@@ -11,12 +11,11 @@ use Rattle.rv_proofs.specs.Boxes.{BoxClaim, IsBoxClaim, HasOneColumn, IsInBox, I
 use Rattle.rv_proofs.specs.{Scopes.IsIn, Implied.form_at, Ranges.IsControlSet, Reached.IsTighter, Cases.IsImage, Cases.IsCaseOf, declared.report.Case.Case}
 use Rattle.rv_proofs.proofs.Leasts.{box_within, taken_within}
 use Rattle.rv_walk.specs.{Ends.has, Walks.missing}
-use Rattle.rv_boxes.specs.Built.{IsToldCase, AreBoundsAt, IsUpperRow, IsLowerRow}
-use Rattle.rv_boxes.specs.Limits.{limit_at, IsLoosened, AreLoosened, AreAmong, HaveNotFallen, HasChanged, room}
-use Rattle.rv_boxes.specs.Opening.{IsFrameOf, ArePremisesOf, AreOpposite, AreOppositeForms, IsOpened}
 use Rattle.rv_boxes.specs.Rounds.{place, IsSetting, IsHeld, IsKeptClaim, IsAbove, HasGrown, HasTaken, IsMet, left_of}
-use Rattle.rv_boxes.specs.{declared.frame.Frame.Frame, declared.claim.Claim.Claim, declared.opening.Opened.Opened, Boxed.IsBoxed, Boxed.IsOpenBox}
-use Rattle.rv_boxes.specs.{Boxed.ArePremises, Orders.IsBelowClosed, Orders.IsLeastAbove, Claiming.turned, Claiming.claim_of}
+use Rattle.rv_boxes.specs.{Built.IsToldCase, Built.AreBoundsAt, Built.IsUpperRow, Built.IsLowerRow, Limits.limit_at, Limits.IsLoosened, Limits.AreLoosened}
+use Rattle.rv_boxes.specs.{Limits.AreAmong, Limits.HaveNotFallen, Limits.HasChanged, Limits.room, Opening.IsFrameOf, Opening.ArePremisesOf, Opening.AreOpposite}
+use Rattle.rv_boxes.specs.{Opening.AreOppositeForms, Opening.IsOpened, declared.frame.Frame.Frame, declared.claim.Claim.Claim, declared.opening.Opened.Opened}
+use Rattle.rv_boxes.specs.{Boxed.IsBoxed, Boxed.IsOpenBox, Boxed.ArePremises, Orders.IsBelowClosed, Orders.IsLeastAbove, Claiming.turned, Claiming.claim_of}
 use Rattle.rv_boxes.proofs.Building.{in_box, taken, boxed_back, open_back, test_at}
 use Rattle.rv_boxes.proofs.Fitting.{case_entry, here, updates_of_case, many_updates, premises_fit}
 use Rattle.rv_boxes.proofs.{Composing.turned_back, Composing.above_same, Limiting.changed_le}

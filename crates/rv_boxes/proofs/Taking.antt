@@ -1,6 +1,6 @@
 -- A set that is taken into a claim.
 use Rattle.std.proofs.Common.{◌≡◌, ℕ, true, false, ◌||◌, refl, sym, ap, ◌∙◌, subst}
-use Rattle.std.proofs.lemmas.Bool.{or_left as from_first, or_right}
+use Rattle.std.proofs.lemmas.Bool.{or_left, or_right}
 use Rattle.rv_diagram.specs.{Nodes.Valuation, declared.frozen.Frozen.Frozen}
 use Rattle.rv_proofs.specs.{Systems.System, Systems.HasSameState, Ranges.IsControlSet}
 use Rattle.rv_proofs.proofs.ControlReads.{control_same}
@@ -36,7 +36,7 @@ module _ (s : System) (old : Claim) (set : Frozen) (control : IsControlSet s old
     less = λ d v. missing_less s (has old.reached) (has new.reached) v (same_states s old.reached control) (same_states s new.reached there)
         (λ u i. exact u ∙ or_right (has set u) (has old.reached u) i)
         (λ within. x.some (λ u. x.fresh_is u ∙ none_new (has set u) (has old.reached u) (λ i. within u (exact u
-        ∙ from_first (has set u) (has old.reached u) i))));
+        ∙ or_left (has set u) (has old.reached u) i))));
   }
     where
       there : IsControlSet s new.reached

@@ -6,15 +6,14 @@ use Rattle.std.proofs.{lemmas.List.length-map, lemmas.List.get_or-map, lemmas.Li
 use Rattle.std.specs.Prelude.{slice_index_or, IsTrue}
 use Rattle.rv_base.specs.{declared.value.Value.Value, declared.value.Value.TheVariants.Flag, declared.value.Value.TheVariants.Label}
 use Rattle.rv_tree.specs.Places.{Sites, index_of}
-use Rattle.rv_types.specs.Lists.{Variable, MainTick, Tick, Kept, Next, Input, Test}
-use Rattle.rv_types.specs.{declared.typed.Kind.Kind, Variables.is_integer, Variables.bits_for}
+use Rattle.rv_types.specs.{Lists.Variable, Lists.Kept, Lists.Next, Lists.Input, Lists.Test, declared.typed.Kind.Kind, Variables.is_integer, Variables.bits_for}
 use Rattle.rv_types.specs.declared.typed.Kind.TheVariants as kind
 use Rattle.rv_meaning.specs.Codes.{code}
 use Rattle.rv_rows.specs.{declared.linear.Row.Row, declared.linear.Form.Form, Rows.Holds, Arithmetic.constant_form}
 use Rattle.rv_rows.specs.Forms as forms
 use Rattle.rv_agreement.specs.Trees.{Item, nth_item, Kept as KeptMemory, System, memory_kinds, memory_places, kind_at}
-use Rattle.rv_agreement.specs.Valuations.{Valuation, Reading, Truth, Name, Linear, form_of, whole_count, width, wholes, reads_at, found_at, IsSymbolic}
-use Rattle.rv_agreement.specs.Valuations.{all_comparisons, Agrees, updated, next_tick, observed, IsCodedAs, IsCoded, IsAllowed}
+use Rattle.rv_agreement.specs.Valuations.{Valuation, Reading, Truth, form_of, whole_count, width, wholes, reads_at, found_at, IsSymbolic, all_comparisons}
+use Rattle.rv_agreement.specs.Valuations.{Agrees, updated, next_tick, observed, IsCodedAs, IsCoded, IsAllowed}
 use Rattle.rv_agreement.specs.Agreement.{State, point, IsWholeInstant, IsNext, IsTyped, IsAgreed, IsWell, Gives, value_there, forms_from, updates, bit_count}
 use Rattle.rv_agreement.specs.Agreement.{IsSpelledAs, Leads}
 use Rattle.rv_agreement.specs.{Evaluation.nth, Evaluation.is_on, Evaluation.is_met, Evaluation.integers, FlatRuns.IsFlatRun, FlatRuns.AreMetIn}
@@ -50,14 +49,12 @@ pub record Laws : Type 0 where
 
 -- Codes.
 label_named : (labels : List ℕ) (k : Kind) (bits : ℕ → Bool) → IsCodedAs labels k bits → names_label labels k bits ≡ true
-label_named labels kind.Bool bits is = refl
-label_named labels kind.Int bits is = refl
 label_named labels (kind.Labels i) bits is = lt-ltb (code (bits_for (slice_index_or labels i 0)) bits) (slice_index_or labels i 0) is
+label_named labels _ bits is = refl
 
 label_told : (labels : List ℕ) (k : Kind) (bits : ℕ → Bool) → names_label labels k bits ≡ true → IsCodedAs labels k bits
-label_told labels kind.Bool bits e = tt
-label_told labels kind.Int bits e = tt
 label_told labels (kind.Labels i) bits e = ltb-true (code (bits_for (slice_index_or labels i 0)) bits) (slice_index_or labels i 0) e
+label_told labels _ bits e = tt
 
 pub memories_there : (labels : List ℕ) (w : Valuation) (ms : List KeptMemory)
     → ((m : ℕ) → m < length ms → IsCodedAs labels (kind_at (map (λ x. x.kind) ms) m) (w.kept (slice_index_or (map (λ x. x.place) ms) m [])))
@@ -157,10 +154,8 @@ module _ (s : System) (w : Valuation) (row : List (Option Reading)) where
 -- The observer.
 pub observed_true : (s : System) (w : Valuation) (x : List ℤ) (o : Option Reading)
     → (value_there x o ≡ Some (Flag true)) ↔ IsTrue (is_on Reading (reads_at s w) o)
-observed_true s w x Nothing = (λ e. absurd (cc), λ e. no_flag e)
 observed_true s w x (Some (Truth b)) = (λ e. let h : b ≡ true = cc in h, λ e. ap (λ c. Some (Flag c)) e)
-observed_true s w x (Some (Name l)) = (λ e. absurd (cc), λ e. no_flag e)
-observed_true s w x (Some (Linear f)) = (λ e. absurd (cc), λ e. no_flag e)
+observed_true s w x _ = (λ e. absurd (cc), λ e. no_flag e)
 
 -- a bit of what spells a control value
 bit_told : (labels : List ℕ) (k : Kind) (bits : ℕ → Bool) (a : Reading) (b : ℕ) → IsCodedAs labels k bits → IsSpelledAs labels k bits a
@@ -218,14 +213,10 @@ module _ (laws : Laws) (s : System) (names : List Variable) (well : IsWell s) (l
   -- Each row of the system of valuations holds where the point agrees.
   row_of_told : (w : Valuation) (row : List (Option Reading)) (x : Variable) (r : Row) (at : List ℤ) → Agrees s w row at → row_of s w row x ≡ Some r
       → Holds r at
-  row_of_told w row MainTick r at agrees e = absurd (cc)
-  row_of_told w row (Tick p) r at agrees e = absurd (cc)
-  row_of_told w row (Kept p b) r at agrees e = absurd (cc)
-  row_of_told w row Next r at agrees e = absurd (cc)
-  row_of_told w row (Input j b) r at agrees e = absurd (cc)
   row_of_told w row (Test p side) r at agrees e =
       let h = row_told s w row (all_comparisons s) p side r e in
       agrees h.comparison side r h.there h.is
+  row_of_told w row _ r at agrees e = absurd (cc)
 
   -- The next truth of a state bit is that of each valuation of the next state.
   next_bit : (w next : Valuation) (row : List (Option Reading)) → IsCoded s next → Leads s w row next → (x : Variable) → IsStateBit s x

@@ -55,10 +55,9 @@ spells_same labels (kind.Labels i) bits other x same is = is ∙ ap value.Label 
 
 coded_same : (labels : List ℕ) (k : Kind) (bits other : ℕ → Bool) → ((b : ℕ) → b < bit_count labels k → bits b ≡ other b) → IsCodedAs labels k bits
     → IsCodedAs labels k other
-coded_same labels kind.Bool bits other same is = tt
-coded_same labels kind.Int bits other same is = tt
 coded_same labels (kind.Labels i) bits other same is = subst (λ c. c < slice_index_or labels i 0)
     (code_same (bits_for (slice_index_or labels i 0)) bits other same) is
+coded_same labels _ bits other same is = tt
 
 -- Readings of operators and constants.
 module _ (n : ℕ) (p q : Sites → Side → Bool) where
@@ -104,7 +103,6 @@ module _ (n : ℕ) (p q : Sites → Side → Bool) where
 
     operated_same : (o : Op) (i j : Kind) (a b : Reading) → IsRule o i j → IsPlaced at o i → (is_integer i ≡ false → is_linear a ≡ false)
         → (is_placed at ≡ true → (side : Side) → Contains (sides_of o) side → p at side ≡ q at side) → operated n p at o a b ≡ operated n q at o a b
-    operated_same op.Arrow i j a b rule placed control tests = absurd rule
     operated_same op.Implies i j a b rule placed control tests = refl
     operated_same op.Or i j a b rule placed control tests = refl
     operated_same op.Xor i j a b rule placed control tests = refl
@@ -119,10 +117,7 @@ module _ (n : ℕ) (p q : Sites → Side → Bool) where
     operated_same op.AtLeast i j a b rule placed control tests = ap Truth (tests (placed (omega arith) ∙ ap is_integer rule.0) AtLeast (0, omega arith, refl))
     operated_same op.Plus i j a b rule placed control tests = λ t. Linear (form_sum (form_same a t) (form_same b t))
     operated_same op.Minus i j a b rule placed control tests = λ t. Linear (form_difference (form_same a t) (form_same b t))
-    operated_same op.Times i j a b rule placed control tests = absurd rule
-    operated_same op.Slash i j a b rule placed control tests = absurd rule
-    operated_same op.Div i j a b rule placed control tests = absurd rule
-    operated_same op.Mod i j a b rule placed control tests = absurd rule
+    operated_same _ i j a b rule placed control tests = absurd rule
 
 module _ (controls : NoControlForms) (s : System) (well : IsWell s) (v w : Valuation) (like : IsLike s v w) (row : List (Option Reading))
     (symbolic : IsSymbolic s v row) where

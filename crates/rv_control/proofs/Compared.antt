@@ -4,14 +4,14 @@ use Rattle.std.proofs.Common.{Option, Some, None as Nothing}
 use Rattle.std.proofs.lemmas.Bool.{and_parts}
 use Rattle.std.proofs.lemmas.List.Elements.{Contains-append_left, Contains-append_right, Contains-append_cases}
 use Rattle.std.specs.List.{Contains}
-use Rattle.rv_tree.specs.Tree.{Tree, Node, Form, True, False, Number, Named, Not, Minus, Pre, Current, When, Binary, If, AtMostOne, Call, Trees, None, More}
-use Rattle.rv_tree.specs.Tree.{EquationTree, AssertionTree, NodeTree, ProgramTree}
+use Rattle.rv_tree.specs.Tree.{Tree, Node, Form, Not, Minus, Pre, Current, When, Binary, If, AtMostOne, Call, Trees, None, More, EquationTree, AssertionTree}
+use Rattle.rv_tree.specs.Tree.{NodeTree, ProgramTree}
 use Rattle.rv_tree.specs.Delays.{Delay, delays, form_delays, delays_of_all, delays_in_equations, delays_in_assertions, node_delays}
 use Rattle.rv_tree.specs.{declared.tree.Op.Op, Places.Identifier, Places.Sites}
 use Rattle.rv_types.specs.Variables.{is_integer, parts, form_parts, parts_of_all, node_parts}
 use Rattle.rv_types.specs.Instances.{CallTree, calls_in, form_calls, calls_in_all, calls_in_equations, calls_in_assertions, calls, Right, Body, Output, IsRight}
 use Rattle.rv_types.specs.Instances.{alone, in_order, IsArgument, clock_of, Instance, IsInstance}
-use Rattle.rv_types.specs.Needs.{Giver, Given, Of, Gives, given, by_equation, by_call}
+use Rattle.rv_types.specs.Needs.{Giver, Of, Gives, given, by_equation, by_call}
 use Rattle.rv_types.specs.{declared.typed.Clock.Clock, Lists.sides_of, Lists.Compares, Types.is_constant, Types.kind_of, Scopes.node_scope, Values.operand_kind}
 use Rattle.rv_types.specs.declared.typed.Kind.TheVariants as kind
 use Rattle.rv_agreement.specs.Valuations.{is_placed}
@@ -27,10 +27,6 @@ mutual
 
   form_delay_parts : (site : Option ℕ) (form : Form) (d : Delay) (x : Tree) → Contains (form_delays site form) d → Contains (parts d.operand) x
       → Contains (form_parts form) x
-  form_delay_parts site True d x w v = nothing_in d w
-  form_delay_parts site False d x w v = nothing_in d w
-  form_delay_parts site (Number n) d x w v = nothing_in d w
-  form_delay_parts site (Named y) d x w v = nothing_in d w
   form_delay_parts site (Not e) d x w v = delay_parts e d x w v
   form_delay_parts site (Minus e) d x w v = delay_parts e d x w v
   form_delay_parts site (Pre e) d x w v = elim (cons_cases (record { site = site; operand = e }) (delays e) d w) [
@@ -55,6 +51,7 @@ mutual
   ]
   form_delay_parts site (AtMostOne es) d x w v = all_delay_parts es d x w v
   form_delay_parts site (Call f es) d x w v = all_delay_parts es d x w v
+  form_delay_parts site _ d x w v = nothing_in d w
 
   all_delay_parts : (es : Trees) (d : Delay) (x : Tree) → Contains (delays_of_all es) d → Contains (parts d.operand) x → Contains (parts_of_all es) x
   all_delay_parts None d x w v = nothing_in d w
@@ -69,10 +66,6 @@ mutual
 
   form_call_parts : (at : ℕ) (site : Option ℕ) (form : Form) (c : CallTree) (x : Tree) → Contains (form_calls at site form) c
       → Contains (parts_of_all c.args) x → Contains (form_parts form) x
-  form_call_parts at site True c x w v = nothing_in c w
-  form_call_parts at site False c x w v = nothing_in c w
-  form_call_parts at site (Number n) c x w v = nothing_in c w
-  form_call_parts at site (Named y) c x w v = nothing_in c w
   form_call_parts at site (Not e) c x w v = call_parts e c x w v
   form_call_parts at site (Minus e) c x w v = call_parts e c x w v
   form_call_parts at site (Pre e) c x w v = call_parts e c x w v
@@ -94,6 +87,7 @@ mutual
     | inl is ↦ subst (λ (z : CallTree). Contains (parts_of_all z.args) x) (sym is) v
     | inr rest ↦ all_call_parts es c x rest v
   ]
+  form_call_parts at site _ c x w v = nothing_in c w
 
   all_call_parts : (es : Trees) (c : CallTree) (x : Tree) → Contains (calls_in_all es) c → Contains (parts_of_all c.args) x → Contains (parts_of_all es) x
   all_call_parts None c x w v = nothing_in c w
@@ -173,9 +167,8 @@ module _ (n : NodeTree) where
 
 module _ (program : ProgramTree) (main : Identifier) where
   abbrev GiverStands : Giver → Type 0
-  GiverStands (Given j) = Unit {0}
   GiverStands (Of i k (Body e)) = IsInstance program main i × StandsIn i.node e
-  GiverStands (Of i k (Output c j)) = Unit {0}
+  GiverStands _ = Unit {0}
 
   right_gives : (i : Instance) (k : Clock) (r : Right) → IsInstance program main i → RightStands i.node r → GiverStands (Of i k r)
   right_gives i k (Body e) inst stands = (inst, stands)
@@ -244,14 +237,8 @@ module _ (program : ProgramTree) (i : Instance) where
 
     found_form : (at : ℕ) (k : Option Sites) (site : Option ℕ) (form : Form) (c : Compared) → Contains (form_compared program i k site form) c
         → IsFoundIn (parts (Node at site form)) c
-    found_form at k site True c w = nothing_in c w
-    found_form at k site False c w = nothing_in c w
-    found_form at k site (Number n) c w = nothing_in c w
-    found_form at k site (Named x) c w = nothing_in c w
     found_form at k site (Not e) c w = below at site (Not e) (parts e) c (λ x u. u) (found_part k e c w)
     found_form at k site (Minus e) c w = below at site (Minus e) (parts e) c (λ x u. u) (found_part k e c w)
-    found_form at k site (Pre e) c w = nothing_in c w
-    found_form at k site (Current e) c w = nothing_in c w
     found_form at k site (When e n) c w = below at site (When e n) (parts e) c (λ x u. u) (found_part _ e c w)
     found_form at k site (Binary o a b) c w =
         let y : Compared = record { at = operator_place program i site o a; clock = k; operator = o; within = i; left = a; right = b } in
@@ -282,7 +269,7 @@ module _ (program : ProgramTree) (i : Instance) where
           ]
         ]
     found_form at k site (AtMostOne es) c w = below at site (AtMostOne es) (parts_of_all es) c (λ x u. u) (found_all k es c w)
-    found_form at k site (Call f args) c w = nothing_in c w
+    found_form at k site _ c w = nothing_in c w
 
     found_all : (k : Option Sites) (es : Trees) (c : Compared) → Contains (compared_all program i k es) c → IsFoundIn (parts_of_all es) c
     found_all k None c w = nothing_in c w

@@ -70,14 +70,12 @@ module _ (labels : List ℕ) where
       wholes_decoded ks (λ m. bits (suc m)) xs (omega arith) ∙ ap (λ n. take n xs) e
 
   has_kind : (k : Kind) (bits : ℕ → Bool) (z : ℤ) → IsCodedAs labels k bits → HasKind labels k (value_at labels k bits z)
-  has_kind kind.Bool bits z coded = tt
-  has_kind kind.Int bits z coded = tt
   has_kind (kind.Labels i) bits z coded = coded
+  has_kind _ bits z coded = tt
 
   pub is_spelled_at : (k : Kind) (bits : ℕ → Bool) (z : ℤ) → IsSpelled labels k bits (value_at labels k bits z)
-  is_spelled_at kind.Bool bits z = refl
   is_spelled_at kind.Int bits z = tt
-  is_spelled_at (kind.Labels i) bits z = refl
+  is_spelled_at _ bits z = refl
 
   pub are_typed : (ks : List Kind) (bits : ℕ → ℕ → Bool) (xs : List ℤ) → ((m : ℕ) → m < length ks → IsCodedAs labels (kind_at ks m) (bits m))
       → AreTyped labels ks (decoded labels ks bits xs)

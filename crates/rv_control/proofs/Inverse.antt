@@ -40,12 +40,8 @@ first_read (y ∷ ys) v (suc k) lt not once = by (same_variable y (slice_index_o
     by false e later = later
 
 named_read : (names : List Variable) (v : Numbered) (x : Variable) → (x ≡ Next → ⊥) → truth_of (by_names names v) x ≡ truth_at names v x
-named_read names v MainTick not = refl
-named_read names v (Tick p) not = refl
-named_read names v (Kept p b) not = refl
 named_read names v Next not = absurd (not refl)
-named_read names v (Input j b) not = refl
-named_read names v (Test p side) not = refl
+named_read names v _ not = refl
 
 pub read_back : (names : List Variable) (v : Numbered) (k : ℕ) → k < length names → (slice_index_or names k Next ≡ Next → ⊥)
     → ((j : ℕ) → j < k → slice_index_or names j Next ≡ slice_index_or names k Next → ⊥)

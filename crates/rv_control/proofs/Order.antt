@@ -68,9 +68,8 @@ module _ (program : ProgramTree) (main : Identifier) (f : Flat) (flat : IsFlatOf
   kinds = decl_kinds program (node_of program main).inputs
 
   pub same_bits : (k : Kind) → bit_count s.labels k ≡ kind_bits program k
-  same_bits kind.Bool = refl
-  same_bits kind.Int = refl
   same_bits (kind.Labels i) = ap bits_for (ap (λ ls. slice_index_or ls i 0) flat.system.labels ∙ labels_same program.types i)
+  same_bits _ = refl
 
   -- ticks
   tick_there : (p : Sites) → Contains (tick_places f.variables) p → Contains vs.ticks p

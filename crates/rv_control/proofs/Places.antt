@@ -117,12 +117,8 @@ order_tests-append (Test p b ∷ xs) ys = let h = order_tests-append xs ys in om
 
 not_state : (x : Variable) (xs : List Variable) → (x ≡ Next → ⊥) → state_bits (x ∷ xs) ≡ state_bits xs
 unfolding state_bits
-not_state MainTick xs not = refl
-not_state (Tick p) xs not = refl
-not_state (Kept p b) xs not = refl
 not_state Next xs not = absurd (not refl)
-not_state (Input j b) xs not = refl
-not_state (Test p b) xs not = refl
+not_state _ xs not = refl
 
 none_state : (xs : List Variable) → ((x : Variable) → Contains xs x → x ≡ Next → ⊥) → state_bits xs ≡ 0
 unfolding state_bits
@@ -136,12 +132,8 @@ copied_states (x ∷ xs) none = not_state x (Next ∷ with_copies xs) (none x (0
 
 not_test : (x : Variable) (xs : List Variable) → ((p : Sites) (s : Side) → x ≡ Test p s → ⊥) → order_tests (x ∷ xs) ≡ order_tests xs
 unfolding order_tests
-not_test MainTick xs not = refl
-not_test (Tick p) xs not = refl
-not_test (Kept p b) xs not = refl
-not_test Next xs not = refl
-not_test (Input j b) xs not = refl
 not_test (Test p s) xs not = absurd (not p s refl)
+not_test _ xs not = refl
 
 none_test : (xs : List Variable) → ((x : Variable) → Contains xs x → (p : Sites) (s : Side) → x ≡ Test p s → ⊥) → order_tests xs ≡ 0
 unfolding order_tests

@@ -3,7 +3,7 @@ use Rattle.std.proofs.Common.{◌≡◌, ◌↔◌, ◌+◌, ◌-◌, ℤ, List,
 use Rattle.std.proofs.lemmas.List.{get_or_default}
 use Rattle.std.specs.Prelude.{slice_index_or}
 use Rattle.rv_tree.specs.Places.{Sites}
-use Rattle.rv_types.specs.Lists.{Side, Variable, MainTick, Tick, Kept, Next, Input, Test}
+use Rattle.rv_types.specs.Lists.{Side, Variable, Next, Test}
 use Rattle.rv_rows.specs.{declared.linear.Row.Row, Rows.Holds, Tight.IsTightened, Arithmetic.test_row}
 use Rattle.rv_agreement.specs.Valuations.{Valuation, Reading, width, Comparison, all_comparisons, tested, tested_form, Agrees}
 use Rattle.rv_agreement.specs.{Trees.System, Agreement.IsWell}
@@ -15,12 +15,8 @@ use Rattle.rv_control.proofs.{Listed.IsListed, Places.row_told, Places.row_there
 -- a variable with a row is a test
 pub test_of : (s : System) (w : Valuation) (row : List (Option Reading)) (x : Variable) (r : Row) → row_of s w row x ≡ Some r
     → (p : Sites) × (side : Side) × (row_among s w row (all_comparisons s) p side ≡ Some r)
-test_of s w row MainTick r e = absurd (cc)
-test_of s w row (Tick p) r e = absurd (cc)
-test_of s w row (Kept p b) r e = absurd (cc)
-test_of s w row Next r e = absurd (cc)
-test_of s w row (Input j b) r e = absurd (cc)
 test_of s w row (Test p side) r e = (p, side, e)
+test_of s w row _ r e = absurd (cc)
 
 module _ (one : (r a b : Row) → IsTightened r a → IsTightened r b → a ≡ b) (s : System) (names : List Variable) (well : IsWell s) (listed : IsListed s names)
     (v : Numbered) (x : List ℤ) where

@@ -6,8 +6,8 @@ use Rattle.std.specs.Prelude.{nat_le}
 use Rattle.rv_tree.specs.Places.{Sites}
 use Rattle.rv_types.specs.declared.typed.Kind.{Kind}
 use Rattle.rv_types.specs.declared.typed.Kind.TheVariants as kind
-use Rattle.rv_agreement.specs.Trees.{FlatTree, Node, TreeForm, FlatTrees, Constant, Flow, Memory, Ticked, Input, Not, Binary, Scale, If, AtMostOne, When}
-use Rattle.rv_agreement.specs.Trees.{Current, None, More, Item, nth_item, System, kind_at}
+use Rattle.rv_agreement.specs.Trees.{FlatTree, Node, TreeForm, FlatTrees, Flow, Not, Binary, Scale, If, AtMostOne, When, Current, None, More, Item, nth_item}
+use Rattle.rv_agreement.specs.Trees.{System, kind_at}
 use Rattle.rv_agreement.specs.Evaluation.{Reads, Found, nth, is_on, held, is_there, value, form_value, trues, item_value}
 use Rattle.rv_agreement.specs.Agreement.{Fits, FormFits, AllFit, ItemFits, IsNamed, IsWell}
 use Rattle.rv_agreement.specs.Valuations.{Valuation, Reading, IsSymbolic, reads_at, found_at}
@@ -26,11 +26,7 @@ module _ (V : Type 0) (r : Reads V) (s : System) (found : Found V) (row other : 
 
     same_form : (k : Option ℕ) (j : Kind) (at : Sites) (form : TreeForm) → FormFits s n k j at form
         → form_value V r found row at form ≡ form_value V r found other at form
-    same_form k j at (Constant c) fit = refl
     same_form k j at (Flow c) fit = ap (held V r) (agree c fit.0)
-    same_form k j at (Memory m) fit = refl
-    same_form k j at (Ticked t) fit = refl
-    same_form k j at (Input i) fit = refl
     same_form k j at (Not e) fit = ap (λ v. r.flag (not (r.truth v))) (same_value k kind.Bool e fit.1)
     same_form k j at (Binary o a b) fit = λ t. r.operate at o (same_value k fit.0 a fit.3 t) (same_value k fit.0 b fit.4 t)
     same_form k j at (Scale z e) fit = ap (r.scale z) (same_value k kind.Int e fit.1)
@@ -38,6 +34,7 @@ module _ (V : Type 0) (r : Reads V) (s : System) (found : Found V) (row other : 
     same_form k j at (AtMostOne es) fit = ap (λ c. r.flag (nat_le c 1)) (same_trues k es fit.1)
     same_form k j at (When c e) fit = same_value (nth_item s.flows c).clock j e fit.2
     same_form k j at (Current m i e) fit = λ t. cond (same_clock i fit.3 t) (same_value i j e fit.4 t) (found.kept m)
+    same_form k j at _ fit = refl
 
     same_trues : (k : Option ℕ) (es : FlatTrees) → AllFit s n k es → trues V r found row es ≡ trues V r found other es
     same_trues k None fit = refl

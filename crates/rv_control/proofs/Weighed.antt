@@ -10,8 +10,8 @@ use Rattle.rv_tree.specs.declared.tree.Op.TheVariants as op
 use Rattle.rv_types.specs.{declared.typed.Kind.Kind, Lists.Side, Lists.AtMost, Lists.AtLeast, Lists.sides_of, Variables.is_integer}
 use Rattle.rv_types.specs.declared.typed.Kind.TheVariants as kind
 use Rattle.rv_rows.specs.{declared.linear.Form.Form, Arithmetic.column_form}
-use Rattle.rv_agreement.specs.Trees.{FlatTree, Node, TreeForm, FlatTrees, Constant, Flow, Memory, Ticked, Input, Not, Binary, Scale, If, AtMostOne, When}
-use Rattle.rv_agreement.specs.Trees.{Current, None, More, Item, nth_item, System, memory_items, memory_kinds, memory_places, kind_at}
+use Rattle.rv_agreement.specs.Trees.{FlatTree, Node, TreeForm, FlatTrees, Constant, Flow, Memory, Input, Not, Binary, Scale, If, AtMostOne, When, Current, None}
+use Rattle.rv_agreement.specs.Trees.{More, Item, nth_item, System, memory_items, memory_kinds, memory_places, kind_at}
 use Rattle.rv_agreement.specs.Valuations.{Valuation, Reading, holds_true, form_of, operated, constant_reading, spelled, width, rank, whole_count, reads_at}
 use Rattle.rv_agreement.specs.Valuations.{found_at, IsSymbolic, Comparison, is_placed, own, comparisons, form_comparisons, comparisons_of, side_form, read}
 use Rattle.rv_agreement.specs.Valuations.{updated}
@@ -33,34 +33,23 @@ module _ (columns : ℕ) (test : Sites → Side → Bool) where
   chosen_bounded false m n p q a b = looser columns n (max m n) (form_of columns test q) (omega arith) b
 
   constant_has : (c : Value) → Has (constant_weight c) (constant_reading columns test c)
-  constant_has (value.Flag b) = zero_bounded columns 0
-  constant_has (value.Label l) = zero_bounded columns 0
   constant_has (value.Whole z) = constant_bounded columns z
+  constant_has _ = zero_bounded columns 0
 
   spelled_has : (labels : List ℕ) (k : Kind) (bits : ℕ → Bool) (c : ℕ) → Has 1 (spelled labels k bits (column_form columns c))
-  spelled_has labels kind.Bool bits c = zero_bounded columns 1
   spelled_has labels kind.Int bits c = column_bounded columns c
-  spelled_has labels (kind.Labels i) bits c = zero_bounded columns 1
+  spelled_has labels _ bits c = zero_bounded columns 1
 
   operated_has : (at : Sites) (o : Op) (i j : Kind) (a b : Reading) (m n : ℕ) → IsRule o i j → Has m a → Has n b
       → Has (weight_under o m n) (operated columns test at o a b)
   operated_has at op.Arrow i j a b m n rule p q = absurd rule
-  operated_has at op.Implies i j a b m n rule p q = zero_bounded columns 0
-  operated_has at op.Or i j a b m n rule p q = zero_bounded columns 0
-  operated_has at op.Xor i j a b m n rule p q = zero_bounded columns 0
-  operated_has at op.And i j a b m n rule p q = zero_bounded columns 0
-  operated_has at op.Equal i j a b m n rule p q = zero_bounded columns 0
-  operated_has at op.Differs i j a b m n rule p q = zero_bounded columns 0
-  operated_has at op.Less i j a b m n rule p q = zero_bounded columns 0
-  operated_has at op.AtMost i j a b m n rule p q = zero_bounded columns 0
-  operated_has at op.Greater i j a b m n rule p q = zero_bounded columns 0
-  operated_has at op.AtLeast i j a b m n rule p q = zero_bounded columns 0
   operated_has at op.Plus i j a b m n rule p q = sum_bounded columns m n (form_of columns test a) (form_of columns test b) p q
   operated_has at op.Minus i j a b m n rule p q = difference_bounded columns m n (form_of columns test a) (form_of columns test b) p q
   operated_has at op.Times i j a b m n rule p q = absurd rule
   operated_has at op.Slash i j a b m n rule p q = absurd rule
   operated_has at op.Div i j a b m n rule p q = absurd rule
   operated_has at op.Mod i j a b m n rule p q = absurd rule
+  operated_has at _ i j a b m n rule p q = zero_bounded columns 0
 
   pub side_bounded : (side : Side) (f g : Form) (n : ℕ) → IsBounded columns n f → IsBounded columns n g → IsBounded columns (n + n) (side_form side f g)
   side_bounded AtMost f g n a b = difference_bounded columns n n f g a b
@@ -84,21 +73,19 @@ module _ (s : System) (w : Valuation) (row : List (Option Reading)) (ws : List �
       form_bounded k j at (Flow c) fit = flows c fit.0
       form_bounded k j at (Memory m) fit = spelled_has (width s) w.test s.labels (kind_at (memory_kinds s) m)
           (w.kept (slice_index_or (memory_places s) m [])) (rank (memory_kinds s) m)
-      form_bounded k j at (Ticked t) fit = zero_bounded (width s) 0
       form_bounded k j at (Input i) fit = looser (width s) 1 1 _ (omega arith)
           (spelled_has (width s) w.test s.labels (kind_at s.inputs i) (w.input i) (whole_count (memory_kinds s) + rank s.inputs i))
-      form_bounded k j at (Not e) fit = zero_bounded (width s) 0
       form_bounded k j at (Binary o a b) fit = operated_has (width s) w.test at o fit.0 j (read s w row a) (read s w row b) (flat_weight ws a)
           (flat_weight ws b) fit.1 (bounded k fit.0 a fit.3) (bounded k fit.0 b fit.4)
       form_bounded k j at (Scale z e) fit = times_bounded (width s) z (flat_weight ws e) (form_of (width s) w.test (read s w row e))
           (bounded k kind.Int e fit.1)
       form_bounded k j at (If c a b) fit = chosen_bounded (width s) w.test (holds_true (read s w row c)) (flat_weight ws a) (flat_weight ws b)
           (read s w row a) (read s w row b) (bounded k j a fit.1) (bounded k j b fit.2)
-      form_bounded k j at (AtMostOne es) fit = zero_bounded (width s) 0
       form_bounded k j at (When c e) fit = bounded (nth_item s.flows c).clock j e fit.2
       form_bounded k j at (Current m i e) fit = chosen_bounded (width s) w.test (is_there Reading (reads_at s w) row i) (flat_weight ws e) 1
           (read s w row e) ((found_at s w).kept m) (bounded i j e fit.4)
           (spelled_has (width s) w.test s.labels (kind_at (memory_kinds s) m) (w.kept (slice_index_or (memory_places s) m [])) (rank (memory_kinds s) m))
+      form_bounded k j at _ fit = zero_bounded (width s) 0
 
     pub item_bounded : (j : Kind) (x : Item) → ItemFits s n j x
         → HasHere (flat_weight ws x.body) (held Reading (reads_at s w) (item_value Reading (reads_at s w) (found_at s w) row x))
@@ -128,11 +115,6 @@ module _ (ws : List ℕ) where
 
       form_compared_light : (k : Option ℕ) (at : Sites) (form : TreeForm) → form_is_light ws form ≡ true → (c : Comparison)
           → Contains (form_comparisons flows k at form) c → AreLight c
-      form_compared_light k at (Constant z) light c w = nothing_in c w
-      form_compared_light k at (Flow x) light c w = nothing_in c w
-      form_compared_light k at (Memory m) light c w = nothing_in c w
-      form_compared_light k at (Ticked t) light c w = nothing_in c w
-      form_compared_light k at (Input x) light c w = nothing_in c w
       form_compared_light k at (Not e) light c w = compared_light k e light c w
       form_compared_light k at (Binary o a b) light c w =
           let y : Comparison = record { at = at; clock = k; operator = o; left = a; right = b } in
@@ -154,7 +136,7 @@ module _ (ws : List ℕ) where
           ]
       form_compared_light k at (AtMostOne es) light c w = all_compared_light k es light c w
       form_compared_light k at (When x e) light c w = compared_light (nth_item flows x).clock e light c w
-      form_compared_light k at (Current m i e) light c w = nothing_in c w
+      form_compared_light k at _ light c w = nothing_in c w
 
       all_compared_light : (k : Option ℕ) (es : FlatTrees) → all_light ws es ≡ true → (c : Comparison) → Contains (comparisons_of flows k es) c → AreLight c
       all_compared_light k None light c w = nothing_in c w

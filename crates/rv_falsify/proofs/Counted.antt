@@ -32,11 +32,10 @@ labels_few (l ∷ ls) (suc i) few = labels_few ls i (and_parts (nat_le (length l
 
 -- so a code has at most eight
 pub few_bits : (ls : List (List (List ℕ))) (k : Kind) → all_few 256 ls ≡ true → bit_count (map (λ l. length l) ls) k ≤ 8
-few_bits ls kind.Bool few = omega arith
-few_bits ls kind.Int few = omega arith
 few_bits ls (kind.Labels i) few =
     let count = slice_index_or (map (λ (l : List (List ℕ)). length l) ls) i 0 in
     few_from count 0 count (labels_few ls i few) (omega arith)
+few_bits ls _ few = omega arith
 
 module _ (labels : List ℕ) where
   -- the bits of one type more

@@ -38,9 +38,8 @@ SpelledRuns = (program : ProgramTree) (main : Identifier) (f : Flat) (n : ℕ) (
 
 -- what is spelled is within the range, where all numbers are 0
 spelled_within : (labels : List ℕ) (k : Kind) (bits : ℕ → Bool) → IsInRange (value_at labels k bits (pos 0))
-spelled_within labels kind.Bool bits = tt
 spelled_within labels kind.Int bits = (omega (arith, ints), omega (arith, ints))
-spelled_within labels (kind.Labels i) bits = tt
+spelled_within labels _ bits = tt
 
 all_within : (labels : List ℕ) (ks : List Kind) (bits : ℕ → ℕ → Bool) (k : ℕ) → k < length (decoded labels ks bits [])
     → IsInRange (get_or (decoded labels ks bits []) k (Flag false))

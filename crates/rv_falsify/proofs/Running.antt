@@ -40,9 +40,8 @@ pub record Laws : Type 0 where
 
 -- a whole number has no other type than int
 no_whole : (program : ProgramTree) (k : Kind) (z : ℤ) → is_integer k ≡ false → HasKind program k (Whole z) → ⊥
-no_whole program kind.Bool z e h = h
 no_whole program kind.Int z e h = let bad : true ≡ false = e in absurd (cc)
-no_whole program (kind.Labels i) z e h = h
+no_whole program _ z e h = h
 
 none_counted : (ks : List Kind) (m : ℕ) (j : Kind) → whole_count ks ≡ 0 → slice_get ks m ≡ Some j → is_integer j ≡ false
 none_counted [] m j none e = absurd (let bad : Nothing ≡ Some j = e in cc)

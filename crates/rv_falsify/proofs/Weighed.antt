@@ -13,8 +13,7 @@ use Rattle.rv_meaning.specs.Meaning.{is_true, number, operate}
 use Rattle.rv_agreement.specs.Agreement.{State, found_in, IsWholeInstant}
 use Rattle.rv_agreement.specs.Checks.{same_clock, is_of, gives, clock_fits, fits, form_fits}
 use Rattle.rv_agreement.specs.Evaluation.{Found, value, form_value, integers, item_value}
-use Rattle.rv_agreement.specs.Trees.{FlatTree, Node, TreeForm, Constant, Flow, Memory, Ticked, Input, Not, Binary, Scale, If, AtMostOne, When, Current, System}
-use Rattle.rv_agreement.specs.Trees.{memory_kinds, nth_item}
+use Rattle.rv_agreement.specs.Trees.{FlatTree, Node, TreeForm, Constant, Flow, Memory, Input, Binary, Scale, If, When, Current, System, memory_kinds, nth_item}
 use Rattle.rv_flat.specs.FlatInstants.{Row, nth, held, is_on_at, flow_items, system_of}
 use Rattle.rv_flat.specs.Facts.{constant_weight, weight_under, flat_weight, form_flat_weight, flow_weights, is_light, form_is_light}
 use Rattle.rv_flat.specs.{declared.flat.Flat.Flat, Systems.flow_item}
@@ -31,16 +30,7 @@ operated_small op.Times k x y v w e g h = no_flag e
 operated_small op.Slash k x y v w e g h = no_flag e
 operated_small op.Div k x y v w e g h = no_flag e
 operated_small op.Mod k x y v w e g h = no_flag e
-operated_small op.Implies k x y v w e g h = omega arith
-operated_small op.Or k x y v w e g h = omega arith
-operated_small op.Xor k x y v w e g h = omega arith
-operated_small op.And k x y v w e g h = omega arith
-operated_small op.Equal k x y v w e g h = omega arith
-operated_small op.Differs k x y v w e g h = omega arith
-operated_small op.Less k x y v w e g h = omega arith
-operated_small op.AtMost k x y v w e g h = omega arith
-operated_small op.Greater k x y v w e g h = omega arith
-operated_small op.AtLeast k x y v w e g h = omega arith
+operated_small _ k x y v w e g h = omega arith
 
 constant_small : (v : Value) → size v ≤ constant_weight v
 constant_small (Flag b) = omega arith
@@ -82,9 +72,7 @@ module _ (s : System) (ws : List ℕ) (found : Found Value) (row : Row) (n : ℕ
     form_small k j at (Flow c) fit light =
         row_small c (ltb-true c n (both_of (nat_lt c n) (is_of j (slice_get s.kinds c) && same_clock k (nth_item s.flows c).clock) fit).0)
     form_small k j at (Memory m) fit light = kept_small m
-    form_small k j at (Ticked t) fit light = omega arith
     form_small k j at (Input i) fit light = inputs_small i
-    form_small k j at (Not e) fit light = omega arith
     form_small k j at (Binary o a b) fit light =
         let told = operator_fits s n k j at o a b fit in
         let light_both = both_of (is_light ws a) (is_light ws b) light in
@@ -92,7 +80,8 @@ module _ (s : System) (ws : List ℕ) (found : Found Value) (row : Row) (n : ℕ
         (value_small k told.1.0 a told.1.1 light_both.0) (value_small k told.1.0 b told.1.2 light_both.1)
     form_small k j at (Scale z e) fit light =
         product_small z (number (worth e)) (flat_weight ws e)
-        (value_small k kind.Int e (both_of (same_kind j kind.Int) (fits s n k kind.Int e) fit).1 (both_of (nat_le (nat_abs z) heaviest) (is_light ws e) light).1)
+        (value_small k kind.Int e (both_of (same_kind j kind.Int) (fits s n k kind.Int e) fit).1
+        (both_of (nat_le (nat_abs z) heaviest) (is_light ws e) light).1)
     form_small k j at (If c a b) fit light =
         let outer = both_of (fits s n k kind.Bool c) (fits s n k j a && fits s n k j b) fit in
         let parts = both_of (fits s n k j a) (fits s n k j b) outer.1 in
@@ -100,11 +89,11 @@ module _ (s : System) (ws : List ℕ) (found : Found Value) (row : Row) (n : ℕ
         let light_parts = both_of (is_light ws a) (is_light ws b) light_outer.1 in
         chosen_small (is_true (worth c)) (worth a) (worth b) (flat_weight ws a) (flat_weight ws b)
         (value_small k j a parts.0 light_parts.0) (value_small k j b parts.1 light_parts.1)
-    form_small k j at (AtMostOne es) fit light = omega arith
     form_small k j at (When c e) fit light = value_small (nth_item s.flows c).clock j e (when_fits k j at c e fit) light
     form_small k j at (Current m i e) fit light =
         chosen_small (is_on_at row i) (worth e) (found.kept m) (flat_weight ws e) 1
         (value_small i j e (current_fits k j at m i e fit) light) (kept_small m)
+    form_small k j at _ fit light = omega arith
 
 module _ (f : Flat) (now : State) (inputs : List Value) (row : Row) (instant : IsWholeInstant (system_of f) now inputs row)
     (kept_small : (m : ℕ) → size (get_or now.kept m (Flag false)) ≤ 1) (inputs_small : (j : ℕ) → size (get_or inputs j (Flag false)) ≤ 1) where

@@ -64,9 +64,8 @@ spelled_form columns test labels kind.Int bits c = refl
 spelled_form columns test labels (kind.Labels i) bits c = refl
 
 pub kind_bounded : (columns : ℕ) (k : Kind) (c : ℕ) → IsBounded columns 1 (kind_form columns k c)
-kind_bounded columns kind.Bool c = zero_bounded columns 1
 kind_bounded columns kind.Int c = column_bounded columns c
-kind_bounded columns (kind.Labels i) c = zero_bounded columns 1
+kind_bounded columns _ c = zero_bounded columns 1
 
 -- one term more
 pub columns_more : (columns start n : ℕ) (kinds : List Kind) (k : Kind) (terms : List Term) (t : Term) (column : ℕ) → length terms ≡ n → k ≡ kind_at kinds n

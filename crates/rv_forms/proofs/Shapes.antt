@@ -1,8 +1,7 @@
 -- The tree of an expression by its form.
 use Rattle.std.proofs.Common.{◌≡◌, ℕ, ◌≤◌, ℤ, sym, ◌∙◌, ap, arith}
 use Rattle.rv_tree.specs.declared.tree.Op.{Op}
-use Rattle.rv_agreement.specs.Trees.{FlatTree, Node, TreeForm, FlatTrees, Constant, Flow, Memory, Ticked, Input, Not, Binary, Scale, If, AtMostOne, When}
-use Rattle.rv_agreement.specs.Trees.{Current, None, More}
+use Rattle.rv_agreement.specs.Trees.{FlatTree, Node, TreeForm, FlatTrees, Flow, Input, Not, Binary, Scale, If, AtMostOne, When, Current, None, More}
 use Rattle.rv_flat.specs.declared.parts.FlatForm.TheViews.{rolls-Flow, rolls-Input, rolls-Binary, rolls-Scale}
 use Rattle.rv_flat.specs.declared.parts.FlatForm.TheFolds.{fold-FlatForm, fold_out-FlatExpr, fold-roll-FlatForm}
 use Rattle.rv_flat.specs.RawTree.{RawTree, RawForm, raw_tree, form_of}
@@ -48,11 +47,7 @@ module _ (n m : ℕ) (le : n ≤ m) where
     over_more (Node at form) is = form_over_more form is
 
     form_over_more : (form : TreeForm) → FormIsOver n form → FormIsOver m form
-    form_over_more (Constant c) is = tt
     form_over_more (Flow k) is = omega arith
-    form_over_more (Memory k) is = tt
-    form_over_more (Ticked k) is = tt
-    form_over_more (Input k) is = tt
     form_over_more (Not e) is = over_more e is
     form_over_more (Binary o a b) is = (over_more a is.0, over_more b is.1)
     form_over_more (Scale z e) is = over_more e is
@@ -60,6 +55,7 @@ module _ (n m : ℕ) (le : n ≤ m) where
     form_over_more (AtMostOne es) is = all_over_more es is
     form_over_more (When c e) is = over_more e is
     form_over_more (Current k c e) is = (named_more n m le c is.0, over_more e is.1)
+    form_over_more _ is = tt
 
     all_over_more : (es : FlatTrees) → AreOver n es → AreOver m es
     all_over_more None is = tt

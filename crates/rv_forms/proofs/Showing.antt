@@ -16,7 +16,7 @@ use Rattle.rv_agreement.specs.Agreement.{Fits, HasKind, IsRule, IsNamed, IsWell}
 use Rattle.rv_agreement.specs.Evaluation.{held, is_on, nth}
 use Rattle.rv_agreement.specs.Trees.{FlatTree, Node, FlatTrees, Constant, Flow, Memory, Ticked, Input, Not, Binary, Scale, If, AtMostOne, When, Item, nth_item}
 use Rattle.rv_agreement.specs.Trees.{memory_items, memory_kinds, kind_at}
-use Rattle.rv_agreement.specs.Valuations.{Reading, Truth, Name, Linear, holds_true, is_linear, form_of, operated, reads_at, read, updated, IsSymbolic}
+use Rattle.rv_agreement.specs.Valuations.{Reading, Truth, Linear, holds_true, is_linear, form_of, operated, reads_at, read, updated, IsSymbolic}
 use Rattle.rv_flat.specs.{declared.flat.Flat.Flat, Facts.weight_under, Facts.flat_weight, FlatInstants.system_of, Inlined.table_of}
 use Rattle.rv_control.specs.Named.{named}
 use Rattle.rv_control.proofs.Bounded.{IsBounded, looser, constant_bounded, zero_bounded, sum_bounded, times_bounded, difference_bounded}
@@ -33,9 +33,8 @@ use Rattle.rv_types.proofs.ChainLaws.{no_flag}
 
 constant_weighs : (columns : ℕ) (ws : List ℕ) (at : Sites) (c : Value)
     → IsBounded columns (flat_weight ws (Node at (Constant c))) (constant_form columns (whole_number c))
-constant_weighs columns ws at (Flag b) = zero_bounded columns 0
-constant_weighs columns ws at (Label l) = zero_bounded columns 0
 constant_weighs columns ws at (Whole z) = constant_bounded columns z
+constant_weighs columns ws at _ = zero_bounded columns 0
 
 pub reads_constant : (f : Flat) (d : Diagrams) (at : Sites) (c : Value) (parts : List Part)
     → IsTermOf d.nodes (columns_of f) (λ v. constant_form (columns_of f) (whole_number c)) parts → ReadsAs f d d (Node at (Constant c)) parts
@@ -77,22 +76,15 @@ no_most f at es k fits = int_bool fits.0
 
 no_rule : (o : Op) (i : Kind) → gives_whole o ≡ false → IsRule o i kind.Int → ⊥
 no_rule op.Arrow i e rule = rule
-no_rule op.Implies i e rule = int_bool rule.1
-no_rule op.Or i e rule = int_bool rule.1
-no_rule op.Xor i e rule = int_bool rule.1
-no_rule op.And i e rule = int_bool rule.1
 no_rule op.Equal i e rule = int_bool rule
 no_rule op.Differs i e rule = int_bool rule
-no_rule op.Less i e rule = int_bool rule.1
-no_rule op.AtMost i e rule = int_bool rule.1
-no_rule op.Greater i e rule = int_bool rule.1
-no_rule op.AtLeast i e rule = int_bool rule.1
 no_rule op.Plus i e rule = no_flag (sym e)
 no_rule op.Minus i e rule = no_flag (sym e)
 no_rule op.Times i e rule = rule
 no_rule op.Slash i e rule = rule
 no_rule op.Div i e rule = rule
 no_rule op.Mod i e rule = rule
+no_rule _ i e rule = int_bool rule.1
 
 pub no_operator : (f : Flat) (at : Sites) (o : Op) (a b : FlatTree) → gives_whole o ≡ false → (k : Option ℕ)
     → Fits (system_of f) (length (system_of f).flows) k kind.Int (Node at (Binary o a b)) → ⊥
@@ -102,8 +94,7 @@ no_operator f at o a b e k fits = no_rule o fits.0 e fits.1
 
 linear_is : (f : Flat) (v : Valuation) (a : Reading) → is_linear a ≡ true → a ≡ Linear (form_read f v a)
 linear_is f v (Linear g) e = refl
-linear_is f v (Truth b) e = no_flag e
-linear_is f v (Name l) e = no_flag e
+linear_is f v _ e = no_flag e
 
 -- an integer reading of which the form is known
 pub linear_shown : (f : Flat) (nodes : List Triple) (v : Valuation) (j : Kind) (refs : List ℕ) (a : Reading) (g : Form) → Shows nodes v j refs a → j ≡ kind.Int
@@ -210,61 +201,19 @@ module _ (f : Flat) (a b c d : Diagrams) (at : Sites) (o : Op) (e g : FlatTree) 
       (bounded_left v) (bounded_right v)
   combined_bounded op.Minus h v = difference_bounded (columns_of f) (weight_in f e) (weight_in f g) (form_at c.nodes left v) (form_at c.nodes right v)
       (bounded_left v) (bounded_right v)
-  combined_bounded op.Arrow h v = no_flag h
-  combined_bounded op.Implies h v = no_flag h
-  combined_bounded op.Or h v = no_flag h
-  combined_bounded op.Xor h v = no_flag h
-  combined_bounded op.And h v = no_flag h
-  combined_bounded op.Equal h v = no_flag h
-  combined_bounded op.Differs h v = no_flag h
-  combined_bounded op.Less h v = no_flag h
-  combined_bounded op.AtMost h v = no_flag h
-  combined_bounded op.Greater h v = no_flag h
-  combined_bounded op.AtLeast h v = no_flag h
-  combined_bounded op.Times h v = no_flag h
-  combined_bounded op.Slash h v = no_flag h
-  combined_bounded op.Div h v = no_flag h
-  combined_bounded op.Mod h v = no_flag h
+  combined_bounded _ h v = no_flag h
 
   -- what the operator makes of two forms
   operated_form : (columns : ℕ) (test : Sites → Side → Bool) (p : Op) → gives_whole p ≡ true → (x y : Form)
       → operated columns test at p (Linear x) (Linear y) ≡ Linear (combined_form p x y)
   operated_form columns test op.Plus h x y = refl
   operated_form columns test op.Minus h x y = refl
-  operated_form columns test op.Arrow h x y = no_flag h
-  operated_form columns test op.Implies h x y = no_flag h
-  operated_form columns test op.Or h x y = no_flag h
-  operated_form columns test op.Xor h x y = no_flag h
-  operated_form columns test op.And h x y = no_flag h
-  operated_form columns test op.Equal h x y = no_flag h
-  operated_form columns test op.Differs h x y = no_flag h
-  operated_form columns test op.Less h x y = no_flag h
-  operated_form columns test op.AtMost h x y = no_flag h
-  operated_form columns test op.Greater h x y = no_flag h
-  operated_form columns test op.AtLeast h x y = no_flag h
-  operated_form columns test op.Times h x y = no_flag h
-  operated_form columns test op.Slash h x y = no_flag h
-  operated_form columns test op.Div h x y = no_flag h
-  operated_form columns test op.Mod h x y = no_flag h
+  operated_form columns test _ h x y = no_flag h
 
   operand_kind : (p : Op) (i : Kind) → gives_whole p ≡ true → IsRule p i kind.Int → i ≡ kind.Int
   operand_kind op.Plus i h rule = rule.0
   operand_kind op.Minus i h rule = rule.0
-  operand_kind op.Arrow i h rule = no_flag h
-  operand_kind op.Implies i h rule = no_flag h
-  operand_kind op.Or i h rule = no_flag h
-  operand_kind op.Xor i h rule = no_flag h
-  operand_kind op.And i h rule = no_flag h
-  operand_kind op.Equal i h rule = no_flag h
-  operand_kind op.Differs i h rule = no_flag h
-  operand_kind op.Less i h rule = no_flag h
-  operand_kind op.AtMost i h rule = no_flag h
-  operand_kind op.Greater i h rule = no_flag h
-  operand_kind op.AtLeast i h rule = no_flag h
-  operand_kind op.Times i h rule = no_flag h
-  operand_kind op.Slash i h rule = no_flag h
-  operand_kind op.Div i h rule = no_flag h
-  operand_kind op.Mod i h rule = no_flag h
+  operand_kind _ i h rule = no_flag h
 
   pub reads_binary : ReadsAs f a d (Node at (Binary o e g)) parts
   reads_binary = record {

@@ -130,22 +130,7 @@ made_term a b k columns g h parts grows is same forms = record {
 
 pub combined_other : (o : Op) (f g : Form) → (o ≡ op.Minus → ⊥) → form_sum f g ≡ combined_form o f g
 combined_other op.Minus f g none = absurd (none refl)
-combined_other op.Arrow f g none = refl
-combined_other op.Implies f g none = refl
-combined_other op.Or f g none = refl
-combined_other op.Xor f g none = refl
-combined_other op.And f g none = refl
-combined_other op.Equal f g none = refl
-combined_other op.Differs f g none = refl
-combined_other op.Less f g none = refl
-combined_other op.AtMost f g none = refl
-combined_other op.Greater f g none = refl
-combined_other op.AtLeast f g none = refl
-combined_other op.Plus f g none = refl
-combined_other op.Times f g none = refl
-combined_other op.Slash f g none = refl
-combined_other op.Div f g none = refl
-combined_other op.Mod f g none = refl
+combined_other _ f g none = refl
 
 pub on_map : {A E : Type 0} (o : Result A E) (P Q : Type 0) → (P → Q) → OnOk o P → OnOk o Q
 on_map (Ok r) P Q f h = f h

@@ -10,10 +10,10 @@ use Rattle.rv_invariant.proofs.{Spelling.below-told, Spelling.below-right, Upto.
 
 module _ (limit : ℕ) (text : List ℕ) (n : ℕ) (is : text ≡ decimal n) (small : n < 2 ^ 64) where
   pub too-great : limit ≤ n → is_below limit text ≡ false
-  too-great l = false_from_ne_true (is_below limit text) (λ e. let t = below-told limit text e in let same = natural-is text n small is in omega (arith, t.1, same, l))
+  too-great l = false_from_ne_true (is_below limit text) (λ e. let t = below-told limit text e in omega (arith, t.1, natural-is text n small is, l))
 
   pub too-long : 2 ^ 32 ≤ n → is_below limit text ≡ false
-  too-long l = false_from_ne_true (is_below limit text) (λ e. let t = below-told limit text e in let same = natural-is text n small is in omega (arith, t.2, same, l))
+  too-long l = false_from_ne_true (is_below limit text) (λ e. let t = below-told limit text e in omega (arith, t.2, natural-is text n small is, l))
 
   pub below-is : n < limit → n < 2 ^ 32 → (is_below limit text ≡ true) × (n ≡ natural text)
   below-is l m = (ap (is_below limit) is ∙ below-right limit n l m, sym (natural-is text n small is))

@@ -107,12 +107,8 @@ module _ {A : Type 0} (f : Form) (next : Fields → Rule A) (rest : List A → R
 
 -- ---- What a call that stops tells.
 pub stops-or : {X A : Type 0} (view : X → A) (r : Reading A) (e : FileFault) (new : Ahead) → Reads view r (Err e) new → (e ≡ fault.Memory) ⊎ (r ≡ Err e)
-stops-or view r (fault.NotRecords n) new h = inr h
-stops-or view r (fault.WrongKind n) new h = inr h
-stops-or view r (fault.WrongProgram n) new h = inr h
-stops-or view r (fault.BadNumber n i) new h = inr h
-stops-or view r (fault.Ends n) new h = inr h
 stops-or view r fault.Memory new h = inl refl
+stops-or view r _ new h = inr h
 
 -- reading that is reading after a part that was read goes on as that
 pub continues-after : {X : Type 0} (before after : Then X → Reading Certificate) (r : Result X FileFault) (known : Known) (new : Ahead)

@@ -13,12 +13,8 @@ use Rattle.rv_invariant.specs.Shapes.{is_next, is_test, shape}
 states-more : (b : Bit) (bs : List Bit) → state_bits (map variable_of (b ∷ bs)) ≡ cond (is_next b) (1 + state_bits (map variable_of bs))
     (state_bits (map variable_of bs))
 unfolding state_bits
-states-more bit.MainTick bs = refl
-states-more (bit.Tick p) bs = refl
-states-more (bit.Kept p b) bs = refl
 states-more bit.Next bs = omega arith
-states-more (bit.Input j b) bs = refl
-states-more (bit.Test p s) bs = refl
+states-more _ bs = refl
 
 states-none : state_bits (map variable_of []) ≡ 0
 unfolding state_bits
@@ -30,12 +26,8 @@ states-count = is_count_by (λ bs. state_bits (map variable_of bs)) is_next stat
 tests-more : (b : Bit) (bs : List Bit) → order_tests (map variable_of (b ∷ bs)) ≡ cond (is_test b) (1 + order_tests (map variable_of bs))
     (order_tests (map variable_of bs))
 unfolding order_tests
-tests-more bit.MainTick bs = refl
-tests-more (bit.Tick p) bs = refl
-tests-more (bit.Kept p b) bs = refl
-tests-more bit.Next bs = refl
-tests-more (bit.Input j b) bs = refl
 tests-more (bit.Test p s) bs = omega arith
+tests-more _ bs = refl
 
 tests-none : order_tests (map variable_of []) ≡ 0
 unfolding order_tests

@@ -348,7 +348,8 @@ module _ (s : Shape) (small : s.variables ≤ 4096) (few_tests : s.tests ≤ 409
 -- ---- What names the flat system.
 text-joined : (a b : List ℕ) → is_plain_text a ≡ true → is_plain_text b ≡ true → is_plain_text (a ++ b) ≡ true
 text-joined [] b h k = k
-text-joined (x ∷ a) b h k = let p = both_of (nat_le 32 x && nat_le x 126) (is_plain_text a) h in ap (λ c. c && is_plain_text (a ++ b)) p.0 ∙ text-joined a b p.1 k
+text-joined (x ∷ a) b h k =
+    let p = both_of (nat_le 32 x && nat_le x 126) (is_plain_text a) h in ap (λ c. c && is_plain_text (a ++ b)) p.0 ∙ text-joined a b p.1 k
 
 name-at-plain : (is : List FlatInput) (j : ℕ) → list_all (λ i. is_name i.name) is ≡ true → is_plain_text (name_at is j) ≡ true
 name-at-plain [] j h = refl
@@ -360,18 +361,17 @@ side-plain side.AtMost = refl
 side-plain side.AtLeast = refl
 
 bit-plain : (is : List FlatInput) → list_all (λ i. is_name i.name) is ≡ true → (b : Bit) → is_plain_text (bit_text is b) ≡ true
-bit-plain is h bit.MainTick = refl
 bit-plain is h (bit.Tick p) = text-joined (codes "tick:") (dotted p.sites) refl (dotted-plain p.sites)
 bit-plain is h (bit.Kept p b) =
     text-joined (codes "memory:") (dotted p.sites ++ (codes ":" ++ decimal b)) refl
     (text-joined (dotted p.sites) (codes ":" ++ decimal b) (dotted-plain p.sites) (text-joined (codes ":") (decimal b) refl (decimal-plain b)))
-bit-plain is h bit.Next = refl
 bit-plain is h (bit.Input j b) =
     text-joined (codes "input:") (name_at is j ++ (codes ":" ++ decimal b)) refl
     (text-joined (name_at is j) (codes ":" ++ decimal b) (name-at-plain is j h) (text-joined (codes ":") (decimal b) refl (decimal-plain b)))
 bit-plain is h (bit.Test p x) =
     text-joined (codes "test:") (dotted p.sites ++ (codes ":" ++ side_text x)) refl
     (text-joined (dotted p.sites) (codes ":" ++ side_text x) (dotted-plain p.sites) (text-joined (codes ":") (side_text x) refl (side-plain x)))
+bit-plain is h _ = refl
 
 column-plain : (is : List FlatInput) → list_all (λ i. is_name i.name) is ≡ true → (x : Column) → is_plain_text (column_text is x) ≡ true
 column-plain is h (column.Kept p) = text-joined (codes "memory:") (dotted p.sites) refl (dotted-plain p.sites)

@@ -36,9 +36,8 @@ all-at P (y ∷ ys) (suc j) x h e = all-at P ys j x h.1 e
 -- ---- No entry is a turn of a loop, and each `go` has as many multipliers as its target has entry rows.
 module _ (s : System) (locations : ℕ) (c : Certificate) (a : AllLocated (shape_of s) locations c) where
   no-turn : (state : ℕ) (k : EntryKind) → KindFits (shape_of s) locations state a.known k → IsLoopKind k → ⊥
-  no-turn state (Dead by) h x = x
-  no-turn state (Go target reach) h x = x
   no-turn state (Loop first before around rest) h x = h
+  no-turn state _ h x = x
 
   kind-counts : (l : Location) (k : EntryKind) → KindFits (shape_of s) locations (length l.state) a.known k → HasKindCounts c l k
   kind-counts l (Dead by) h = tt

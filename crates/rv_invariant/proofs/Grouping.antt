@@ -2,9 +2,8 @@
 use Rattle.std.proofs.Common.{◌≡◌, ◌+◌, ◌-◌, ◌*◌, ◌/◌, ◌%◌, ◌<◌, ◌≤◌, ℕ, zero, suc, Bool, true, false, cond, List, [], ◌∷◌, length, refl, sym, ap, ◌∙◌, arith}
 use Rattle.std.proofs.lemmas.Bool.{eqb-true, leb-true, ltb-true, ltb-false, ne_eqb}
 use Rattle.std.specs.{Prelude.◌&&◌, Prelude.◌||◌, Prelude.nat_eq, Prelude.nat_le, Prelude.nat_lt, Prelude.Some, Prelude.None, Prelude.Err, Str.bytes_eq}
-use Rattle.rv_invfile.specs.Rules.{Fields, Form, done, await, first_bad}
-use Rattle.rv_invfile.specs.Readers.{Ahead, ◌>>=◌, Reading, Reads, run}
-use Rattle.rv_invfile.specs.{declared.fault.FileFault.FileFault, Ahead.here, Ahead.first, Ahead.kind_fault, Ahead.ReadsFields, Forms.word_of}
+use Rattle.rv_invfile.specs.{Rules.Fields, Rules.Form, Rules.done, Rules.await, Rules.first_bad, Readers.Ahead, Readers.◌>>=◌, Readers.Reading, Readers.Reads}
+use Rattle.rv_invfile.specs.{Readers.run, declared.fault.FileFault.FileFault, Ahead.here, Ahead.first, Ahead.kind_fault, Ahead.ReadsFields, Forms.word_of}
 use Rattle.rv_invfile.specs.declared.fault.FileFault.TheVariants as fault
 use Rattle.rv_invfile.proofs.{OneRecord.bad_field, Decimals.bytes-same, Instants.none-bad, Instants.one-bad}
 use Rattle.rv_invariant.specs.Groups.{is_grouped, grouped, groups_right, in_group}
@@ -100,22 +99,15 @@ module _ (w : ℕ) (width : Width w) (head : Fields → Bool) (right : Fields �
       → head (here s) ≡ true
       → ReadsGroups w right s n value (Err e) → ReadsFields s (grouped word w head right) other (Err e)
   groups-stop word s n value other fault.Memory l h g = tt
-  groups-stop word s n value other (fault.NotRecords k) l h g = absurd g
-  groups-stop word s n value other (fault.WrongKind k) l h g = absurd g
-  groups-stop word s n value other (fault.WrongProgram k) l h g = absurd g
   groups-stop word s n value other (fault.BadNumber k i) l h g = (g.0, group-wrong (here s) n i h g.1 l)
-  groups-stop word s n value other (fault.Ends k) l h g = absurd g
+  groups-stop word s n value other _ l h g = absurd g
 
 -- a group that is not right is the first wrong one
 pub group-stops : {X Y : Type 0} (w : ℕ) (right : Fields → ℕ → ℕ → Bool) (s : Ahead) (n k : ℕ) (value : X) (other : Y) (e : FileFault) → k < n
     → AreRight w k (right (here s))
     → ReadsGroup w right s k value (Err e) → ReadsGroups w right s n other (Err e)
-group-stops w right s n k value other fault.Memory l a g = absurd g
-group-stops w right s n k value other (fault.NotRecords m) l a g = absurd g
-group-stops w right s n k value other (fault.WrongKind m) l a g = absurd g
-group-stops w right s n k value other (fault.WrongProgram m) l a g = absurd g
 group-stops w right s n k value other (fault.BadNumber m i) l a g = (g.0, record { group = k; there = l; earlier = a; here = g.1 })
-group-stops w right s n k value other (fault.Ends m) l a g = absurd g
+group-stops w right s n k value other _ l a g = absurd g
 
 -- one more right group
 pub right-more : (w k : ℕ) (right : ℕ → ℕ → Bool) → AreRight w k right → ((j : ℕ) → j < w → right k j ≡ true) → AreRight w (k + 1) right

@@ -57,13 +57,12 @@ colon-quiet : (x y : List ℕ) → IsQuiet x → IsQuiet y → IsQuiet (x ++ (co
 colon-quiet x y h k = joined-quiet x (codes ":" ++ y) h k
 
 bit-quiet : (is : List FlatInput) → list_all (λ i. is_name i.name) is ≡ true → (b : Bit) → IsQuiet (bit_text is b)
-bit-quiet is h bit.MainTick = refl
 bit-quiet is h (bit.Tick p) = place-quiet p.sites
 bit-quiet is h (bit.Kept p b) = colon-quiet (dotted p.sites) (decimal b) (place-quiet p.sites) (number-quiet b)
-bit-quiet is h bit.Next = refl
 bit-quiet is h (bit.Input j b) = colon-quiet (name_at is j) (decimal b) (input-quiet is j h) (number-quiet b)
 bit-quiet is h (bit.Test p side.AtMost) = colon-quiet (dotted p.sites) (codes "le") (place-quiet p.sites) refl
 bit-quiet is h (bit.Test p side.AtLeast) = colon-quiet (dotted p.sites) (codes "ge") (place-quiet p.sites) refl
+bit-quiet is h _ = refl
 
 column-quiet : (is : List FlatInput) → list_all (λ i. is_name i.name) is ≡ true → (c : Column) → IsQuiet (column_text is c)
 column-quiet is h (column.Kept p) = place-quiet p.sites

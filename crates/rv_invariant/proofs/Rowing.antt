@@ -47,7 +47,7 @@ module _ (r : Fields) where
 -- what a text within a limit writes is held
 pub fits-within : (limit : ℕ) (text : List ℕ) (z : ℤ) → limit < 2 ^ 110 → is_within limit text ≡ true → z ≡ whole text → FitsSigned w128 z
 fits-within limit text z l h e =
-    let small = leb-true (unsigned_abs (whole text)) limit (both_of (bytes_eq text (signed_decimal (whole text))) (nat_le (unsigned_abs (whole text)) limit) h).1
-    in
+    let size = unsigned_abs (whole text) in
+    let small = leb-true size limit (both_of (bytes_eq text (signed_decimal (whole text))) (nat_le size limit) h).1 in
     let same = ap unsigned_abs e in
     fits_below z (omega (arith, same, small, l))

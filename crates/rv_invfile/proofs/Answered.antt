@@ -22,13 +22,8 @@ module _ {A : Type 0} (rule : Rule A) (rs : List Fields) where
   fault_read fault.Memory g = inl refl
 
   found-by : (a : A) (r : Result A FileFault) → whole rule rs ≡ Ok a → Gives (whole rule rs) r → Finds a r
-  found-by a (Ok b) h g = cc
-  found-by a (Err (fault.NotRecords n)) h g = cc
-  found-by a (Err (fault.WrongKind n)) h g = cc
-  found-by a (Err (fault.WrongProgram n)) h g = cc
-  found-by a (Err (fault.BadNumber n i)) h g = cc
-  found-by a (Err (fault.Ends n)) h g = cc
   found-by a (Err fault.Memory) h g = refl
+  found-by a _ h g = cc
 
   pub document_found : (a : A) (r : Result A FileFault) → IsDocument rule rs a → Gives (whole rule rs) r → Finds a r
   document_found a r d g = found-by a r (reads-document rule 0 rs a d) g

@@ -134,13 +134,12 @@ from-start : {A : Type 0} (rule : Rule A) (rs : List Fields) (m : ℕ) (y : Why)
 from-start rule rs m y f = record { before = f.0; here = f.1; more = f.2; records = f.3; number = omega (arith, f.4); right = f.5; wrong = f.6 }
 
 tells-start : {A : Type 0} (rule : Rule A) (rs : List Fields) (x : Result A FileFault) → TellsFrom 0 rule rs x → Tells rule rs x
-tells-start rule rs (Ok a) t = t
 tells-start rule rs (Err (fault.NotRecords m)) t = from-start rule rs m why.NotRecords t
 tells-start rule rs (Err (fault.WrongKind m)) t = from-start rule rs m why.WrongKind t
 tells-start rule rs (Err (fault.WrongProgram m)) t = from-start rule rs m why.WrongProgram t
 tells-start rule rs (Err (fault.BadNumber m i)) t = from-start rule rs m (why.BadNumber i) t
 tells-start rule rs (Err (fault.Ends m)) t = record { number = omega (arith, t.0); right = t.1; unfinished = t.2 }
-tells-start rule rs (Err fault.Memory) t = t
+tells-start rule rs _ t = t
 
 pub whole_tells : {A : Type 0} (rule : Rule A) (rs : List Fields) → Tells rule rs (whole rule rs)
 whole_tells rule rs = tells-start rule rs (whole rule rs) (tells rule 0 rs)

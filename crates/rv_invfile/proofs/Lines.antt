@@ -48,9 +48,8 @@ wide-fields (f ∷ fs) = ap (λ l. 44 ∷ (l ++ fields_text any_width fs)) (wide
 
 wide-blank : (r : Fields) → is_blank any_width r ≡ is_blank default_writer r
 unfolding is_blank
-wide-blank [] = refl
 wide-blank (f ∷ []) = ap (λ l. length l == 0) (wide-field f)
-wide-blank (f ∷ g ∷ fs) = refl
+wide-blank _ = refl
 
 wide-row : (r : Fields) → row_text any_width r ≡ row_text default_writer r
 wide-row [] = ap (λ b. cond b (34 ∷ 34 ∷ []) [] ++ (10 ∷ [])) (wide-blank [])

@@ -52,12 +52,8 @@ plain_kind kind n (r ∷ rs) h k =
 -- ---- What a method returns.
 -- it stops as reading stops
 pub stops : {X A : Type 0} (view : X → A) (r : Reading A) (e : FileFault) (new : Ahead) → r ≡ Err e → Reads view r (Err e) new
-stops view r (fault.NotRecords n) new h = h
-stops view r (fault.WrongKind n) new h = h
-stops view r (fault.WrongProgram n) new h = h
-stops view r (fault.BadNumber n i) new h = h
-stops view r (fault.Ends n) new h = h
 stops view r fault.Memory new h = tt
+stops view r _ new h = h
 
 -- it may stop for memory
 pub forgets : {X A : Type 0} (view : X → A) (r : Reading A) (e : FileFault) (new : Ahead) → e ≡ fault.Memory → Reads view r (Err e) new

@@ -46,12 +46,8 @@ module _ {A : Type 0} (rule : Rule A) (rs : List Fields) where
 
   refused-by : (f : FileFault) (r : Result A FileFault) → whole rule rs ≡ Err f → Gives (whole rule rs) r → Refuses f r
   refused-by f (Ok b) h g = cc
-  refused-by f (Err (fault.NotRecords n)) h g = inr (err-same (sym g ∙ h))
-  refused-by f (Err (fault.WrongKind n)) h g = inr (err-same (sym g ∙ h))
-  refused-by f (Err (fault.WrongProgram n)) h g = inr (err-same (sym g ∙ h))
-  refused-by f (Err (fault.BadNumber n i)) h g = inr (err-same (sym g ∙ h))
-  refused-by f (Err (fault.Ends n)) h g = inr (err-same (sym g ∙ h))
   refused-by f (Err fault.Memory) h g = inl refl
+  refused-by f _ h g = inr (err-same (sym g ∙ h))
 
   pub fault-found : (f : FileFault) (r : Result A FileFault) → IsFirstFault rule rs f → Gives (whole rule rs) r → Refuses f r
   fault-found f r h g = refused-by f r (first-fault f h) g

@@ -17,7 +17,8 @@ pub row-same : (x y : List (List ℕ)) → same_fields x y ≡ true → x ≡ y
 row-same [] [] e = refl
 row-same [] (g ∷ gs) e = cc
 row-same (f ∷ fs) [] e = cc
-row-same (f ∷ fs) (g ∷ gs) e = let p = both_of (bytes_eq f g) (same_fields fs gs) e in ap (λ z. z ∷ fs) (bytes-same f g p.0) ∙ ap (λ z. g ∷ z) (row-same fs gs p.1)
+row-same (f ∷ fs) (g ∷ gs) e =
+    let p = both_of (bytes_eq f g) (same_fields fs gs) e in ap (λ z. z ∷ fs) (bytes-same f g p.0) ∙ ap (λ z. g ∷ z) (row-same fs gs p.1)
 
 pub other-field : (x y : List (List ℕ)) (i : ℕ) → (get_or x i [] ≡ get_or y i [] → ⊥) → same_fields x y ≡ false
 other-field x y i h = false_from_ne_true (same_fields x y) (λ e. h (ap (λ z. get_or z i []) (row-same x y e)))

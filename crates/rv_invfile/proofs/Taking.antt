@@ -60,10 +60,8 @@ short-cut false x y z rest = omega arith
 -- without its mark a text is no longer
 pub stripped : (bytes : List ℕ) → length (strip_bom bytes) ≤ length bytes
 unfolding strip_bom
-stripped [] = omega arith
-stripped (x ∷ []) = omega arith
-stripped (x ∷ y ∷ []) = omega arith
 stripped (x ∷ y ∷ z ∷ rest) = short-cut (is_bom x y z) x y z rest
+stripped _ = omega arith
 
 -- a reader at the start of bytes has their records left
 pub opened : (a : ByteReader) (bytes : List ℕ) → a.state ≡ st.StartRecord → known a ≡ Some (strip_bom bytes) → left_of a ≡ records_of bytes

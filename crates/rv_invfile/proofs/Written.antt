@@ -80,17 +80,12 @@ pub worded : (w : List ℕ) (n : ℕ) (r : Fields) → is_worded w n r ≡ true 
 worded w n r h = let p = both_of (bytes_eq (word_of r) w) (nat_eq (length r) n) h in (bytes-same (word_of r) w p.0, eqb-true (length r) n p.1)
 
 pub two-fields : (r : Fields) → length r ≡ 2 → r ≡ field r 0 ∷ field r 1 ∷ []
-two-fields [] h = absurd (omega arith)
-two-fields (a ∷ []) h = absurd (omega arith)
 two-fields (a ∷ b ∷ []) h = refl
-two-fields (a ∷ b ∷ x ∷ r) h = absurd (omega arith)
+two-fields _ h = absurd (omega arith)
 
 three-fields : (r : Fields) → length r ≡ 3 → r ≡ field r 0 ∷ field r 1 ∷ field r 2 ∷ []
-three-fields [] h = absurd (omega arith)
-three-fields (a ∷ []) h = absurd (omega arith)
-three-fields (a ∷ b ∷ []) h = absurd (omega arith)
 three-fields (a ∷ b ∷ x ∷ []) h = refl
-three-fields (a ∷ b ∷ x ∷ y ∷ r) h = absurd (omega arith)
+three-fields _ h = absurd (omega arith)
 
 pub exactly-written : (x : Fields) (u : ⊤) (rs : List Fields) → Spells (exactly x) u rs → rs ≡ x ∷ []
 exactly-written x u rs s = let o = single (fixed x) (λ r. tt) u rs s in o.alone ∙ ap (λ r. r ∷ []) (row-same o.here x o.right.of_kind)

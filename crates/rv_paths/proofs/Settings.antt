@@ -1,5 +1,5 @@
 -- The setting of a search in a store that is the same, and its parts.
-use Rattle.std.proofs.Common.{◌≡◌, ℕ, zero, suc, List, Option, Some, None, Result, Ok, Err, IfOk, IfSome, slice_get, subst, sym}
+use Rattle.std.proofs.Common.{◌≡◌, ℕ, zero, suc, List, Option, Some, Result, Ok, IfOk, IfSome, slice_get, subst, sym}
 use Rattle.rv_diagram.specs.{Nodes.Diagrams, Nodes.IsMeant, Nodes.IsOrderedOver, declared.frozen.Frozen.Frozen}
 use Rattle.rv_proofs.specs.{Systems.System, Ranges.IsControlSet, Cases.IsCase, Cases.AreCases, declared.report.Case.Case}
 use Rattle.rv_symbolic.specs.{Represented.IsRelationOf, Represented.parts_of, declared.relation.Relation.Relation, declared.relation.Parts.Parts}
@@ -61,8 +61,7 @@ case_ordered s d r p nodes n i cases c set same got =
 pub next_control : {E : Type 0} (s : System) (set : Frozen) (o : Result (Option Node) E) → IsControlSet s set
     → IfOk o (λ found. IfSome found (λ n. n.control ≡ set)) → IfOk o (λ found. IfSome found (λ n. IsControlSet s n.control))
 next_control s set (Ok (Some n)) is same = subst (IsControlSet s) (sym same) is
-next_control s set (Ok None) is same = same
-next_control s set (Err e) is same = same
+next_control s set _ is same = same
 
 pub setting_of : (s : System) (old new : Diagrams) (r : Relation) (p : Plan) (before made : List Node) → new ≡ old → made ≡ before → IsRelationOf s old r
     → IsPlanOf s p → AreNodes s before → IsSetting s new r p made

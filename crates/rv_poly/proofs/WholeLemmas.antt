@@ -29,8 +29,7 @@ replay-number xs h k = go (cases_lt k (length xs))
 
 is_zero : (z : ℤ) → (z ≡ pos 0) ⊎ (z ≡ pos 0 → ⊥)
 is_zero (pos zero) = inl refl
-is_zero (pos (suc n)) = inr (λ e. omega (arith, ints))
-is_zero (negsuc n) = inr (λ e. omega (arith, ints))
+is_zero _ = inr (λ e. omega (arith, ints))
 
 -- where the numbers are 0, so is the sum
 pub dot-zeros : (xs cs : List ℤ) → ((k : ℕ) → k < length xs → number k cs ≡ pos 0) → dot cs xs ≡ pos 0

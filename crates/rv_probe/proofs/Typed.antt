@@ -40,9 +40,8 @@ module _ (b : Bool) (c : ℤ) where
   value_there (x ∷ kinds) (suc k) j e = value_there kinds k j e
 
   value_in_range : IsWithin c → (j : Kind) → IsInRange (probe_value b c j)
-  value_in_range within kind.Bool = tt
   value_in_range within kind.Int = within
-  value_in_range within (kind.Labels i) = tt
+  value_in_range within _ = tt
 
   in_range_there : IsWithin c → (kinds : List Kind) (k : ℕ) → IsInRange (get_or (map (probe_value b c) kinds) k (Flag false))
   in_range_there within [] k = tt
@@ -50,9 +49,8 @@ module _ (b : Bool) (c : ℤ) where
   in_range_there within (x ∷ kinds) (suc k) = in_range_there within kinds k
 
   value_fits : (counts : List ℕ) (j : Kind) → has_value counts j ≡ true → IsTrue (constant_fits counts j (probe_value b c j))
-  value_fits counts kind.Bool h = refl
-  value_fits counts kind.Int h = refl
   value_fits counts (kind.Labels i) h = h
+  value_fits counts _ h = refl
 
   module _ (f : Flat) (within : IsWithin c) where
     are_values : (kinds : List Kind) → ((k : ℕ) (j : Kind) → slice_get kinds k ≡ Some j → has_value (label_counts f) j ≡ true)
@@ -86,9 +84,8 @@ tame (Whole z) = Whole (pos 0)
 
 tame_in_range : (v : Value) → IsInRange (tame v)
 unfolding tame
-tame_in_range (Flag b) = tt
-tame_in_range (Label l) = tt
 tame_in_range (Whole z) = number_within (pos 0) (omega arith)
+tame_in_range _ = tt
 
 tame_kind : (p : ProgramTree) (j : Kind) (v : Value) → HasKind p j v → HasKind p j (tame v)
 unfolding tame

@@ -16,9 +16,8 @@ use Rattle.std.specs.List.{Contains}
 
 -- the box claim
 one_point : (point : List ℤ) → length point ≡ 1 → (x : ℤ) × (point ≡ x ∷ [])
-one_point [] e = absurd (omega arith)
 one_point (x ∷ []) e = (x, refl)
-one_point (x ∷ y ∷ point) e = absurd (omega arith)
+one_point _ e = absurd (omega arith)
 
 one_column : (c b : ℤ) → c ≢ pos 0 → HasOneColumn (row1 c b)
 one_column c b n = (0, n, elim [ zero ↦ λ h. refl | suc k ↦ λ h. absurd (h refl) ])

@@ -243,10 +243,6 @@ standing_implied = all_five (IsImplied counting at_later standing_still)
     (are_standing _ (named 1 4 (omega arith))) still_settled
     (prove_one (both ++ (not_nine ∷ ten ∷ [])) ten 1 (same_column (pos 1) (pos 10) (pos 1) (pos 10) refl) (omega (arith, ints))))
 
--- of the tests, `x <= 9` is not settled where x is above ten, and is not named
-dead_ten : Implication
-dead_ten = record { given = ten ∷ []; wanted = refutation; by = by_two 0 2 }
-
 above_implied : AreImplied counting counted at_later above_ten
 above_implied = all_one (IsImplied counting at_later above_ten) (record { given = ten ∷ []; wanted = refutation; by = by_two 0 2 }) (
   nine ∷ not_ten ∷ [],

@@ -600,10 +600,6 @@ cut_short_fails = (
 abbrev short_later : Location
 short_later = going (goes_on ∷ drops_low ∷ [])
 
--- the place is in an earlier location
-abbrev IsEarlier : ℕ → Type 0
-IsEarlier k = k < 1
-
 first_is : (k : ℕ) (l : Location) → k < 1 → slice_get cut_short.locations k ≡ Some l → beginning ≡ l
 first_is zero l h at = same_Some beginning l at
 first_is (suc k) l h at = absurd (omega arith)
@@ -633,11 +629,6 @@ cut_included = each-cons IsIncluded beginning (short_later ∷ []) first_include
 pub not_true_false : (b : Bool) → IsTrue b → b ≡ false → ⊥
 not_true_false true h e = cc
 not_true_false false h e = cc
-
-never_before : (xs : List ℕ) → IsBefore xs xs → ⊥
-never_before [] h = h
-never_before (x ∷ xs) (inl h) = omega arith
-never_before (x ∷ xs) (inr h) = never_before xs h.1
 
 -- in the second location only the rows of Inclusion come before the cover
 in_first : (k c : ℕ) (rest : List ℕ) → IsBefore (1 ∷ k ∷ c ∷ rest) (1 ∷ 1 ∷ 1 ∷ []) → 1 ≤ c → k < 1

@@ -1,6 +1,5 @@
 -- Rows after the updates.
-use Rattle.std.proofs.Common.{◌≡◌, ◌≢◌, ℕ, zero, suc, ◌<◌, ℤ, pos, negsuc, ◌+ℤ◌, ◌*ℤ◌, List, [], ◌∷◌, length, get_or, arith, refl, ap, sym, ◌∙◌, ◌⊎◌, inl, inr}
-use Rattle.std.proofs.Common.{add-one}
+use Rattle.std.proofs.Common.{◌≡◌, ◌≢◌, ℕ, zero, suc, ◌<◌, ℤ, pos, ◌+ℤ◌, ◌*ℤ◌, List, [], ◌∷◌, length, get_or, arith, refl, ap, sym, ◌∙◌, ◌⊎◌, inl, inr, add-one}
 use Rattle.std.proofs.{Math.IntN.zero-*ℤ, Math.IntN.*ℤ-zero, lemmas.Int.ints, lemmas.List.get_or-map}
 use Rattle.rv_diagram.specs.Nodes.{Valuation}
 use Rattle.rv_rows.specs.Forms.{number, value, values, IsSubstituted}
@@ -12,8 +11,7 @@ use Rattle.rv_proofs.specs.{Systems.System, Implied.AreForms, declared.certifica
 -- a number is 0 or not
 pub zero_or : (z : ℤ) → (z ≡ pos 0) ⊎ (z ≢ pos 0)
 zero_or (pos zero) = inl refl
-zero_or (pos (suc n)) = inr (λ e. omega (arith, ints))
-zero_or (negsuc n) = inr (λ e. omega (arith, ints))
+zero_or _ = inr (λ e. omega (arith, ints))
 
 product_same : (c x y : ℤ) → (c ≢ pos 0 → x ≡ y) → c *ℤ x ≡ c *ℤ y
 product_same c x y h = go (zero_or c)

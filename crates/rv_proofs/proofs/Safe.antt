@@ -125,8 +125,7 @@ module _ (s : System) (c : Certificate) (acc : IsAccepted s c) (v : Valuation) (
         go : (kind : EntryKind) → (IsStepKind kind → IsObserved s l e) → (IsDeadKind kind → All (IsImplied s l e) (implications c l kind))
             → IsTrue (s.observer v)
         go (Dead by) seen dead = absurd (dead_none s c l e v point scope a by stays (dead tt))
-        go (Go target reach) seen dead = seen tt v scope
-        go (Loop first before_all around state) seen dead = seen tt v scope
+        go _ seen dead = seen tt v scope
 
     -- the next state is in the invariant
     module _ (w : Valuation) (next : List ℤ) (same : HasSameState s (s.next v) w)

@@ -40,18 +40,6 @@ none_named s l e i rows size none = record {
     nowhere : (ws : List Weight) → ws ≡ [] → (w : Weight) → Contains ws w → ⊥
     nowhere ws e w (k, less, is) = let none : length ws ≡ 0 = ap length e in omega arith
 
--- a proof over one column
-pub proof_of : (rows : List Row) (wanted : Row) (m : Multipliers) → pos 1 ≤ℤ m.divisor → All (λ w. pos 0 ≤ℤ w.by) m.weights
-    → weighted (coefficient 0) rows m.weights ≡ m.divisor *ℤ coefficient 0 wanted
-    → ((k : ℕ) → weighted (coefficient (suc k)) rows m.weights ≡ m.divisor *ℤ coefficient (suc k) wanted)
-    → weighted (λ r. r.bound) rows m.weights <ℤ (m.divisor *ℤ (wanted.bound +ℤ pos 1)) → Proves rows wanted m
-proof_of rows wanted m p n here rest b = record {
-  positive = p;
-  none_negative = n;
-  sides = elim [ zero ↦ here | suc k ↦ rest k ];
-  bounds = b;
-}
-
 pub when_false : (b : Bool) → cond b false true ≡ true → b ≡ false
 when_false true e = cc
 when_false false e = refl

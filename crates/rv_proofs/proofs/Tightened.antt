@@ -1,5 +1,5 @@
 -- A tightened row with exactly one coefficient has 1 or -1.
-use Rattle.std.proofs.Common.{◌≡◌, ◌≢◌, ℕ, zero, suc, ◌*◌, ◌<◌, ◌≤◌, ℤ, pos, negsuc, length, arith, refl, ap, ◌∙◌, subst, ◌⊎◌, inl, inr}
+use Rattle.std.proofs.Common.{◌≡◌, ◌≢◌, ℕ, zero, ◌*◌, ◌<◌, ◌≤◌, ℤ, pos, negsuc, length, arith, refl, ap, ◌∙◌, subst, ◌⊎◌, inl, inr}
 use Rattle.std.proofs.lemmas.Nat.Gcd.{dvd_refl, dvd-zero, dvd_antisymm, le_of_dvd}
 use Rattle.std.proofs.{Math.Nat.mul-le-mul_left, lemmas.Int.ints, lemmas.Int.unsigned_abs-mul, lemmas.Bool.cases_lt, lemmas.Bool.cases_eq}
 use Rattle.std.proofs.{lemmas.List.get_or_past, lemmas.List.Elements.All-from_get_or}
@@ -12,8 +12,7 @@ use Rattle.rv_base.proofs.Numbers.{one_cases, size_zero}
 
 not_zero : (z : ℤ) → z ≢ pos 0 → 0 < unsigned_abs z
 not_zero (pos zero) n = absurd (n refl)
-not_zero (pos (suc n)) h = omega (arith, ints)
-not_zero (negsuc n) h = omega (arith, ints)
+not_zero _ h = omega (arith, ints)
 
 times_none : (g : ℕ) → g * unsigned_abs (pos 0) ≡ 0
 times_none g = omega arith

@@ -29,12 +29,8 @@ none_whole kind_of (x ∷ xs) all =
 -- no variable is an order test
 tests_more : (b : Bit) (bs : List Bit) → is_test b ≡ false → order_tests (map variable_of bs) ≡ 0 → order_tests (map variable_of (b ∷ bs)) ≡ 0
 unfolding order_tests
-tests_more bit.MainTick bs h rest = rest
-tests_more (bit.Tick p) bs h rest = rest
-tests_more (bit.Kept p j) bs h rest = rest
-tests_more bit.Next bs h rest = rest
-tests_more (bit.Input i j) bs h rest = rest
 tests_more (bit.Test p s) bs h rest = cc
+tests_more _ bs h rest = rest
 
 none_tested : (bs : List Bit) → All (λ b. is_test b ≡ false) bs → order_tests (map variable_of bs) ≡ 0
 unfolding order_tests

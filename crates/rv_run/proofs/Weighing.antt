@@ -12,12 +12,9 @@ use Rattle.rv_types.proofs.DifferentPlaces.{total_append}
 
 -- weights of variables: of ticks and of bits, and of order tests; a next copy has none
 abbrev pub weight : ℕ → ℕ → Variable → ℕ
-weight a b MainTick = a
-weight a b (Tick p) = a
-weight a b (Kept p j) = a
 weight a b Next = 0
-weight a b (Input i j) = a
 weight a b (Test p s) = b
+weight a b _ = a
 
 module _ (a b : ℕ) where
   copies : (vs : List Variable) → total (weight a b) (with_copies vs) ≡ total (weight a b) vs
@@ -81,20 +78,12 @@ module _ (a b : ℕ) where
 
 -- no order tests
 tests_of_bit : (v : Bit) → is_test v ≡ false → weight 0 1 (variable_of v) ≡ 0
-tests_of_bit bit.MainTick h = refl
-tests_of_bit (bit.Tick p) h = refl
-tests_of_bit (bit.Kept p j) h = refl
-tests_of_bit bit.Next h = refl
-tests_of_bit (bit.Input i j) h = refl
 tests_of_bit (bit.Test p s) h = cc
+tests_of_bit _ h = refl
 
 no_test_bit : (v : Bit) → weight 0 1 (variable_of v) ≡ 0 → is_test v ≡ false
-no_test_bit bit.MainTick h = refl
-no_test_bit (bit.Tick p) h = refl
-no_test_bit (bit.Kept p j) h = refl
-no_test_bit bit.Next h = refl
-no_test_bit (bit.Input i j) h = refl
 no_test_bit (bit.Test p s) h = absurd (omega (arith, h))
+no_test_bit _ h = refl
 
 pub untested_total : (bs : List Bit) → All (λ v. is_test v ≡ false) bs → total (weight 0 1) (map variable_of bs) ≡ 0
 untested_total [] all = refl

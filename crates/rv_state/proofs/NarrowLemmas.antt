@@ -17,8 +17,7 @@ present-none = refl
 pub present-some : (z : ℤ) → z ≢ pos 0 → present z ≡ 1
 unfolding present
 present-some (pos zero) some = absurd (some refl)
-present-some (pos (suc n)) some = refl
-present-some (negsuc n) some = refl
+present-some _ some = refl
 
 present-most : (z : ℤ) → present z ≤ 1
 unfolding present

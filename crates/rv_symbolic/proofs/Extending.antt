@@ -1,6 +1,6 @@
 -- Calls of a store in turn.
-use Rattle.std.proofs.Common.{ℕ, ◌+◌, ◌*◌, ◌<◌, ◌≤◌, ◌≡◌, ◌↔◌, Bool, true, false, not, ◌&&◌, cond, List, [], ◌∷◌, ◌++◌, length, length-append, refl, sym, ap}
-use Rattle.std.proofs.Common.{◌∙◌, subst, ⊎_elim, arith, Result, Ok, Err, IfOk, OnErr}
+use Rattle.std.proofs.Common.{ℕ, ◌+◌, ◌<◌, ◌≤◌, ◌≡◌, ◌↔◌, Bool, true, false, not, ◌&&◌, cond, List, [], ◌∷◌, ◌++◌, length, length-append, refl, sym, ap, ◌∙◌}
+use Rattle.std.proofs.Common.{subst, ⊎_elim, arith, Result, Ok, Err, IfOk, OnErr}
 use Rattle.std.proofs.lemmas.Bool.{and_from, and_parts, cases_lt, both_ways}
 use Rattle.std.proofs.{lemmas.List.append-nil, lemmas.List.append_assoc, lemmas.List.get_or_append_left, Math.Seq.get_or-append_seam}
 use Rattle.rv_diagram.specs.Nodes.{Valuation, Diagrams, Grows, Answers, IsRef, value_of, choice, put}
@@ -92,38 +92,10 @@ pub linked_none : (a : Diagrams) (next : List ℕ) (whole k n : ℕ) → k ≡ n
     → value_of a.nodes whole v ≡ true) → Finds a a (AreLinkedBetween a.nodes next k n) whole
 linked_none a next whole k n e found means = record { extends = extends_refl a; found = found; exact = λ v. (λ h i le low. absurd (omega arith), λ p. means v) }
 
--- one link more
-pub linked_more : (a b c : Diagrams) (next : List ℕ) (whole r i n : ℕ) → AreRefs a.nodes next → i < n → n ≤ length next
-    → Finds a b (AreLinkedBetween a.nodes next (i + 1) n) whole
-    → Finds b c (λ v. (v (2 * i + 1) ≡ value_of b.nodes (ref_at next i) v) × (value_of b.nodes whole v ≡ true)) r
-    → Finds a c (AreLinkedBetween a.nodes next i n) r
-linked_more a b c next whole r i n refs within le g h =
-    let of_next : (v : Valuation) → value_of b.nodes (ref_at next i) v ≡ value_of a.nodes (ref_at next i) v = λ v. g.extends.kept (ref_at next i)
-    (refs i (omega arith)) v in
-    record {
-      extends = extends_trans a b c g.extends h.extends;
-      found = h.found;
-      exact = λ v. (
-        λ on. let p : (v (2 * i + 1) ≡ value_of b.nodes (ref_at next i) v) × (value_of b.nodes whole v ≡ true) = (h.exact v).0 on in
-            λ j from low. ⊎_elim
-            (λ lt. let after : i + 1 ≤ j = omega arith in (g.exact v).0 p.1 j after low)
-            (λ ge. let e : i ≡ j = omega arith in subst (λ (n : ℕ). v (2 * n + 1) ≡ value_of a.nodes (ref_at next n) v) e (p.0 ∙ of_next v))
-            (cases_lt i j),
-        λ all. (h.exact v).1 (all i (omega arith) within ∙ sym (of_next v), (g.exact v).1 (λ j from low. all j (omega arith) low)),
-      );
-    }
-
 -- PARTS
 
 pub refs_after : (a b : Diagrams) (next : List ℕ) → Extends a b → AreRefs a.nodes next → AreRefs b.nodes next
 refs_after a b next e refs i low = let h : IsRef a.nodes (ref_at next i) = refs i low in omega (arith, e.longer, h)
-
-pub parted_none : (a : Diagrams) (next : List ℕ) (n : ℕ) → AreParted a a next n n []
-parted_none a next n = record {
-  extends = extends_refl a;
-  refs = λ i low. absurd (omega arith);
-  exact = λ v. (λ all i from low. absurd (omega arith), λ linked i low. absurd (omega arith));
-}
 
 -- one part more
 pub parted_more : (a b c : Diagrams) (next relations : List ℕ) (r j k n : ℕ) → AreRefs a.nodes next → j ≤ k → k ≤ n → n ≤ length next

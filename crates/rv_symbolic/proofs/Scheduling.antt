@@ -37,17 +37,6 @@ gone-cons p parts zero x = refl
 gone-cons p parts (suc n) x = ap (λ b. valuation_of (part_at parts n).over x || b) (gone-cons p parts n x)
     ∙ or_swap (valuation_of (part_at parts n).over x) (valuation_of p.over x) (gone parts n x)
 
-pub last_none : (nodes : List Triple) (relations : List ℕ) (given : List Bool) (k : ℕ) → k ≡ length relations → AreLast nodes relations given given k []
-last_none nodes relations given k e = record {
-  size = omega (arith, e);
-  same = λ i low. absurd (omega arith);
-  schedule = λ i low. absurd (omega arith);
-  free = λ x on i low. absurd (omega arith);
-  within = λ x on. on;
-  none = λ z x. refl;
-  some = λ low. absurd (omega arith);
-}
-
 module _ (nodes : List Triple) (relations : List ℕ) (given left read rest : List Bool) (k j : ℕ) (p : Part) (parts : List Part)
     (g : AreLast nodes relations given left k parts) (e : k ≡ j + 1) (is : p.relation ≡ ref_at relations j) (over : p.over ≡ left)
     (reads : (x : ℕ) → (valuation_of read x ≡ false) ↔ Ignores (value_of nodes p.relation) x)
@@ -91,15 +80,6 @@ module _ (nodes : List Triple) (relations : List ℕ) (given left read rest : Li
     none = λ z. absurd (omega arith);
     some = λ low. more_some;
   }
-
-pub last_all : (nodes : List Triple) (relations : List ℕ) (given left : List Bool) (k : ℕ) (parts : List Part) → k ≡ 0 → 0 < length relations
-    → AreLast nodes relations given left k parts → AreScheduled nodes relations given parts
-last_all nodes relations given left k parts e some g = record {
-  size = omega (arith, e, g.size);
-  same = λ i low. g.same i low ∙ ap (λ (n : ℕ). ref_at relations n) (let z : k + i ≡ i = omega (arith, e) in z);
-  schedule = g.schedule;
-  over = g.some (omega (arith, e, g.size, some));
-}
 
 -- the parts of a schedule are the relation
 pub scheduled_links : (a d : Diagrams) (next relations : List ℕ) (given : List Bool) (p : ℕ) (links : List Part) → AreRefs a.nodes next

@@ -1,16 +1,15 @@
 -- The least valuations of sets, as words.
-use Rattle.std.proofs.Common.{ℕ, ◌+◌, ◌-◌, ◌*◌, ◌<◌, ◌≤◌, ◌≡◌, ◌↔◌, Bool, true, false, not, ◌&&◌, cond, List, length, refl, sym, ap, ◌∙◌, subst, ⊎_elim, arith}
+use Rattle.std.proofs.Common.{ℕ, ◌+◌, ◌-◌, ◌*◌, ◌<◌, ◌≡◌, ◌↔◌, Bool, true, false, not, ◌&&◌, cond, List, length, refl, sym, ap, ◌∙◌, subst, ⊎_elim, arith}
 use Rattle.std.proofs.Common.{Option, Some, None}
 use Rattle.std.proofs.lemmas.Bool.{and_from, and_parts, cases_Bool, cases_lt, both_ways, not-true}
 use Rattle.std.specs.Prelude.{MatchOption}
 use Rattle.rv_diagram.specs.Nodes.{Valuation, Diagrams, Answers, IsRef, value_of, choice, valuation_of, IsLeast}
 use Rattle.rv_diagram.specs.{declared.frozen.Frozen.Frozen, declared.store.several.Part.Part, Several.ArePartRefs, Several.part_at}
 use Rattle.rv_proofs.specs.{Systems.System, Systems.IsRead, Systems.IsSameValuation, Scopes.IsIn, Ranges.IsControlSet}
-use Rattle.rv_symbolic.specs.Words.{IsLeastOf, IsFalseIn, LeadsTo, IsFirstOf, AreCopiesBetween, AreCopies, AreMetWith, IsFalseAt, LeadsAt}
+use Rattle.rv_symbolic.specs.Words.{IsLeastOf, IsFalseIn, LeadsTo, IsFirstOf, AreCopies, AreMetWith, IsFalseAt, LeadsAt}
 use Rattle.rv_symbolic.specs.{declared.relation.Relation.Relation, Growing.Extends, Growing.Makes, Growing.Finds, Variables.is_of, Represented.IsRelationOf}
-use Rattle.rv_symbolic.proofs.Extending.{extends_refl, extends_trans, grows_extends, met_before, met_after}
-use Rattle.rv_symbolic.proofs.Reading.{control-value, valuation_state, is_of-bit, read_is, read_off}
-use Rattle.rv_symbolic.proofs.Projecting.{relation_to, relation_from}
+use Rattle.rv_symbolic.proofs.{Extending.extends_trans, Extending.grows_extends, Extending.met_before, Extending.met_after, Reading.control-value}
+use Rattle.rv_symbolic.proofs.{Reading.valuation_state, Reading.is_of-bit, Reading.read_is, Reading.read_off, Projecting.relation_to, Projecting.relation_from}
 
 -- what a store picks of a reference
 pub picked_first : (d : Diagrams) (r m : ℕ) (holds : Valuation → Type 0) (o : Option (List Bool)) → d.variables ≡ m
@@ -82,37 +81,7 @@ module _ (a b c : Diagrams) (rest never bit r x : ℕ) (found : IsRef a.nodes re
         );
       }
 
-pub copies_none : (a : Diagrams) (word : List Bool) (whole k n : ℕ) → k ≡ n → IsRef a.nodes whole → ((v : Valuation)
-    → value_of a.nodes whole v ≡ true) → Finds a a (AreCopiesBetween word k n) whole
-copies_none a word whole k n e found means = record { extends = extends_refl a; found = found; exact = λ v. (λ h i le low. absurd (omega arith), λ p. means v) }
-
--- one next copy more
-pub copies_more : (a b c : Diagrams) (word : List Bool) (whole r i n : ℕ) → i < n → Finds a b (AreCopiesBetween word (i + 1) n) whole
-    → Finds b c (λ v. (v (2 * i + 1) ≡ valuation_of word (2 * i)) × (value_of b.nodes whole v ≡ true)) r → Finds a c (AreCopiesBetween word i n) r
-copies_more a b c word whole r i n within g h = record {
-  extends = extends_trans a b c g.extends h.extends;
-  found = h.found;
-  exact = λ v. (
-    λ on. let p : (v (2 * i + 1) ≡ valuation_of word (2 * i)) × (value_of b.nodes whole v ≡ true) = (h.exact v).0 on in
-        λ j from low. ⊎_elim
-        (λ lt. let after : i + 1 ≤ j = omega arith in (g.exact v).0 p.1 j after low)
-        (λ ge. let e : i ≡ j = omega arith in subst (λ (n : ℕ). v (2 * n + 1) ≡ valuation_of word (2 * n)) e p.0)
-        (cases_lt i j),
-    λ all. (h.exact v).1 (all i (omega arith) within, (g.exact v).1 (λ j from low. all j (omega arith) low)),
-  );
-}
-
-pub copies_all : (a b : Diagrams) (word : List Bool) (r k n : ℕ) → k ≡ 0 → Finds a b (AreCopiesBetween word k n) r → Finds a b (AreCopies word n) r
-copies_all a b word r k n e g = record {
-  extends = g.extends;
-  found = g.found;
-  exact = λ v. (λ on i low. (g.exact v).0 on i (omega (arith, e)) low, λ all. (g.exact v).1 (λ i from low. all i low));
-}
-
 -- PARTS
-
-pub met_none : (a : Diagrams) (set : ℕ) (links : List Part) → IsRef a.nodes set → Finds a a (AreMetWith a.nodes set links 0) set
-met_none a set links found = record { extends = extends_refl a; found = found; exact = λ v. (λ on. (on, λ i low. absurd (omega arith)), λ p. p.0) }
 
 -- one part more
 pub met_more : (a b c : Diagrams) (set whole r n : ℕ) (links : List Part) → n < length links → ArePartRefs a.nodes links

@@ -148,10 +148,6 @@ parts_put old new width p q f before after i one can g =
           (at j low);
     }
 
--- a valuation at which a function is true, up to a double negation
-not_empty : (u : Valuation → Bool) (A : Type 0) → (((v : Valuation) → u v ≡ false) → ⊥) → ((v : Valuation) → u v ≡ true → A → ⊥) → A → ⊥
-not_empty u A some each a = some (λ v. ⊎_elim (λ t. absurd (each v t a)) (λ f. f) (cases_Bool (u v)))
-
 width_of : (u : Valuation → Bool) (m n : ℕ) → (((v : Valuation) → u v ≡ false) → ⊥) → ((v : Valuation) → u v ≡ true → m ≡ n) → m ≡ n
 width_of u m n some each = ⊎_elim (λ e. e) (λ off. absurd (some (λ v. ⊎_elim (λ t. absurd (off (each v t))) (λ f. f) (cases_Bool (u v))))) (cases_eq m n)
 

@@ -8,7 +8,7 @@ use Rattle.rv_diagram.specs.{declared.Triple.Triple, Nodes.Valuation, Nodes.Diag
 use Rattle.rv_diagram.proofs.Calls.{value_of-false}
 use Rattle.rv_terms.specs.Parts.{part_at, holds, form_at, AreDifferent, IsTerm, IsTermOf, among, HasForm, AreClasses, chosen_form, held, IsFilledBy, LacksFew}
 use Rattle.rv_terms.specs.{declared.parted.Part.Part, Growing.Extends, Counting.count, Counting.ReadsOnly}
-use Rattle.rv_terms.proofs.Combining.{form_is, form_later, form_width, among-more, among_some}
+use Rattle.rv_terms.proofs.Combining.{form_is, form_later, among-more, among_some}
 use Rattle.rv_terms.proofs.{Adding.IsPlaced, Adding.placed_last, Counting.count-same, Counting.count-join, Counting.count-most}
 
 -- WHERE A TERM HAS A FORM
@@ -45,15 +45,6 @@ chosen_iff true a c f g form one two = one
 chosen_iff false a c f g form one two = two
 
 -- PARTS
-
-pub classes_none : (nodes : List Triple) (width : ℕ) (f : Valuation → Form) → AreClasses nodes width f []
-classes_none nodes width f = record {
-  refs = λ i low. absurd (omega arith);
-  exact = λ i low. absurd (omega arith);
-  different = λ i j less low. absurd (omega arith);
-  widths = λ i low. absurd (omega arith);
-  filled = λ i low. absurd (omega arith);
-}
 
 pub classes_as : (nodes : List Triple) (width : ℕ) (f g : Valuation → Form) (parts : List Part) → ((v : Valuation) → f v ≡ g v)
     → AreClasses nodes width f parts → AreClasses nodes width g parts
@@ -175,9 +166,6 @@ lacks_put s parts q off h = record {
       (count-join s.variables 0 (held s.nodes parts) q off) (count-most s.variables 0 (λ v. held s.nodes parts v || q v));
 }
 
-pub filled_none : (s : Diagrams) (parts : List Part) → IsFilledBy s s parts parts
-filled_none s parts = record { nodes = omega arith }
-
 -- a store that has grown for what holds nowhere
 pub filled_later : (old new : Diagrams) (width : ℕ) (f : Valuation → Form) (parts : List Part) → Extends old new → AreClasses old.nodes width f parts
     → length new.nodes ≤ length old.nodes → IsFilledBy old new parts parts
@@ -225,9 +213,6 @@ growth_whole s new parts h = most_of (length s.nodes) (length new.nodes) s.varia
     (count s.variables (held new.nodes parts)) (2 ^ s.variables)
     h.nodes (count-most s.variables 0 (held new.nodes parts))
 
-pub room_whole : (s : Diagrams) → LacksFew s [] → s.limit < length s.nodes + s.variables * 2 ^ s.variables
-room_whole s h = omega (arith, h.nodes)
-
 pub chosen_later : (old new : Diagrams) (width test : ℕ) (ons offs : List Part) → Extends old new → IsRef old.nodes test → IsTerm old.nodes width ons
     → IsTerm old.nodes width offs
     → (v : Valuation) → chosen_form new.nodes test ons offs v ≡ chosen_form old.nodes test ons offs v
@@ -235,13 +220,6 @@ chosen_later old new width test ons offs e found one two v =
     ap (λ b. cond b (form_at new.nodes ons v) (form_at new.nodes offs v)) (e.kept test found v)
     ∙ ap (λ f. cond (value_of old.nodes test v) f (form_at new.nodes offs v)) (form_later old new ons v e one.refs)
     ∙ ap (λ f. cond (value_of old.nodes test v) (form_at old.nodes ons v) f) (form_later old new offs v e two.refs)
-
-pub chosen_width : (nodes : List Triple) (width test : ℕ) (ons offs : List Part) → IsTerm nodes width ons → IsTerm nodes width offs
-    → (v : Valuation) → length (chosen_form nodes test ons offs v).coefficients ≡ width
-chosen_width nodes width test ons offs one two v = ⊎_elim
-    (λ t. ap (λ b. length (cond b (form_at nodes ons v) (form_at nodes offs v)).coefficients) t ∙ form_width nodes width ons one v)
-    (λ e. ap (λ b. length (cond b (form_at nodes ons v) (form_at nodes offs v)).coefficients) e ∙ form_width nodes width offs two v)
-    (cases_Bool (value_of nodes test v))
 
 pub has_as : (parts : List Part) (f g : Form) → f ≡ g → HasForm parts f → HasForm parts g
 has_as parts f g e h = (h.0, h.1, h.2 ∙ e)

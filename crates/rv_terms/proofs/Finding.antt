@@ -1,6 +1,6 @@
 -- Where a function of finitely many variables is true, and which parts meet it.
-use Rattle.std.proofs.Common.{ℕ, zero, suc, ◌+◌, ◌<◌, ◌≤◌, ◌≡◌, ◌≢◌, ◌⊎◌, Bool, true, false, List, [], ◌∷◌, length, Option, Some, refl, sym, ap, ◌∙◌, subst}
-use Rattle.std.proofs.Common.{⊎_elim, inl, inr, arith, None as Nothing}
+use Rattle.std.proofs.Common.{ℕ, zero, suc, ◌<◌, ◌≤◌, ◌≡◌, ◌≢◌, ◌⊎◌, Bool, true, false, List, [], ◌∷◌, length, Option, Some, refl, sym, ap, ◌∙◌, subst, ⊎_elim}
+use Rattle.std.proofs.Common.{inl, inr, arith, None as Nothing}
 use Rattle.std.proofs.lemmas.Bool.{cases_eq, cases_Bool, false≢true}
 use Rattle.std.specs.Prelude.{MatchOption}
 use Rattle.rv_rows.specs.declared.linear.Form.{Form}
@@ -66,31 +66,6 @@ abbrev pub IsFound : List Triple → List Part → ℕ → ℕ → Option ℕ �
 IsFound nodes parts a n found = MatchOption found
     ((k : ℕ) → k < n → (v : Valuation) → holds nodes parts k v ≡ true → value_of nodes a v ≡ true → ⊥)
     (λ i. IsAlone nodes parts a n i)
-
-pub found_more : (nodes : List Triple) (parts : List Part) (a n : ℕ) (found : Option ℕ)
-    → ((v : Valuation) → holds nodes parts n v ≡ true → value_of nodes a v ≡ true → ⊥)
-    → IsFound nodes parts a n found → IsFound nodes parts a (n + 1) found
-found_more nodes parts a n Nothing off h = λ k low v one two. ⊎_elim
-    (λ e. off v (ap (λ j. holds nodes parts j v) (sym e) ∙ one) two)
-    (λ other. h k (omega arith) v one two)
-    (cases_eq k n)
-found_more nodes parts a n (Some i) off h = record {
-  within = omega (arith, h.within);
-  some = h.some;
-  others = λ k low other v one two. ⊎_elim
-      (λ e. off v (ap (λ j. holds nodes parts j v) (sym e) ∙ one) two)
-      (λ unequal. h.others k (omega arith) other v one two)
-      (cases_eq k n);
-}
-
-pub found_new : (nodes : List Triple) (parts : List Part) (a n : ℕ) → ((v : Valuation) × (holds nodes parts n v ≡ true) × (value_of nodes a v ≡ true))
-    → IsFound nodes parts a n Nothing → IsFound nodes parts a (n + 1) (Some n)
-found_new nodes parts a n some h = record { within = omega arith; some = some; others = λ k low off v one two. h k (omega arith) v one two }
-
-pub found_two : (nodes : List Triple) (parts : List Part) (a n i : ℕ) → n < length parts
-    → ((v : Valuation) × (holds nodes parts n v ≡ true) × (value_of nodes a v ≡ true))
-    → IsAlone nodes parts a n i → IsMet nodes parts a
-found_two nodes parts a n i low some h = inr (i, n, h.within, low, h.some, some)
 
 pub found_none : (nodes : List Triple) (parts : List Part) (a n : ℕ) → Covers nodes parts → length parts ≤ n → IsFound nodes parts a n Nothing
     → IsMet nodes parts a

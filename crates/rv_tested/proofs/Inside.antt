@@ -8,8 +8,8 @@ use Rattle.rv_tree.specs.{declared.tree.Op.Op, Places.Sites}
 use Rattle.rv_base.specs.Limits.{heaviest}
 use Rattle.rv_types.specs.{declared.typed.Kind.Kind, Lists.sides_of, Variables.is_integer}
 use Rattle.rv_types.specs.declared.typed.Kind.TheVariants as kind
-use Rattle.rv_agreement.specs.Trees.{FlatTree, Node, TreeForm, FlatTrees, Constant, Flow, Memory, Ticked, Input, Not, Binary, Scale, If, AtMostOne, When}
-use Rattle.rv_agreement.specs.Trees.{Current, None, More, Item, nth_item, System, memory_items, memory_kinds, kind_at}
+use Rattle.rv_agreement.specs.Trees.{FlatTree, Node, TreeForm, FlatTrees, Not, Binary, Scale, If, AtMostOne, When, None, More, Item, nth_item, System}
+use Rattle.rv_agreement.specs.Trees.{memory_items, memory_kinds, kind_at}
 use Rattle.rv_agreement.specs.Valuations.{Comparison, is_placed, own, comparisons, form_comparisons, comparisons_of, item_comparisons, all_items}
 use Rattle.rv_agreement.specs.Valuations.{all_comparisons}
 use Rattle.rv_agreement.specs.Agreement.{IsNamed, IsPlaced, Fits, FormFits, AllFit, ItemFits, IsWell}
@@ -22,9 +22,8 @@ use Rattle.rv_tested.specs.{declared.compared.Compared.Compared, Compared.compar
 use Rattle.rv_types.proofs.Members.{nothing_in, of_flat_map}
 
 pub integer_kind : (i : Kind) → is_integer i ≡ true → i ≡ kind.Int
-integer_kind kind.Bool e = absurd (false≢true e)
 integer_kind kind.Int e = refl
-integer_kind (kind.Labels l) e = absurd (false≢true e)
+integer_kind _ e = absurd (false≢true e)
 
 -- what stands alone is placed and has a test
 own_placed : {X : Type 0} (p : Bool) (n : ℕ) (y c : X) → Contains (cond p (cond (nat_eq n 0) [] (y ∷ [])) []) c → (p ≡ true) × (0 < n)
@@ -66,11 +65,6 @@ module _ (s : System) (n : ℕ) (ws : List ℕ) (clocks : (j : ℕ) → j < n �
 
     inside_form : (k : Option ℕ) (j : Kind) (at : Sites) (form : TreeForm) → IsNamed n k → FormFits s n k j at form → form_is_light ws form ≡ true
         → (c : Comparison) → Contains (form_comparisons s.flows k at form) c → Holds c
-    inside_form k j at (Constant z) named fit light c w = nothing_in c w
-    inside_form k j at (Flow x) named fit light c w = nothing_in c w
-    inside_form k j at (Memory m) named fit light c w = nothing_in c w
-    inside_form k j at (Ticked t) named fit light c w = nothing_in c w
-    inside_form k j at (Input x) named fit light c w = nothing_in c w
     inside_form k j at (Not e) named fit light c w = inside k kind.Bool e named fit.1 light c w
     inside_form k j at (Binary o a b) named fit light c w =
         let y : Comparison = record { at = at; clock = k; operator = o; left = a; right = b } in
@@ -98,7 +92,7 @@ module _ (s : System) (n : ℕ) (ws : List ℕ) (clocks : (j : ℕ) → j < n �
         ]
     inside_form k j at (AtMostOne es) named fit light c w = inside_all k es named fit.1 light c w
     inside_form k j at (When x e) named fit light c w = inside (nth_item s.flows x).clock j e (clocks x fit.1) fit.2 light c w
-    inside_form k j at (Current m i e) named fit light c w = nothing_in c w
+    inside_form k j at _ named fit light c w = nothing_in c w
 
     inside_all : (k : Option ℕ) (es : FlatTrees) → IsNamed n k → AllFit s n k es → all_light ws es ≡ true → (c : Comparison)
         → Contains (comparisons_of s.flows k es) c → Holds c

@@ -1,11 +1,11 @@
 -- A round of the walk in a store, whose nodes stay as more come.
-use Rattle.std.proofs.Common.{ℕ, ◌+◌, ◌<◌, ◌≡◌, Bool, true, false, cond, ◌&&◌, List, [], ◌∷◌, ◌++◌, length, take, refl, sym, ap, ◌∙◌, subst, arith}
-use Rattle.std.proofs.{Math.Path.fun_ext, Math.Seq.take-append_seam}
+use Rattle.std.proofs.Common.{ℕ, ◌+◌, ◌<◌, ◌≡◌, Bool, true, false, cond, ◌&&◌, List, [], ◌∷◌, ◌++◌, refl, sym, ap, ◌∙◌, subst, arith}
+use Rattle.std.proofs.Math.Path.{fun_ext}
 use Rattle.rv_diagram.specs.Nodes.{Valuation, Diagrams, IsRef, IsOrderedOver, value_of}
-use Rattle.rv_diagram.specs.{Several.UsesNeeded, declared.Triple.Triple, declared.frozen.Frozen.Frozen}
+use Rattle.rv_diagram.specs.{Several.UsesNeeded, declared.frozen.Frozen.Frozen}
 use Rattle.rv_proofs.specs.Systems.{System}
 use Rattle.rv_symbolic.specs.{declared.relation.NextStates.NextStates, Growing.Extends, Stepped.AreNextStates}
-use Rattle.rv_symbolic.proofs.{Extending.extends_trans, Extending.equal_extends, Reading.control_set}
+use Rattle.rv_symbolic.proofs.{Extending.extends_trans, Reading.control_set}
 use Rattle.rv_walk.specs.Walks.{IsWalk, IsDone, IsExplored, missing, last_of}
 use Rattle.rv_walk.specs.{declared.sets.Grown.Grown, Ends.has, Extended.fresh_in, Extended.either_in, Extended.IsFresh, Extended.IsGrown}
 use Rattle.rv_walk.proofs.Stages.{walk_more, walk_less, walk_done}
@@ -13,15 +13,6 @@ use Rattle.rv_walk.proofs.Stages.{walk_more, walk_less, walk_done}
 -- a reference keeps its meaning
 pub kept_same : (a b : Diagrams) (r : ℕ) → Extends a b → IsRef a.nodes r → value_of b.nodes r ≡ value_of a.nodes r
 kept_same a b r e found = fun_ext (λ v. e.kept r found v)
-
--- a store that goes back to its first nodes
-pub released_extends : (d s t : Diagrams) (n : ℕ) → n ≡ length d.nodes → Extends d s → t ≡ record s { nodes = take n s.nodes } → Extends d t
-released_extends d s t n is e back =
-    let first : take n s.nodes ≡ d.nodes = ap (λ (m : ℕ). take m s.nodes) is ∙ ap (λ (l : List Triple). take (length d.nodes) l) e.begins.1
-    ∙ take-append_seam d.nodes e.begins.0 in
-    equal_extends d t (back ∙ ap (λ (l : List Triple). record s { nodes = l }) first
-    ∙ ap (λ (m : ℕ). record s { nodes = d.nodes; variables = m }) e.variables
-    ∙ ap (λ (m : ℕ). record d { limit = m }) e.limit)
 
 module _ (s : System) (a b c : Diagrams) (sets : List Frozen) (r : ℕ) (good : Bool) (n : NextStates) (found : IsRef a.nodes r) (p : Extends a b)
     (w : IsWalk s sets (value_of a.nodes r) good) (st : AreNextStates s (last_of sets) n) where

@@ -30,9 +30,6 @@ one_more sets f t low = ⊎_elim (λ lt. inl lt) (λ ge. inr (omega (arith, leng
 pub state_self : (s : System) (v : Valuation) → HasSameState s v v
 state_self s v x is = refl
 
-pub state_back : (s : System) (v w : Valuation) → HasSameState s v w → HasSameState s w v
-state_back s v w same x is = sym (same x is)
-
 pub no_rest : (a b : Bool) → (a && not b) ≡ false → a ≡ true → b ≡ true
 no_rest true true h g = refl
 no_rest true false h g = sym h ∙ refl

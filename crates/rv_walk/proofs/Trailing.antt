@@ -8,7 +8,7 @@ use Rattle.rv_diagram.specs.{Nodes.Valuation, Nodes.valuation_of, declared.froze
 use Rattle.rv_proofs.specs.{Systems.System, Systems.HasSameState, Scopes.IsIn, Ranges.IsControlSet, Cases.IsInitialSet, Boxes.BoxClaim, Boxes.IsOpen}
 use Rattle.rv_proofs.specs.{Reached.HasNoIntegers, Reached.Reaches, Reached.IsFirstReached, Reached.AreLayers, Reached.unbounded, declared.report.Layers.Layers}
 use Rattle.rv_symbolic.specs.Words.{IsLeastWord, LeadsTo}
-use Rattle.rv_walk.specs.Trails.{layer_at, AreControlSets, IsFailing, IsFirstFailing, IsTrail, IsBroken, IsTurned, IsPathThrough}
+use Rattle.rv_walk.specs.Trails.{layer_at, AreControlSets, IsFirstFailing, IsTrail, IsBroken, IsTurned, IsPathThrough}
 use Rattle.rv_walk.specs.{Ends.AreBadLayers, Walks.IsReached, Walks.set_at, Walks.no_set, Falsified.IsFalsifyingRun, Paths.at_instant, Paths.IsFalsifyingPath}
 use Rattle.rv_walk.specs.{Paths.IsShortestPath}
 use Rattle.rv_walk.proofs.{Stages.reached_in, Ending.reaches_from}
@@ -32,19 +32,6 @@ layer_control s first sets t are low = ⊎_elim
     (cases_eq t 0)
 
 -- TRAILS
-
-pub trail_one : (s : System) (first : Frozen) (sets : List Frozen) (layer : ℕ) (word : List Bool) → IsFailing s first sets layer word
-    → IsTrail s first sets layer (word ∷ [])
-trail_one s first sets layer word f =
-    let only : (k : ℕ) → k < length (word ∷ []) → 0 ≡ k = λ k low. omega arith in
-    record {
-      sizes = λ k low. subst (λ (n : ℕ). length (get_or (word ∷ []) n []) ≡ s.variables) (only k low) f.least.size;
-      allowed = λ k low. subst (λ (n : ℕ). IsTrue (s.allowed (at_instant (word ∷ []) n))) (only k low) f.least.here.allowed;
-      inside = λ k low. subst (λ (n : ℕ). IsIn (layer_at first sets (layer - n)) (at_instant (word ∷ []) n)) (only k low)
-          (let z : layer ≡ layer - 0 = omega arith in subst (λ (n : ℕ). IsIn (layer_at first sets n) (valuation_of word)) z f.least.here.inside);
-      steps = λ k low. absurd (omega arith);
-      fails = f.least.here.fails;
-    }
 
 module _ (s : System) (first : Frozen) (sets : List Frozen) (last back : ℕ) (words : List (List Bool)) (count : length words ≡ back + 1) (low : back < last)
     (t : IsTrail s first sets last words) where

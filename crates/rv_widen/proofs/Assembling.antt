@@ -77,9 +77,8 @@ module _ (s : System) (rows : List Row) (start later : Location) (one : IsRanged
       go (suc (suc k)) f = cc
 
   not_loop : (n w : ℕ) (kind : EntryKind) → IsRangedKind n w kind → IsLoopKind kind → ⊥
-  not_loop n w (Dead m) h loop = loop
-  not_loop n w (Go target reach) h loop = loop
   not_loop n w (Loop a b d e) h loop = h
+  not_loop n w _ h loop = loop
 
   no_loop : (l : Location) → IsEither l → ¬ HasLoop l
   no_loop l u (j, e, at, loop) =

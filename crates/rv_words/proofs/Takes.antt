@@ -78,10 +78,7 @@ action_free action.SetTrue again a vs rows = set_free again a vs rows
 action_free action.SetFalse again a vs rows = set_free again a vs rows
 action_free action.Append again a vs rows = values_free _ _ vs
 action_free action.Count again a vs rows = count_free a vs rows
-action_free action.Help again a vs rows = refl
-action_free action.HelpShort again a vs rows = refl
-action_free action.HelpLong again a vs rows = refl
-action_free action.Version again a vs rows = refl
+action_free _ again a vs rows = refl
 
 le_test : (a b : ℕ) → nat_le a b ≡ not (nat_lt b a)
 le_test a b = go (nat_lt b a) refl

@@ -1,6 +1,6 @@
 use Rattle.std.proofs.Common.{◌≤ℤ◌, ◌<ℤ◌, ◌+ℤ◌, ℤ, pos, length, FitsSigned, rules, subst}
-use Rattle.std.specs.Int.{w128}
 use Rattle.std.proofs.lemmas.Int.{to_z-of_z}
+use Rattle.std.specs.Int.{w128}
 use Rattle.rv_rows.specs.Rows.{row_at}
 use Rattle.rv_boxes.proofs.Shutting.{high_holds, low_fails, above_refutes}
 use Rattle.rv_boxes.proofs.shut.above.Goals as goal

@@ -1,6 +1,6 @@
 use Rattle.std.proofs.Common.{◌≡◌, ◌<◌, length, arith, set, ◌∙◌, rules, FitsSigned, length-set}
-use Rattle.std.specs.Int.{w128}
 use Rattle.std.proofs.lemmas.Int.{to_z-of_z}
+use Rattle.std.specs.Int.{w128}
 use Rattle.rv_rows.proofs.TightLemmas.{divide-done, divide-left}
 use Rattle.rv_rows.proofs.tighten.divide.Goals as goal
 

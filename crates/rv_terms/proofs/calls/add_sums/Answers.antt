@@ -1,4 +1,4 @@
-use Rattle.std.proofs.Common.{◌≡◌, ◌+◌, ◌<◌, ◌∙◌, ◌&&◌, ap, sym, subst, length, ℕ, arith, true, ◌*◌}
+use Rattle.std.proofs.Common.{◌≡◌, ◌+◌, ◌<◌, ◌∙◌, ◌&&◌, ap, sym, subst, length, arith, true}
 use Rattle.std.proofs.lemmas.List.{get_or_read}
 use Rattle.rv_rows.specs.{declared.linear.Form.Form, Forms.CanAdd, Arithmetic.form_sum}
 use Rattle.rv_diagram.specs.{Nodes.value_of, Nodes.IsRef, declared.store.StoreFault.StoreFault}
@@ -7,9 +7,6 @@ use Rattle.rv_terms.proofs.Combining.{adds_more, adds_first, adds_all, form_is}
 use Rattle.rv_terms.proofs.Summing.{grown_none, grown_step, lacks_step, grown_within, step_apart, step_more, step_within}
 use Rattle.rv_terms.proofs.{Growths.extends_refl, Growths.extends_trans, Classes.err_moved}
 use Rattle.rv_terms.proofs.calls.add_sums.Goals as goal
-
-next : (i k : ℕ) → i * k + k ≡ (i + 1) * k
-next i k = grind arith
 
 pub add_sum-requires-clause-room : goal.add_sum-requires-clause-room
 add_sum-requires-clause-room c v one two =

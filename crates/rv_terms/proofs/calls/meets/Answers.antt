@@ -1,6 +1,6 @@
 use Rattle.std.proofs.Common.{◌≡◌, ◌∙◌, sym, true, false, Bool, not, refl}
-use Rattle.std.specs.Prelude.{MatchBool}
 use Rattle.std.proofs.lemmas.Bool.{and_from, and_parts, false≢true}
+use Rattle.std.specs.Prelude.{MatchBool}
 use Rattle.rv_diagram.specs.Nodes.{Valuation, value_of}
 use Rattle.rv_terms.proofs.Finding.{some_from}
 use Rattle.rv_terms.proofs.calls.meets.Goals as goal

@@ -1,4 +1,4 @@
-use Rattle.std.proofs.Common.{◌≡◌, ◌+◌, ◌<◌, ◌∙◌, ◌&&◌, ap, sym, subst, length, ℕ, arith, true, List, [], ◌*◌}
+use Rattle.std.proofs.Common.{◌≡◌, ◌+◌, ◌<◌, ◌∙◌, ◌&&◌, ap, sym, subst, length, arith, true, List, []}
 use Rattle.std.proofs.lemmas.List.{get_or_read}
 use Rattle.rv_rows.specs.{declared.linear.Form.Form, Forms.CanAdd, Arithmetic.form_sum}
 use Rattle.rv_diagram.specs.{Nodes.Valuation, Nodes.value_of, Nodes.IsRef, declared.store.StoreFault.StoreFault}
@@ -7,12 +7,6 @@ use Rattle.rv_terms.proofs.Combining.{adds_more, adds_first, adds_all, form_is, 
 use Rattle.rv_terms.proofs.Summing.{grown_none, grown_step, lacks_step, grown_whole, lacks_whole, step_apart, step_more, step_within}
 use Rattle.rv_terms.proofs.{Growths.extends_refl, Growths.extends_trans, Sums.length-sum, Classes.err_moved}
 use Rattle.rv_terms.proofs.calls.sum_in.Goals as goal
-
-none : (k : ℕ) → 0 ≡ 0 * k
-none k = grind arith
-
-next : (i k : ℕ) → i * k + k ≡ (i + 1) * k
-next i k = grind arith
 
 pub add_sums-requires-clause-covers : goal.add_sums-requires-clause-covers
 add_sums-requires-clause-covers c = covers_later c.args.store.now c.loop-part.store c.args.b.now c.loop-part.invariant.extends c.requires.b.refs
