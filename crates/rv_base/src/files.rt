@@ -1,7 +1,7 @@
 //! Where the bytes of files come from.
 
-ghost use Rattle.std.specs.Prelude.{◌≡◌, ◌+◌, ◌≤◌, ℕ, List, Bool, Option, IsTrue, IfOk, IsErrOf, vec_len};
-ghost use Rattle.rv_base.specs.Causes.{HasCause};
+ghost use Rattle.std.specs.Prelude.{◌≡◌, ◌+◌, ◌≤◌, ℕ, List, Bool, Option, IsTrue, IfOk, OnOk, IsErrOf, vec_len};
+ghost use Rattle.rv_base.specs.Causes.{HasCause, raised};
 ghost use Rattle.rv_base.specs.Shelf.{Shelf, Loads};
 ghost use Rattle.rv_base.specs.declared.files.LoadFault.TheVariants.{Memory};
 
@@ -52,6 +52,9 @@ pub trait Files {
     /// How often a load has failed. It never falls.
     ghost faults: { Self → ℕ };
 
+    /// How many loads there were, those not counted that ended for want of memory.
+    ghost loads: { Self → ℕ };
+
     /// Which names may be asked for.
     ghost serves: { Self → List ℕ → Bool };
 
@@ -64,6 +67,8 @@ pub trait Files {
         ensures at_most { IfOk result (λ loaded. vec_len loaded ≤ limit + 1) }
         ensures cause { HasCause LoadFault.Failed (faults self.old) (faults self.new) result }
         ensures memory { IsErrOf result LoadFault.Memory → self.new ≡ self.old }
+        ensures answered_counts { OnOk result (loads self.new ≡ raised (loads self.old)) }
+        ensures failed_counts { IsErrOf result LoadFault.Failed → loads self.new ≡ raised (loads self.old) }
         ensures same_held { held self.new ≡ held self.old }
         ensures same_serves { serves self.new ≡ serves self.old };
 }

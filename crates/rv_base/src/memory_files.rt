@@ -70,6 +70,8 @@ impl Files for MemoryFiles {
 
     ghost faults = { faults_of };
 
+    ghost loads = { calls_of };
+
     ghost serves = { λ _ _. true };
 
     /// Fails exactly where the number of this load is among those that fail or nothing is held under the name.
@@ -78,13 +80,13 @@ impl Files for MemoryFiles {
         ensures at_most { IfOk result (λ loaded. vec_len loaded ≤ limit + 1) }
         ensures cause { HasCause LoadFault.Failed (faults_of self.old) (faults_of self.new) result }
         ensures memory { IsErrOf result LoadFault.Memory → self.new ≡ self.old }
+        ensures answered_counts { OnOk result (calls_of self.new ≡ raised (calls_of self.old)) }
+        ensures failed_counts { IsErrOf result LoadFault.Failed → calls_of self.new ≡ raised (calls_of self.old) }
         ensures same_held { held_by self.new ≡ held_by self.old }
 
         ensures answered { OnOk result (¬ Contains (failing_calls self.old) (calls_of self.old) × IsSome (get (held_by self.old) name.now)) }
         ensures failed { IsErrOf result LoadFault.Failed → Contains (failing_calls self.old) (calls_of self.old) ⊎ IsNone (get (held_by self.old) name.now) }
 
-        ensures answered_calls { OnOk result (calls_of self.new ≡ raised (calls_of self.old)) }
-        ensures failed_calls { IsErrOf result LoadFault.Failed → calls_of self.new ≡ raised (calls_of self.old) }
         ensures answered_faults { OnOk result (faults_of self.new ≡ faults_of self.old) }
         ensures failed_faults { IsErrOf result LoadFault.Failed → faults_of self.new ≡ raised (faults_of self.old) }
         ensures same_failing { failing_calls self.new ≡ failing_calls self.old }

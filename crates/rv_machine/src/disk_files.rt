@@ -7,18 +7,23 @@ use std::alloc::Global;
 use std::io::{ErrorKind, Read};
 use std::{fs, io, rt};
 
-/// The files of the machine, by path. They do not tell what they hold, serve every name, and count the loads that
-/// failed.
+/// The files of the machine, by path. They do not tell what they hold, serve every name, and count the loads and those of
+/// them that failed.
 #[derive(Drop)]
 pub struct DiskFiles<'a, R> {
     rt: &'a R,
     faults: u64,
+    loads: u64,
 }
 
 impl<'a, R: rt::Files> DiskFiles<'a, R> {
-    /// The files of this machine, with no failure counted.
+    /// The files of this machine, with nothing counted.
     pub fn new(rt: &'a R) -> Self {
-        DiskFiles { rt, faults: 0 }
+        DiskFiles {
+            rt,
+            faults: 0,
+            loads: 0,
+        }
     }
 }
 
@@ -27,12 +32,19 @@ impl<R: rt::Files> Files for DiskFiles<'_, R> {
 
     ghost faults = { λ files. files.faults };
 
+    ghost loads = { λ files. files.loads };
+
     ghost serves = { λ _ _. true };
 
     fn load(&mut self, alloc: Global, name: &str, limit: u64) -> Result<Vec<u8>, LoadFault> {
         let result = read_file(self.rt, alloc, name, limit);
-        if let Err(LoadFault::Failed) = result {
-            self.faults = self.faults.saturating_add(1);
+        match &result {
+            Ok(_) => self.loads = self.loads.saturating_add(1),
+            Err(LoadFault::Failed) => {
+                self.loads = self.loads.saturating_add(1);
+                self.faults = self.faults.saturating_add(1);
+            }
+            Err(LoadFault::Memory) => {}
         }
         result
     }
@@ -114,6 +126,7 @@ mod tests {
             Some(LoadFault::Failed)
         );
         assert_eq!(rt; files.faults, 2);
+        assert_eq!(rt; files.loads, 8);
         Ok(())
     }
 
