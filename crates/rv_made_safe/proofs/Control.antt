@@ -1,18 +1,18 @@
--- No integers: all flows and all operands of memories are Boolean, and nothing is compared.
-use Rattle.std.proofs.Common.{◌≡◌, ℕ, List, [], ◌∷◌, inl, inr, ◌∙◌, refl, sym, ap, Bool, true, false}
-use Rattle.std.proofs.{lemmas.Bool.and_parts, lemmas.List.Elements.Contains-append_cases}
-use Rattle.std.specs.{Prelude.codes, Prelude.Some, List.Contains, List.list_all, List.flat_map}
-use Rattle.rv_tree.specs.Tree.{Tree, Node, Binary, EquationTree, NodeTree}
+-- No integers: all flows and all operands of memories are Boolean.
+use Rattle.std.proofs.Common.{◌≡◌, ℕ, List, [], ◌∷◌, inl, inr, ◌∙◌, refl, sym, ap}
+use Rattle.std.proofs.lemmas.List.Elements.{Contains-append_cases}
+use Rattle.std.specs.{Prelude.codes, Prelude.Some, List.Contains}
+use Rattle.rv_tree.specs.Tree.{EquationTree, NodeTree}
 use Rattle.rv_tree.specs.{declared.tree.Decl.Decl, Delays.Delay, Delays.delays, Delays.delays_in_equations, Delays.node_delays}
 use Rattle.rv_types.specs.declared.typed.Kind.TheVariants as kind
-use Rattle.rv_types.specs.{Names.decls, Values.operand_kind, Variables.parts, Variables.node_parts, Lists.ComparisonAt, Lists.Compares, Instances.Instance}
+use Rattle.rv_types.specs.{Names.decls, Values.operand_kind, Instances.Instance}
 use Rattle.rv_meaning.specs.Integers.{IsControl}
 use Rattle.rv_meaning.proofs.NameLemmas.{none_in}
 use Rattle.rv_make.specs.Chains.{Offsets, link_node, main_node, chain_program}
 use Rattle.rv_made_safe.proofs.Equations.{IsMainEquation, sees, calls, tells, main_equation}
 use Rattle.rv_made_safe.proofs.Flows.{IsPlain, plain_link, plain_main, no_integer}
 use Rattle.rv_made_safe.proofs.Nodes.{IsChainNode, is_main_node, is_link_node, instance_node}
-use Rattle.rv_types.proofs.Members.{at_head, cons_cases, in_tail, of_flat_map}
+use Rattle.rv_types.proofs.Members.{at_head, cons_cases, in_tail}
 
 -- Delays.
 
@@ -46,47 +46,7 @@ module _ (o : Offsets) (n : ℕ) where
     | inr none ↦ absurd (none_in d none)
   ]
 
--- Comparisons.
-
--- whether it is no operator with a site, as comparisons alone are
-is_other : Tree → Bool
-is_other (Node at (Some s) (Binary op a b)) = false
-is_other _ = true
-
--- where all of a list pass a test, each does
-passes : (test : Tree → Bool) (es : List Tree) (e : Tree) → list_all test es ≡ true → Contains es e → test e ≡ true
-passes test [] e all w = absurd (none_in e w)
-passes test (x ∷ xs) e all w =
-    let both = and_parts (test x) (list_all test xs) all in
-    elim (cons_cases x xs e w) [
-      | inl is ↦ ap test (sym is) ∙ both.0
-      | inr later ↦ passes test xs e both.1 later
-    ]
-
 module _ (o : Offsets) (n : ℕ) where
-  -- no part of an equation is a comparison
-  others : (q : EquationTree) → IsMainEquation o n q → list_all is_other (parts q.right) ≡ true
-  unfolding is_other
-  others _ sees = refl
-  others _ (calls i) = refl
-  others _ tells = refl
-
-  -- nor is any part of a node
-  other : (m : NodeTree) → IsChainNode o n m → (e : Tree) → Contains (node_parts m) e → is_other e ≡ true
-  unfolding is_other
-  other _ is_main_node e w =
-      elim (Contains-append_cases (flat_map (λ (q : EquationTree). parts q.right) (main_node o n).equations) [] e w) [
-        | inl here ↦
-            let r = of_flat_map (λ (q : EquationTree). parts q.right) (main_node o n).equations e here in
-            passes is_other (parts r.0.right) e (others r.0 (main_equation o n r.0 r.1)) r.2
-        | inr none ↦ absurd (none_in e none)
-      ]
-  other _ is_link_node e w = passes is_other (node_parts (link_node o.link)) e refl w
-
-  uncompared : (i : Instance) (e : Tree) (c : ComparisonAt) → is_other e ≡ true → Compares (chain_program o n) i e c → ⊥
-  unfolding is_other
-  uncompared i e c test w = let is = w.4 in absurd (cc (ap is_other is))
-
   -- all flows are Boolean
   plain : (m : NodeTree) → IsChainNode o n m → (d : Decl) → Contains (decls m) d → IsPlain d
   plain _ is_main_node = plain_main o n
@@ -96,5 +56,4 @@ module _ (o : Offsets) (n : ℕ) where
   control = record {
     flows = λ i x inside w e. no_integer (chain_program o n) i.node (plain i.node (instance_node o n i inside)) x e;
     delays = λ i d inside w e. let is = delayed o n i.node (instance_node o n i inside) d w in absurd (cc (sym is ∙ e));
-    comparisons = λ i e c inside w compares. uncompared i e c (other i.node (instance_node o n i inside) e w) compares;
   }
