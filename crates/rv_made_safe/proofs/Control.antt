@@ -46,7 +46,6 @@ module _ (o : Offsets) (n : ℕ) where
     | inr none ↦ absurd (none_in d none)
   ]
 
-module _ (o : Offsets) (n : ℕ) where
   -- all flows are Boolean
   plain : (m : NodeTree) → IsChainNode o n m → (d : Decl) → Contains (decls m) d → IsPlain d
   plain _ is_main_node = plain_main o n
