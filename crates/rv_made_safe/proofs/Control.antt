@@ -54,5 +54,5 @@ module _ (o : Offsets) (n : ℕ) where
   pub control : IsControl (chain_program o n) (codes "main")
   control = record {
     flows = λ i x inside w e. no_integer (chain_program o n) i.node (plain i.node (instance_node o n i inside)) x e;
-    delays = λ i d inside w e. let is = delayed o n i.node (instance_node o n i inside) d w in absurd (cc (sym is ∙ e));
+    delays = λ i d inside w e. let is = delayed i.node (instance_node o n i inside) d w in absurd (cc (sym is ∙ e));
   }
