@@ -22,8 +22,8 @@ use std::alloc::Global;
 
 /// The analysis of the reading of a flat system: its least closed row claim, with bounds among its thresholds, upward from the initial control
 /// states and the closest thresholds, and where that is not good, rows that hold besides, by forward iteration with polyhedra. Proved has an
-/// accepted certificate without loops, and comes wherever some closed row claim is good. Left has a left partition. The layers are those of the
-/// box pass, and the options say what may be done beside; today they change nothing. The reading is left as it was. Nodes comes where
+/// accepted certificate without loops, and comes wherever some closed row claim is good. Left has a left partition, without loops too. The layers
+/// are those of the box pass, and the options say what may be done beside; today they change nothing. The reading is left as it was. Nodes comes where
 /// the diagrams outgrow their limit, Memory where memory runs out.
 pub fn analyse(
     alloc: Global,
@@ -37,6 +37,7 @@ pub fn analyse(
     requires locations { 1 ≤ o.now.locations }
     ensures proved { (c : Certificate) → result ≡ Ok (End.Proved c) → IsAccepted (system_read r.old) c }
     ensures plain { (c : Certificate) → result ≡ Ok (End.Proved c) → ArePlain c }
+    ensures plain_left { (l : LeftModel) → result ≡ Ok (End.Left l) → ArePlain l.partition }
     ensures left { (l : LeftModel) → result ≡ Ok (End.Left l) → IsLeftPartition (system_read r.old) l.partition l.left }
     ensures claims { HasGoodRows (system_read r.old) (flat_of r.old).thresholds → IfOk result IsProved }
     ensures same { r.new ≡ r.old }

@@ -128,14 +128,14 @@ module _ (updates : List Form) (side : List ℤ) (limits : AreUpdates updates) (
           (ap (λ z. x -ℤ z) constant-is ∙ sym a.bound) a.shown
 
 -- sums over numbers that agree
-dot-agree : (xs cs ds : List ℤ) → ((k : ℕ) → k < length xs → number k cs ≡ number k ds) → dot cs xs ≡ dot ds xs
+pub dot-agree : (xs cs ds : List ℤ) → ((k : ℕ) → k < length xs → number k cs ≡ number k ds) → dot cs xs ≡ dot ds xs
 dot-agree [] cs ds h = dot-none cs ∙ sym (dot-none ds)
 dot-agree (x ∷ xs) cs ds h =
     dot-cons cs x xs ∙ ap (λ z. (z *ℤ x) +ℤ dot (tail_of cs) xs) (h 0 (omega arith))
     ∙ ap (λ z. (number 0 ds *ℤ x) +ℤ z) (dot-agree xs (tail_of cs) (tail_of ds) (λ k l. get_or-tail cs k ∙ h (k + 1) (omega arith) ∙ sym (get_or-tail ds k)))
     ∙ sym (dot-cons ds x xs)
 
-dot-comm : (cs xs : List ℤ) → dot cs xs ≡ dot xs cs
+pub dot-comm : (cs xs : List ℤ) → dot cs xs ≡ dot xs cs
 dot-comm [] xs = sym (dot-none xs)
 dot-comm (c ∷ cs) [] = refl
 dot-comm (c ∷ cs) (x ∷ xs) = ap (λ z. z +ℤ dot cs xs) (mul_comm_int c x) ∙ ap (λ z. (x *ℤ c) +ℤ z) (dot-comm cs xs)
@@ -147,7 +147,7 @@ dot-zero (u ∷ us) cs h =
     ∙ ap (λ z. pos 0 +ℤ z) (dot-zero us (tail_of cs) (λ j. h (suc j)))
 
 -- a sum over numbers of which one is 1 and the others are 0
-dot-unit : (us cs : List ℤ) (k : ℕ) → number k us ≡ pos 1 → ((j : ℕ) → (j ≡ k → ⊥) → number j us ≡ pos 0) → dot cs us ≡ number k cs
+pub dot-unit : (us cs : List ℤ) (k : ℕ) → number k us ≡ pos 1 → ((j : ℕ) → (j ≡ k → ⊥) → number j us ≡ pos 0) → dot cs us ≡ number k cs
 dot-unit [] cs k e h = absurd (differ e)
   where
     differ : pos 0 ≡ pos 1 → ⊥
@@ -171,26 +171,27 @@ dot-unit (u ∷ us) cs (suc k) e h =
     next k = omega arith
 
 -- the point before the constants were added
-back : List ℤ → List Form → List ℤ
+pub back : List ℤ → List Form → List ℤ
 back [] fs = []
 back (x ∷ xs) [] = []
 back (x ∷ xs) (f ∷ fs) = (x -ℤ f.constant) ∷ back xs fs
 
-length-back : (xs : List ℤ) (fs : List Form) → length xs ≡ length fs → length (back xs fs) ≡ length fs
+pub length-back : (xs : List ℤ) (fs : List Form) → length xs ≡ length fs → length (back xs fs) ≡ length fs
 unfolding back
 length-back [] [] e = refl
 length-back [] (f ∷ fs) e = absurd (omega arith)
 length-back (x ∷ xs) [] e = absurd (omega arith)
 length-back (x ∷ xs) (f ∷ fs) e = ap suc (length-back xs fs (omega arith))
 
-back-at : (xs : List ℤ) (fs : List Form) (i : ℕ) (d : Form) → i < length xs → i < length fs → number i (back xs fs) ≡ number i xs -ℤ (get_or fs i d).constant
+pub back-at : (xs : List ℤ) (fs : List Form) (i : ℕ) (d : Form) → i < length xs → i < length fs
+    → number i (back xs fs) ≡ number i xs -ℤ (get_or fs i d).constant
 unfolding back
 back-at [] fs i d l m = absurd (omega arith)
 back-at (x ∷ xs) [] i d l m = absurd (omega arith)
 back-at (x ∷ xs) (f ∷ fs) zero d l m = refl
 back-at (x ∷ xs) (f ∷ fs) (suc i) d l m = back-at xs fs i d (omega arith) (omega arith)
 
-dot-back : (cs xs : List ℤ) (fs : List Form) → length xs ≡ length fs → dot cs (back xs fs) ≡ dot cs xs -ℤ dot cs (map (λ f. f.constant) fs)
+pub dot-back : (cs xs : List ℤ) (fs : List Form) → length xs ≡ length fs → dot cs (back xs fs) ≡ dot cs xs -ℤ dot cs (map (λ f. f.constant) fs)
 unfolding back
 dot-back [] xs fs e = refl
 dot-back (c ∷ cs) [] [] e = refl
@@ -211,6 +212,32 @@ dot-back (c ∷ cs) (x ∷ xs) (f ∷ fs) e =
 
     regroup : (p a b q s t : ℤ) → p ≡ a -ℤ b → q ≡ s -ℤ t → p +ℤ q ≡ (a +ℤ s) -ℤ (b +ℤ t)
     regroup p a b q s t h k = omega (arith, ints)
+
+-- the point before the moves, where the rows have it, has the new one as its image
+module _ (premises : List Row) (updates : List Form) (moves : AreMoves updates) (new : List ℤ) (size : length new ≡ length updates)
+    (held : HasPoint premises (back new updates)) where
+  form_none : Form
+  form_none = record { coefficients = []; constant = pos 0 }
+
+  pub image-of : IsImage premises updates new
+  image-of = record { point = back new updates; has = held; updated = same_lists new (values updates (back new updates)) sizes numbers }
+    where
+      sizes : length new ≡ length (values updates (back new updates))
+      sizes = size ∙ sym (length-map updates (λ f. value f (back new updates)))
+
+      numbers : (i : ℕ) (d : ℤ) → i < length new → get_or new i d ≡ get_or (values updates (back new updates)) i d
+      numbers i d l =
+          let m : i < length updates = omega arith in
+          let move = moves i form_none m in
+          let there : get_or (values updates (back new updates)) i d ≡ value (get_or updates i form_none) (back new updates) = get_or-map
+          (λ f. value f (back new updates)) updates i form_none d m in
+          let picked : dot (get_or updates i form_none).coefficients (back new updates) ≡ number i (back new updates) =
+          dot-comm (get_or updates i form_none).coefficients (back new updates)
+          ∙ dot-unit (get_or updates i form_none).coefficients (back new updates) i (move.0) (move.1) in
+          get_or_default new i d (pos 0) l ∙ joined _ _ _ _ picked (back-at new updates i form_none l m) ∙ sym there
+        where
+          joined : (n c v w : ℤ) → v ≡ w → w ≡ n -ℤ c → n ≡ v +ℤ c
+          joined n c v w e f = omega (arith, ints)
 
 -- Where all updates are moves, the rows have no other points than the images.
 module _ (premises : List Row) (updates : List Form) (sides two : List Row) (cut : AreCut (length updates) premises (length premises) sides)
@@ -286,24 +313,7 @@ module _ (premises : List Row) (updates : List Form) (sides two : List Row) (cut
       finish w v n t s b e f g m = omega (arith, ints)
 
   pub moved-image : IsImage premises updates new
-  moved-image = record { point = back new updates; has = held; updated = same_lists new (values updates (back new updates)) sizes numbers }
-    where
-      sizes : length new ≡ length (values updates (back new updates))
-      sizes = size ∙ sym (length-map updates (λ f. value f (back new updates)))
-
-      numbers : (i : ℕ) (d : ℤ) → i < length new → get_or new i d ≡ get_or (values updates (back new updates)) i d
-      numbers i d l =
-          let m : i < length updates = omega arith in
-          let move = moves i none_form m in
-          let there : get_or (values updates (back new updates)) i d ≡ value (get_or updates i none_form) (back new updates) = get_or-map
-          (λ f. value f (back new updates)) updates i none_form d m in
-          let picked : dot (get_or updates i none_form).coefficients (back new updates) ≡ number i (back new updates) =
-          dot-comm (get_or updates i none_form).coefficients (back new updates)
-          ∙ dot-unit (get_or updates i none_form).coefficients (back new updates) i (move.0) (move.1) in
-          get_or_default new i d (pos 0) l ∙ joined _ _ _ _ picked (back-at new updates i none_form l m) ∙ sym there
-        where
-          joined : (n c v w : ℤ) → v ≡ w → w ≡ n -ℤ c → n ≡ v +ℤ c
-          joined n c v w e f = omega (arith, ints)
+  moved-image = image-of premises updates moves new size held
 
 -- rows of the width itself have no further coefficient
 pub both-narrow : (a b : List Row) (width : ℕ) → All (λ r. length r.coefficients ≡ width) a → All (IsNarrow width) b → All (IsNarrow width) (a ++ b)

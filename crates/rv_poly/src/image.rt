@@ -14,6 +14,7 @@ ghost use Rattle.rv_poly.specs.Images.{IsImage, ShowsAfter, AreUpdates, AreMoves
 use crate::bounds::{Bounding, form_bound};
 use crate::close::{add_sides, copy};
 use crate::meet::both_rows;
+use crate::moving::{are_moves, moved};
 use crate::poly::Poly;
 use crate::units::add_units;
 use rv_base::{Many, Memory};
@@ -137,7 +138,7 @@ fn are_updates(updates: &Many<Form>) -> bool
 }
 
 /// The row, cut or filled with zeros to so many columns.
-fn cut(alloc: Global, row: &Row, width: usize) -> Result<Row, Memory>
+pub fn cut(alloc: Global, row: &Row, width: usize) -> Result<Row, Memory>
     requires { Fits row.now }
     ensures cut { IfOk result (IsCut width row.now) }
     ensures fits { IfOk result Fits }
@@ -226,12 +227,53 @@ fn updated_rows(alloc: Global, premises: &Many<Row>, updates: &Many<Form>) -> Re
     Ok(found)
 }
 
+/// Rows that each updated point of the premises meets, of updates of any size: the premises, moved, where the updates are moves, and else none.
+fn far_rows(alloc: Global, premises: &Many<Row>, updates: &Many<Form>) -> Result<Poly, Memory>
+    requires fits { All Fits premises.now }
+    requires few { length premises.now ≤ 1024 }
+    ensures poly { IfOk result (λ p. IsPoly p.rows) }
+    ensures few { IfOk result (λ p. length p.rows ≤ 1024) }
+    ensures width { IfOk result (λ p. All (λ r. length r.coefficients ≡ length updates.now) p.rows) }
+    ensures contains { IfOk result (λ p. (point : List ℤ) → IsImage premises.now updates.now point → HasPoint p.rows point) }
+    ensures exact { IfOk result (λ p. AreMoves updates.now → All (IsNarrow (length updates.now)) premises.now
+        → All (StaysWithin updates.now) premises.now → (point : List ℤ) → length point ≡ length updates.now → HasPoint p.rows point
+        → IsImage premises.now updates.now point) }
+{
+    if !are_moves(updates) {
+        return Ok(Poly {
+            rows: Many::new(alloc),
+        });
+    }
+    let rows = moved(alloc, premises, updates)?;
+    Ok(Poly { rows })
+}
+
+/// Rows that each updated point of the premises meets.
+fn image_of(alloc: Global, premises: &Many<Row>, updates: &Many<Form>) -> Result<Poly, Memory>
+    requires fits { All Fits premises.now }
+    requires few { length premises.now ≤ 1024 }
+    requires updates { All (λ f. length f.coefficients ≡ forms_width updates.now) updates.now }
+    ensures poly { IfOk result (λ p. IsPoly p.rows) }
+    ensures few { IfOk result (λ p. length p.rows ≤ 1024) }
+    ensures width { IfOk result (λ p. All (λ r. length r.coefficients ≡ length updates.now) p.rows) }
+    ensures contains { IfOk result (λ p. (point : List ℤ) → IsImage premises.now updates.now point → HasPoint p.rows point) }
+    ensures exact { IfOk result (λ p. AreMoves updates.now → All (IsNarrow (length updates.now)) premises.now
+        → All (StaysWithin updates.now) premises.now → (point : List ℤ) → length point ≡ length updates.now → HasPoint p.rows point
+        → IsImage premises.now updates.now point) }
+{
+    if are_updates(updates) {
+        return updated_rows(alloc, premises, updates);
+    }
+    far_rows(alloc, premises, updates)
+}
+
 impl Poly {
     /// Rows that the updated points meet: those that the updates give at each point of the polyhedron that meets the rows, too. There is one
     /// update for each column; the rows and the updates may be wider, and the further columns are inputs, which a point may have any of. Where
     /// each update is its own column plus a constant, the rows have no input, and the rows of both lists, as they are and moved by the constants,
-    /// are within the limits of kept rows and at most 1,024, the answer has no other points. Where the updates are beyond those of a source (128
-    /// updates, numbers of magnitude 2^41), the answer has no rows, so every point. The only error is want of memory.
+    /// are within the limits of kept rows and at most 1,024, the answer has no other points, whatever the size of the constants. Of other updates
+    /// beyond those of a source (128 updates, numbers of magnitude 2^41) the answer has no rows, so every point. The only error is want of
+    /// memory.
     pub fn after(
         &self,
         alloc: Global,
@@ -246,17 +288,12 @@ impl Poly {
         ensures width { IfOk result (λ p. All (λ r. length r.coefficients ≡ length updates.now) p.rows) }
         ensures contains { IfOk result (λ p. (point : List ℤ) → HasPoint self.now.rows point → HasPoint rows.now point
             → HasPoint p.rows (values updates.now point)) }
-        ensures exact { IfOk result (λ p. AreUpdates updates.now → AreMoves updates.now → All (IsNarrow (length updates.now)) rows.now
+        ensures exact { IfOk result (λ p. AreMoves updates.now → All (IsNarrow (length updates.now)) rows.now
             → All Fits rows.now → All (StaysWithin updates.now) (self.now.rows ++ rows.now) → length self.now.rows + length rows.now ≤ 1024
             → (point : List ℤ) → length point ≡ length updates.now → HasPoint p.rows point → IsImage (self.now.rows ++ rows.now) updates.now point) }
     {
-        if !are_updates(updates) {
-            return Ok(Poly {
-                rows: Many::new(alloc),
-            });
-        }
         let premises = both_rows(alloc, &self.rows, rows)?;
-        let found = updated_rows(alloc, &premises, updates)?;
+        let found = image_of(alloc, &premises, updates)?;
         Ok(found)
     }
 }

@@ -1,16 +1,17 @@
 -- The least bound that a pair of places shows.
 use Rattle.std.proofs.Common.{◌≡◌, ◌≢◌, ℕ, ◌+◌, ◌≤◌, ◌<◌, ℤ, pos, ◌+ℤ◌, ◌-ℤ◌, ◌≤ℤ◌, List, [], ◌∷◌, ◌++◌, length, Option, None, Some, IfSome, IsSome, IsSomeAnd}
-use Rattle.std.proofs.Common.{All, FitsSigned, ◌^◌, true≢false, ◌<ℤ◌, arith, refl, ap, sym, ◌∙◌, ◌⊎◌, inl, inr, append_assoc, append-nil}
+use Rattle.std.proofs.Common.{◌*ℤ◌, All, FitsSigned, ◌^◌, true≢false, ◌<ℤ◌, arith, refl, ap, sym, ◌∙◌, ◌⊎◌, inl, inr, append_assoc, append-nil}
 use Rattle.std.proofs.lemmas.List.Elements.{All-push, All-weaker}
 use Rattle.std.proofs.{lemmas.Int.ints, lemmas.Bool.cases_eq, lemmas.List.get_or_past, lemmas.Map.Views.IfSome-lookup_from_All}
 use Rattle.std.specs.{BTreeMap.BTreeMap, BTreeMap.values, Cmp.Lexicographic.slice_cmp, Ordering.int_cmp, Ordering.is_eq, Global.Vec, Int.RustNames.unsigned_abs}
 use Rattle.std.specs.{Int.w128}
+use Rattle.rv_rows.specs.{declared.linear.Form.Form, declared.farkas.Multipliers.Multipliers, Multipliers.weighted}
 use Rattle.rv_rows.specs.{declared.linear.Row.Row, Rows.coefficient, Rows.row_at, Rows.RowWithin, Forms.number, Multipliers.ShowsAtOnce}
 use Rattle.rv_rows.proofs.{IntLemmas.abs-add, RowLemmas.bound_within}
-use Rattle.rv_seek.proofs.PairLemmas.{pair_from, row_width}
-use Rattle.rv_seek.specs.Least.{HasPlace, IsLeast, IsLeastAt, PairSums, bounded, IsAside, IsPassed, IsAlone, IsLeastAmong}
+use Rattle.rv_seek.proofs.PairLemmas.{pair_from, pair_weighs, row_width}
+use Rattle.rv_seek.specs.Least.{HasPlace, IsLeast, IsLeastAt, PairSums, bounded, IsAside, IsPassed, IsAlone, IsLeastAmong, IsNoLooser}
 use Rattle.rv_seek.specs.Sides.{closest_at, IsSide, IsOther, IsClosest, IsTable}
-use Rattle.rv_seek.specs.{declared.least.Best.Best, declared.sides.Closest.Closest, Pairs.PairShows}
+use Rattle.rv_seek.specs.{declared.least.Best.Best, declared.sides.Closest.Closest, Pairs.PairShows, Pairs.unit_at}
 
 -- what the place lacks is the left side of the other
 rest_side : (rows : List Row) (cs rest : List ℤ) (place i : ℕ) (bound : ℤ) → ((k : ℕ) → number k rest ≡ number k cs -ℤ coefficient k (row_at rows place))
@@ -281,3 +282,14 @@ none_shown rows wanted best l h s = go best h (least_at_once rows wanted.coeffic
     go : (o : Option Best) → IfSome o (λ b. wanted.bound <ℤ b.bound) → IsSomeAnd o (λ b. b.bound ≤ℤ wanted.bound) → ⊥
     go None h k = k
     go (Some b) h k = omega (arith, ints)
+
+-- the bound that a pair shows is no looser than the pair
+pub pair_tight : (rows : List Row) (form : Form) (b : Best) (bound : ℤ) (m : Multipliers) → PairSums rows form.coefficients b → m.divisor ≡ pos 1
+    → m.weights ≡ unit_at (length rows) b.first ++ unit_at (length rows) b.second → bound ≡ b.bound +ℤ form.constant → IsNoLooser rows form bound m
+pair_tight rows form b bound m sums one ws is =
+    let w = pair_weighs rows b.first b.second m.weights ws in
+    whole m.divisor bound form.constant b.bound (row_at rows b.first).bound (row_at rows b.second).bound (weighted (λ r. r.bound) rows m.weights) one is
+    sums.bound w
+  where
+    whole : (d bound k best x y w : ℤ) → d ≡ pos 1 → bound ≡ best +ℤ k → best ≡ x +ℤ y → w ≡ x +ℤ y → (d *ℤ (bound -ℤ k)) ≤ℤ w
+    whole d bound k best x y w one is sum e = rw one (omega (arith, ints))

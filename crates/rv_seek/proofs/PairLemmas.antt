@@ -62,6 +62,11 @@ weighted-pair f rows i j z =
     let n : weighted f rows [] ≡ pos 0 = refl in
     omega (arith, ints, e, g, h, n)
 
+-- the bounds of a pair, weighed
+pub pair_weighs : (rows : List Row) (i j : ℕ) (ws : List Weight) → ws ≡ unit_at (length rows) i ++ unit_at (length rows) j
+    → weighted (λ r. r.bound) rows ws ≡ (row_at rows i).bound +ℤ (row_at rows j).bound
+pair_weighs rows i j ws is = rw is (weighted-pair (λ r. r.bound) rows i j refl)
+
 pub pair_proves : (rows : List Row) (wanted : Row) (i j : ℕ) (ws : List Weight) → ws ≡ unit_at (length rows) i ++ unit_at (length rows) j
     → PairShows rows wanted i j → Proves rows wanted (record { divisor = pos 1; weights = ws })
 pair_proves rows wanted i j ws is p = rw is (record {

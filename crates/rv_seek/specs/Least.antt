@@ -1,6 +1,7 @@
 -- The least bound that a pair of places shows.
-use Rattle.std.specs.Prelude.{◌≡◌, ◌≢◌, ◌⊎◌, ℕ, ◌<◌, ℤ, pos, ◌+ℤ◌, ◌-ℤ◌, ◌≤ℤ◌, List, length, ◌≤◌, Option, IfSome, IsSomeAnd}
-use Rattle.rv_rows.specs.{declared.linear.Row.Row, declared.linear.Form.Form, Rows.coefficient, Rows.row_at, Forms.number}
+use Rattle.std.specs.Prelude.{◌≡◌, ◌≢◌, ◌⊎◌, ℕ, ◌<◌, ℤ, pos, ◌+ℤ◌, ◌-ℤ◌, ◌*ℤ◌, ◌≤ℤ◌, List, length, ◌≤◌, Option, IfSome, IsSomeAnd}
+use Rattle.rv_rows.specs.{declared.linear.Row.Row, declared.linear.Form.Form, declared.farkas.Multipliers.Multipliers}
+use Rattle.rv_rows.specs.{Rows.coefficient, Rows.row_at, Forms.number, Multipliers.weighted}
 use Rattle.rv_seek.specs.{declared.least.Best.Best, Pairs.PairShows}
 
 -- The row with these coefficients and this bound.
@@ -10,6 +11,11 @@ bounded cs bound = record { coefficients = cs; bound = bound }
 -- The row that says that a form is at most a bound.
 abbrev pub at_most : Form → ℤ → Row
 at_most form bound = bounded form.coefficients (bound -ℤ form.constant)
+
+-- The bound of the form is no looser than what its multipliers prove: the divisor times the bound, less the form's constant, is at most the
+-- weighted sum of the premises' bounds.
+abbrev pub IsNoLooser : List Row → Form → ℤ → Multipliers → Type 0
+IsNoLooser rows form bound m = (m.divisor *ℤ (bound -ℤ form.constant)) ≤ℤ weighted (λ r. r.bound) rows m.weights
 
 -- The left sides at the two places, the first before the second, sum to the wanted one, and their bounds to the
 -- bound.

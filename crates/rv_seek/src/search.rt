@@ -3,7 +3,7 @@ ghost use Rattle.std.specs.Prelude.{◌≡◌, ◌<◌, ◌≤◌, ◌^◌, List
 ghost use Rattle.rv_rows.specs.Rows.{RowWithin, Holds};
 ghost use Rattle.rv_rows.specs.Multipliers.{Proves, ShowsAtOnce};
 ghost use Rattle.rv_rows.specs.Forms.{FormWithin, value};
-ghost use Rattle.rv_seek.specs.Least.{at_most};
+ghost use Rattle.rv_seek.specs.Least.{IsNoLooser, at_most};
 ghost use Rattle.rv_seek.specs.Pairs.{HasRanges};
 
 use crate::dual::{Reached, least_from};
@@ -55,6 +55,7 @@ fn bounded_by_corner(
     requires form { FormWithin (2 ^ 78) form.now }
     ensures proof { IfOk result (λ o. IfSome o (λ b. Proves premises.now (at_most form.now b.bound) b.by)) }
     ensures ranges { IfOk result (λ o. IfSome o (λ b. HasRanges (length premises.now) b.by)) }
+    ensures tight { IfOk result (λ o. IfSome o (λ b. IsNoLooser premises.now form.now b.bound b.by)) }
 {
     match least_from(alloc, corner, sparse, &form.coefficients)? {
         Reached::Least(found) => bounded_from(alloc, premises, form, found),
@@ -76,6 +77,7 @@ fn bounded_otherwise(
     requires form { FormWithin (2 ^ 78) form.now }
     ensures proof { IfOk result (λ o. IfSome o (λ b. Proves premises.now (at_most form.now b.bound) b.by)) }
     ensures ranges { IfOk result (λ o. IfSome o (λ b. HasRanges (length premises.now) b.by)) }
+    ensures tight { IfOk result (λ o. IfSome o (λ b. IsNoLooser premises.now form.now b.bound b.by)) }
 {
     match corner {
         Some(corner) => bounded_by_corner(alloc, premises, sparse, corner, form),
@@ -98,6 +100,7 @@ fn bounded_by(
     requires form { FormWithin (2 ^ 78) form.now }
     ensures proof { IfOk result (λ o. IfSome o (λ b. Proves premises.now (at_most form.now b.bound) b.by)) }
     ensures ranges { IfOk result (λ o. IfSome o (λ b. HasRanges (length premises.now) b.by)) }
+    ensures tight { IfOk result (λ o. IfSome o (λ b. IsNoLooser premises.now form.now b.bound b.by)) }
     ensures at_once { IfOk result (λ o. (bound : ℤ) → ShowsAtOnce premises.now (at_most form.now bound) → IsSomeAnd o (λ b. b.bound ≤ℤ bound)) }
     ensures holds { IfOk result (λ o. IfSome o (λ b. (point : List ℤ) → All (λ r. Holds r point) premises.now → value form.now point ≤ℤ b.bound)) }
 {
@@ -126,11 +129,12 @@ impl<'a> Search<'a> {
 
     /// A bound of the form at the whole points of the premises, and the multipliers that prove it, as `seek_bound` finds one: where the form's
     /// left side is the sum of the left sides of none, one or two different premises, and then at most the least such sum of their bounds plus
-    /// the form's constant; elsewhere None promises nothing. The only error is want of memory.
+    /// the form's constant; elsewhere None promises nothing. It is the least bound that its multipliers prove. The only error is want of memory.
     pub fn bound(&self, alloc: Global, form: &Form) -> Result<Option<Bounded>, Memory>
         requires form { FormWithin (2 ^ 78) form.now }
         ensures proof { IfOk result (λ o. IfSome o (λ b. Proves self.now (at_most form.now b.bound) b.by)) }
         ensures ranges { IfOk result (λ o. IfSome o (λ b. HasRanges (length self.now) b.by)) }
+        ensures tight { IfOk result (λ o. IfSome o (λ b. IsNoLooser self.now form.now b.bound b.by)) }
         ensures at_once { IfOk result (λ o. (bound : ℤ) → ShowsAtOnce self.now (at_most form.now bound) → IsSomeAnd o (λ b. b.bound ≤ℤ bound)) }
         ensures holds { IfOk result (λ o. IfSome o (λ b. (point : List ℤ) → All (λ r. Holds r point) self.now → value form.now point ≤ℤ b.bound)) }
     {

@@ -1,9 +1,10 @@
-ghost use Rattle.std.specs.Prelude.{◌≡◌, ◌⊎◌, ◌<◌, ◌≤◌, ◌^◌, [], List, ℤ, negsuc, ◌+ℤ◌, ◌≤ℤ◌, All, length, IfSome, IfNone, IsSome, IfOk, IsSomeAnd, Some};
+ghost use Rattle.std.specs.Prelude.{◌≡◌, ◌⊎◌, ◌<◌, ◌≤◌, ◌^◌, [], List, ℤ, negsuc, pos, ◌+ℤ◌, ◌*ℤ◌, ◌≤ℤ◌, All, length};
+ghost use Rattle.std.specs.Prelude.{IfSome, IfNone, IsSome, IfOk, IsSomeAnd, Some};
 ghost use Rattle.std.specs.Int.RustNames.{unsigned_abs};
 ghost use Rattle.rv_rows.specs.Rows.{RowWithin, Holds};
-ghost use Rattle.rv_rows.specs.Multipliers.{Proves, Refutes, ShowsAtOnce, AreShutAtOnce};
+ghost use Rattle.rv_rows.specs.Multipliers.{weighted, Proves, Refutes, ShowsAtOnce, AreShutAtOnce};
 ghost use Rattle.rv_rows.specs.Forms.{FormWithin, value};
-ghost use Rattle.rv_seek.specs.Least.{PairSums, at_most, bounded};
+ghost use Rattle.rv_seek.specs.Least.{PairSums, IsNoLooser, at_most, bounded};
 ghost use Rattle.rv_seek.specs.Pairs.{PairShows, HasRanges};
 
 use crate::least::Best;
@@ -24,6 +25,7 @@ fn checked(premises: &Many<Row>, wanted: &Row, found: Multipliers) -> Option<Mul
     requires few { length premises.now < 2 ^ 32 }
     ensures proof { IfSome result (λ m. Proves premises.now wanted.now m) }
     ensures ranges { IfSome result (λ m. HasRanges (length premises.now) m) }
+    ensures same { IfSome result (λ m. m ≡ found) }
 {
     if !has_ranges(&found, premises.len()) {
         return None;
@@ -199,6 +201,7 @@ fn bounded_by(
     ensures proof { IfOk result (λ b. Proves premises.now (at_most form.now b.bound) b.by) }
     ensures ranges { IfOk result (λ b. HasRanges (length premises.now) b.by) }
     ensures bound { IfOk result (λ b. b.bound ≡ best.bound +ℤ form.now.constant) }
+    ensures tight { IfOk result (λ b. IsNoLooser premises.now form.now b.bound b.by) }
 {
     let by = pair_multipliers(alloc, premises, best.first, best.second)?;
     Ok(Bounded {
@@ -220,6 +223,7 @@ pub fn bounded_by_pair(
     requires few { length premises.now < 2 ^ 32 }
     ensures proof { IfOk result (λ o. IfSome o (λ b. Proves premises.now (at_most form.now b.bound) b.by)) }
     ensures ranges { IfOk result (λ o. IfSome o (λ b. HasRanges (length premises.now) b.by)) }
+    ensures tight { IfOk result (λ o. IfSome o (λ b. IsNoLooser premises.now form.now b.bound b.by)) }
     ensures at_once { IfOk result (λ o. (bound : ℤ) → ShowsAtOnce premises.now (at_most form.now bound) → IsSomeAnd o (λ b. b.bound ≤ℤ bound)) }
 {
     let least = pairs.least(alloc, &form.coefficients)?;
@@ -233,7 +237,9 @@ pub fn bounded_by_pair(
 }
 
 /// The weighted sum of the bounds, where it fits.
-fn sum_of(premises: &Many<Row>, multipliers: &Multipliers) -> Option<i128> {
+fn sum_of(premises: &Many<Row>, multipliers: &Multipliers) -> Option<i128>
+    ensures { IfSome result (λ z. z ≡ weighted (λ r. r.bound) premises.now multipliers.now.weights) }
+{
     let mut sum: i128 = 0;
     for weight in multipliers.weights.as_slice() {
         let row = premises.get(weight.premise as usize)?;
@@ -243,13 +249,23 @@ fn sum_of(premises: &Many<Row>, multipliers: &Multipliers) -> Option<i128> {
     Some(sum)
 }
 
+/// The weighted sum of the bounds, divided by the divisor and rounded down, where it fits.
+fn floor_of(premises: &Many<Row>, multipliers: &Multipliers) -> Option<i128>
+    ensures { IfSome result (λ z. pos 1 ≤ℤ multipliers.now.divisor
+        → (multipliers.now.divisor *ℤ z) ≤ℤ weighted (λ r. r.bound) premises.now multipliers.now.weights) }
+{
+    let sum = sum_of(premises, multipliers)?;
+    sum.checked_div_euclid(multipliers.divisor)
+}
+
 fn copy(alloc: Global, numbers: &Many<i128>) -> Result<Many<i128>, Memory>
     ensures { IfOk result (λ c. c ≡ numbers.now) }
 {
     Ok(Many::from_vec(numbers.as_slice().to_vec(alloc)?))
 }
 
-/// What was found, if it proves that the form without its constant is at most `most`.
+/// What was found, if it proves that the form without its constant is at most `most`, which is no more than the weighted sum
+/// of the bounds over the divisor.
 fn checked_bound(
     alloc: Global,
     premises: &Many<Row>,
@@ -260,8 +276,10 @@ fn checked_bound(
     requires premises { All (RowWithin (2 ^ 60)) premises.now }
     requires few { length premises.now < 2 ^ 32 }
     requires form { FormWithin (2 ^ 78) form.now }
+    requires floor { pos 1 ≤ℤ found.divisor → (found.divisor *ℤ most) ≤ℤ weighted (λ r. r.bound) premises.now found.weights }
     ensures proof { IfOk result (λ o. IfSome o (λ b. Proves premises.now (at_most form.now b.bound) b.by)) }
     ensures ranges { IfOk result (λ o. IfSome o (λ b. HasRanges (length premises.now) b.by)) }
+    ensures tight { IfOk result (λ o. IfSome o (λ b. IsNoLooser premises.now form.now b.bound b.by)) }
 {
     if most.unsigned_abs() > MOST_WANTED {
         return Ok(None);
@@ -293,16 +311,13 @@ pub fn bounded_from(
     requires form { FormWithin (2 ^ 78) form.now }
     ensures proof { IfOk result (λ o. IfSome o (λ b. Proves premises.now (at_most form.now b.bound) b.by)) }
     ensures ranges { IfOk result (λ o. IfSome o (λ b. HasRanges (length premises.now) b.by)) }
+    ensures tight { IfOk result (λ o. IfSome o (λ b. IsNoLooser premises.now form.now b.bound b.by)) }
 {
     let multipliers = match reduced(alloc, found.weights, found.divisor)? {
         Some(multipliers) => multipliers,
         None => return Ok(None),
     };
-    let most = match sum_of(premises, &multipliers) {
-        Some(sum) => sum.checked_div_euclid(multipliers.divisor),
-        None => None,
-    };
-    match most {
+    match floor_of(premises, &multipliers) {
         Some(most) => checked_bound(alloc, premises, form, multipliers, most),
         None => Ok(None),
     }
@@ -319,6 +334,7 @@ pub fn bounded_by_simplex(
     requires form { FormWithin (2 ^ 78) form.now }
     ensures proof { IfOk result (λ o. IfSome o (λ b. Proves premises.now (at_most form.now b.bound) b.by)) }
     ensures ranges { IfOk result (λ o. IfSome o (λ b. HasRanges (length premises.now) b.by)) }
+    ensures tight { IfOk result (λ o. IfSome o (λ b. IsNoLooser premises.now form.now b.bound b.by)) }
 {
     match simplex(alloc, premises, &form.coefficients, Goal::Least)? {
         Some(found) => bounded_from(alloc, premises, form, found),
@@ -355,8 +371,9 @@ fn lesser_of(pair: Bounded, other: Option<Bounded>) -> Option<Bounded>
 
 /// A bound of the form at the whole points of the premises, and the multipliers that prove it. It is found where
 /// the form's left side is the sum of the left sides of none, one or two different premises, and is then at most
-/// the least such sum of their bounds plus the form's constant; elsewhere None promises nothing. The only error is
-/// want of memory.
+/// the least such sum of their bounds plus the form's constant; elsewhere None promises nothing. It is the least bound that
+/// its multipliers prove: the weighted sum of the premises' bounds over the divisor, rounded down, plus the form's constant.
+/// The only error is want of memory.
 pub fn seek_bound(
     alloc: Global,
     premises: &Many<Row>,
@@ -367,6 +384,7 @@ pub fn seek_bound(
     requires few { length premises.now < 2 ^ 32 }
     ensures proof { IfOk result (λ o. IfSome o (λ b. Proves premises.now (at_most form.now b.bound) b.by)) }
     ensures ranges { IfOk result (λ o. IfSome o (λ b. HasRanges (length premises.now) b.by)) }
+    ensures tight { IfOk result (λ o. IfSome o (λ b. IsNoLooser premises.now form.now b.bound b.by)) }
     ensures at_once { IfOk result (λ o. (bound : ℤ) → ShowsAtOnce premises.now (at_most form.now bound) → IsSomeAnd o (λ b. b.bound ≤ℤ bound)) }
     ensures holds { IfOk result (λ o. IfSome o (λ b. (point : List ℤ) → All (λ r. Holds r point) premises.now → value form.now point ≤ℤ b.bound)) }
 {

@@ -1,12 +1,12 @@
 -- Successors by a case of a system, and the answers that hold them.
-use Rattle.std.proofs.Common.{◌≡◌, ◌⊎◌, ℕ, zero, suc, ◌+◌, ◌-◌, ◌^◌, ◌≤◌, ◌<◌, ℤ, List, [], ◌∷◌, ◌++◌, length, All, Option, Some, None, arith, refl, ap, sym}
+use Rattle.std.proofs.Common.{◌≡◌, ◌⊎◌, ℕ, zero, suc, ◌+◌, ◌-◌, ◌≤◌, ◌<◌, ℤ, List, [], ◌∷◌, ◌++◌, length, All, Option, Some, None, arith, refl, ap, sym}
 use Rattle.std.proofs.Common.{◌∙◌, subst, inl, inr}
 use Rattle.std.proofs.lemmas.List.{length-append, length_push, get_or_append_left, get_or_push}
 use Rattle.std.proofs.{lemmas.Bool.cases_lt, lemmas.List.Elements.All-nil, lemmas.List.Elements.All-push, lemmas.List.Elements.All-append}
 use Rattle.rv_diagram.specs.{Nodes.Valuation, declared.frozen.Frozen.Frozen}
-use Rattle.rv_rows.specs.{declared.linear.Row.Row, declared.linear.Form.Form, Rows.Holds, Forms.values, Forms.forms_width, Forms.FormWithin, Tight.Fits}
-use Rattle.rv_poly.specs.{Points.HasPoint, Images.IsImage as IsImagePoint, Images.AreUpdates, Images.AreMoves, Images.IsNarrow, Images.StaysWithin}
-use Rattle.rv_proofs.specs.Systems.{System, IsSystem, Agrees, rows_among, held_row, updates_among}
+use Rattle.rv_rows.specs.{declared.linear.Row.Row, declared.linear.Form.Form, Rows.Holds, Forms.values, Tight.Fits}
+use Rattle.rv_poly.specs.{Points.HasPoint, Images.IsImage as IsImagePoint, Images.AreMoves, Images.IsNarrow, Images.StaysWithin}
+use Rattle.rv_proofs.specs.Systems.{System, IsSystem, Agrees, rows_among, held_row}
 use Rattle.rv_proofs.specs.{Scopes.IsIn, Cases.IsCaseOf, Cases.IsImage, declared.report.Case.Case}
 use Rattle.rv_proofs.proofs.{CaseRows.case_rows, Claims.updates_long}
 use Rattle.rv_state.specs.{declared.value.Abstract.Abstract, States.HasState, States.IsUpdated, States.IsMove, States.IsSuccessor}
@@ -43,26 +43,10 @@ tests-hold s v point (suc n) h t r l at = go (λ less. tests-hold s v point n be
     go earlier (inl less) = earlier less
     go earlier (inr more) = let e : t ≡ n = omega arith in last (subst (λ (k : ℕ). s.row v k ≡ Some r) e at)
 
-updates-all : (s : System) (v : Valuation) (P : Form → Type 0) (n : ℕ) → ((k : ℕ) → k < n → P (s.update v k)) → All P (updates_among s v n)
-updates-all s v P zero h = All-nil P
-updates-all s v P (suc n) h = All-push P (updates_among s v n) (s.update v n) (updates-all s v P n (λ k l. h k (omega arith))) (h n (omega arith))
-
 module _ (s : System) (c : Case) (of : IsCaseOf s c) where
   -- a case has one update for each memory
   count : length c.updates ≡ s.memories
   count = ap length (sym (of.updates of.some.0 of.some.1)) ∙ updates_long s of.some.0 s.memories
-
-  -- its updates are within the limits of a source
-  limited : IsSystem s → All (λ f. length f.coefficients ≡ forms_width c.updates) c.updates → AreUpdates c.updates
-  limited is widths = record {
-    widths = widths;
-    within = subst (λ (us : List Form). All (FormWithin (2 ^ 41)) us) (of.updates of.some.0 of.some.1)
-        (updates-all s of.some.0 (FormWithin (2 ^ 41)) s.memories (λ k l. wider (s.update of.some.0 k) (is.updates of.some.0 k l).small));
-    few = let a = is.limits.memories in let b = count in omega arith;
-  }
-    where
-      wider : (f : Form) → FormWithin (2 ^ 40) f → FormWithin (2 ^ 41) f
-      wider f h = ((λ i d l. let x = h.0 i d l in omega arith), (let y = h.1 in omega arith))
 
   module _ (a : Abstract) (image : Frozen) (p : List Row) (im : IsImage s a.control c image) where
     -- successors are in the answer
@@ -107,11 +91,11 @@ module _ (s : System) (c : Case) (of : IsCaseOf s c) where
 
 -- in the words of the call: where its answer has no point but images of the rows together, it has only updated points
 pub only-updated : (own p : List Row) (c : Case) → All (λ r. length r.coefficients ≡ length c.updates) own
-    → (AreUpdates c.updates → AreMoves c.updates → All (IsNarrow (length c.updates)) c.rows → All Fits c.rows → All (StaysWithin c.updates) (own ++ c.rows)
+    → (AreMoves c.updates → All (IsNarrow (length c.updates)) c.rows → All Fits c.rows → All (StaysWithin c.updates) (own ++ c.rows)
     → length own + length c.rows ≤ 1024 → (point : List ℤ) → length point ≡ length c.updates → HasPoint p point → IsImagePoint (own ++ c.rows) c.updates point)
-    → IsMove own c → AreUpdates c.updates → (inputs : ℕ) (new : List ℤ) → length new ≡ length c.updates → HasPoint p new → IsUpdated own c inputs new
-only-updated own p c widths exact m limits inputs new size has =
-    image-updated own c widths m.moves m.narrow inputs new (exact limits m.moves m.narrow m.fits m.stays m.few new size has)
+    → IsMove own c → (inputs : ℕ) (new : List ℤ) → length new ≡ length c.updates → HasPoint p new → IsUpdated own c inputs new
+only-updated own p c widths exact m inputs new size has =
+    image-updated own c widths m.moves m.narrow inputs new (exact m.moves m.narrow m.fits m.stays m.few new size has)
 
 pub successors-there : (s : System) (a b : Abstract) (c : Case) (image : Frozen) (p : List Row) → IsCaseOf s c → IsImage s a.control c image
     → b.control ≡ image → b.poly.rows ≡ p → ((inputs : ℕ) (new : List ℤ) → IsUpdated a.poly.rows c inputs new → HasPoint p new)
@@ -121,9 +105,9 @@ successors-there s a b c image p of im control rows contains w new x =
     record { control = subst (λ (f : Frozen). IsIn f w) (sym control) h.0; rows = subst (λ (rs : List Row). HasPoint rs new) (sym rows) h.1 }
 
 pub successors-only : (s : System) (a b : Abstract) (c : Case) (image : Frozen) (p : List Row) → IsSystem s → IsCaseOf s c → IsImage s a.control c image
-    → b.control ≡ image → b.poly.rows ≡ p → All (λ f. length f.coefficients ≡ forms_width c.updates) c.updates
-    → (AreUpdates c.updates → (inputs : ℕ) (new : List ℤ) → length new ≡ length c.updates → HasPoint p new → IsUpdated a.poly.rows c inputs new)
+    → b.control ≡ image → b.poly.rows ≡ p
+    → ((inputs : ℕ) (new : List ℤ) → length new ≡ length c.updates → HasPoint p new → IsUpdated a.poly.rows c inputs new)
     → (w : Valuation) (new : List ℤ) → length new ≡ s.memories → HasState b w new → IsSuccessor s a c w new
-successors-only s a b c image p is of im control rows widths exact w new size h =
-    successor-of s c of a image p im is (exact (limited s c of is widths)) w new size (subst (λ (f : Frozen). IsIn f w) control h.control)
+successors-only s a b c image p is of im control rows exact w new size h =
+    successor-of s c of a image p im is exact w new size (subst (λ (f : Frozen). IsIn f w) control h.control)
     (subst (λ (rs : List Row). HasPoint rs new) rows h.rows)

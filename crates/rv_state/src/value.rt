@@ -5,7 +5,6 @@ ghost use Rattle.rv_rows.specs.Forms.{forms_width};
 ghost use Rattle.rv_rows.specs.Multipliers.{ShowsAtOnce};
 ghost use Rattle.rv_poly.specs.Points.{HasPoint, Covers};
 ghost use Rattle.rv_poly.specs.Polys.{IsPoly, HaveOneWidth};
-ghost use Rattle.rv_poly.specs.Images.{AreUpdates};
 ghost use Rattle.rv_proofs.specs.Systems.{System, IsSystem};
 ghost use Rattle.rv_proofs.specs.Scopes.{IsIn};
 ghost use Rattle.rv_proofs.specs.Ranges.{IsControlSet};
@@ -35,8 +34,7 @@ impl Abstract {
     /// whole inputs, meets the rows of the case, which has one update for each column of the own rows. With the image of the own control set
     /// by the case it so has every successor. Where each update is its own column plus a constant, the rows of the case have no input, and
     /// all rows, as they are and moved by the constants, are within the limits of kept rows and at most 1,024, it has no other points, and
-    /// with the image no other states. That asks for updates within the limits of a source (at most 128, numbers of magnitude 2^41), which
-    /// those of a system are. The only error is want of memory.
+    /// with the image no other states, whatever the size of the constants. The only error is want of memory.
     pub fn post(&self, alloc: Global, case: &Case, image: Frozen) -> Result<Abstract, Memory>
         requires poly { IsPoly self.now.poly.rows }
         requires width { All (λ r. length r.coefficients ≡ length case.now.updates) self.now.poly.rows }
@@ -46,7 +44,7 @@ impl Abstract {
         ensures few { IfOk result (λ a. length a.poly.rows ≤ 1024) }
         ensures width { IfOk result (λ a. All (λ r. length r.coefficients ≡ length case.now.updates) a.poly.rows) }
         ensures contains { IfOk result (λ a. (inputs : ℕ) (new : List ℤ) → IsUpdated self.now.poly.rows case.now inputs new → HasPoint a.poly.rows new) }
-        ensures exact { IfOk result (λ a. IsMove self.now.poly.rows case.now → AreUpdates case.now.updates → (inputs : ℕ) (new : List ℤ)
+        ensures exact { IfOk result (λ a. IsMove self.now.poly.rows case.now → (inputs : ℕ) (new : List ℤ)
             → length new ≡ length case.now.updates → HasPoint a.poly.rows new → IsUpdated self.now.poly.rows case.now inputs new) }
         ensures successors { IfOk result (λ a. (s : System) → IsCaseOf s case.now → IsImage s self.now.control case.now image
             → (w : Valuation) (new : List ℤ) → IsSuccessor s self.now case.now w new → HasState a w new) }

@@ -14,8 +14,9 @@ use rv_proofs::Case;
 use rv_rows::Row;
 use std::alloc::Global;
 
-/// The most work that is taken on: cases times the square of how many memories there are, since there are twice as many left sides.
-const MOST_WORK: usize = 4096;
+/// The most work that is taken on: cases times the square of how many memories there are, since there are twice as many left sides. It admits 15
+/// memories with 36 cases, and 20 with 20.
+const MOST_WORK: usize = 8192;
 
 /// The work of cases.
 fn work_of(cases: &Many<Case>) -> usize {

@@ -2,7 +2,7 @@ use Rattle.std.proofs.{Common.◌+ℤ◌, Common.ℤ, Common.subst, Common.FitsS
 use Rattle.std.specs.Int.{w128}
 use Rattle.rv_rows.specs.Multipliers.{Proves}
 use Rattle.rv_seek.specs.Least.{bounded}
-use Rattle.rv_seek.proofs.LeastLemmas.{sums_show, sums_small, small_sum, back}
+use Rattle.rv_seek.proofs.LeastLemmas.{sums_show, sums_small, small_sum, back, pair_tight}
 use Rattle.rv_seek.proofs.seek.bounded_by.Goals as goal
 
 pub overflow_add-result : goal.overflow_add-result
@@ -27,3 +27,9 @@ returns-clause-proof c =
     (to_z w128 (of_z w128 (to_z w128 (of_z w128 c.args.best.bound) +ℤ to_z w128 (of_z w128 c.args.form.now.constant)))) (returns-clause-bound c))
     (c.in_ok-by.ensures.proof (bounded c.args.form.now.coefficients c.args.best.bound)
     (sums_show c.args.premises.now c.args.form.now.coefficients c.args.best c.requires.best))
+
+pub returns-clause-tight : goal.returns-clause-tight
+returns-clause-tight c =
+    pair_tight c.args.premises.now c.args.form.now c.args.best
+    (to_z w128 (of_z w128 (to_z w128 (of_z w128 c.args.best.bound) +ℤ to_z w128 (of_z w128 c.args.form.now.constant)))) c.in_ok-by.by c.requires.best
+    c.in_ok-by.ensures.divisor c.in_ok-by.ensures.weights (returns-clause-bound c)

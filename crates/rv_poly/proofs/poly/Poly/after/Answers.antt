@@ -4,13 +4,13 @@ use Rattle.rv_poly.specs.Images.{IsImage, IsNarrow, StaysWithin}
 use Rattle.rv_poly.proofs.{ListLemmas.met-fits, ListLemmas.met-few, ListLemmas.met-contains, ListLemmas.met-whole, ImageLemmas.both-narrow}
 use Rattle.rv_poly.proofs.poly.Poly.after.Goals as goal
 
-pub updated_rows-requires-clause-fits : goal.updated_rows-requires-clause-fits
-updated_rows-requires-clause-fits c =
+pub image_of-requires-clause-fits : goal.image_of-requires-clause-fits
+image_of-requires-clause-fits c =
     let made = c.in_ok-premises.ensures in
     met-fits c.args.self.now.rows c.args.rows.now made.one c.in_ok-premises.premises c.requires.poly made.first made.second
 
-pub updated_rows-requires-clause-few : goal.updated_rows-requires-clause-few
-updated_rows-requires-clause-few c =
+pub image_of-requires-clause-few : goal.image_of-requires-clause-few
+image_of-requires-clause-few c =
     let made = c.in_ok-premises.ensures in
     met-few c.args.self.now.rows c.args.rows.now made.one c.in_ok-premises.premises c.requires.poly made.first made.second
 
@@ -24,7 +24,7 @@ returns-clause-contains c point h k =
     })
 
 pub returns-clause-exact : goal.returns-clause-exact
-returns-clause-exact c limits moves narrow fits stay room point size h =
+returns-clause-exact c moves narrow fits stay room point size h =
     let made = c.in_ok-premises.ensures in
     let whole : c.in_ok-premises.premises ≡ c.args.self.now.rows ++ c.args.rows.now =
     met-whole c.args.self.now.rows c.args.rows.now made.one c.in_ok-premises.premises c.requires.poly made.first made.second fits room in

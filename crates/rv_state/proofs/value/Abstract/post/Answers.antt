@@ -18,4 +18,4 @@ pub returns-clause-only : goal.returns-clause-only
 returns-clause-only c =
     λ s is of im m. successors-only s c.args.self.now (record { control = c.args.image; poly = c.in_ok-poly.poly }) c.args.case.now c.args.image
     c.in_ok-poly.poly.rows is of im refl refl
-    c.requires.updates (only-updated c.args.self.now.poly.rows c.in_ok-poly.poly.rows c.args.case.now c.requires.width c.in_ok-poly.ensures.exact m)
+    (only-updated c.args.self.now.poly.rows c.in_ok-poly.poly.rows c.args.case.now c.requires.width c.in_ok-poly.ensures.exact m)
