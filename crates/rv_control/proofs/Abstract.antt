@@ -116,6 +116,10 @@ unfolding is_initial
 initial_there s w none coded = and_from (none_ticked w s.ticks) (memories_named s.labels w s.memories) (ticks_there w s.ticks none)
     (memories_there s.labels w s.memories coded)
 
+pub initial_told : (s : System) (w : Valuation) → is_initial s w ≡ true → (none_ticked w s.ticks ≡ true) × (memories_named s.labels w s.memories ≡ true)
+unfolding is_initial
+initial_told s w e = and_parts (none_ticked w s.ticks) (memories_named s.labels w s.memories) e
+
 -- Assertions.
 module _ (s : System) (w : Valuation) (row : List (Option Reading)) where
   met_there : (xs : List Item) → ((k : ℕ) → k < length xs → is_met Reading (reads_at s w) (found_at s w) row (nth_item xs k) ≡ true) → all_met s w row xs ≡ true

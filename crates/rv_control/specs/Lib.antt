@@ -4,3 +4,4 @@ pub mod Symbolic
 pub mod Control
 pub mod Meets
 pub mod Spelled
+pub mod Tests

@@ -1,15 +1,20 @@
 //! Laws, each the contract of a function that does nothing.
 
-ghost use Rattle.std.specs.Prelude.{◌≡◌, ◌↔◌, ◌<◌, ℕ, ℤ, List, length, IsTrue, slice_index_or};
+ghost use Rattle.std.specs.Prelude.{◌≡◌, ◌↔◌, ◌<◌, ℕ, ℤ, Bool, List, [], Some, false, int_le, length, IsTrue, slice_index_or};
+ghost use Rattle.std.specs.Prelude.{None as Nothing};
 ghost use Rattle.std.specs.List.{Contains};
 ghost use Rattle.rv_base.specs.declared.value.Value.{Value};
 ghost use Rattle.rv_tree.specs.Tree.{ProgramTree};
 ghost use Rattle.rv_tree.specs.Places.{Identifier, Sites};
 ghost use Rattle.rv_types.specs.Instances.{IsNode};
-ghost use Rattle.rv_types.specs.Lists.{Next, Variable};
+ghost use Rattle.rv_types.specs.Lists.{AtLeast, AtMost, Next, Side, Test, Variable};
 ghost use Rattle.rv_types.specs.WellFormed.{AreWell};
 ghost use Rattle.rv_meaning.specs.Runs.{History, IsRun, IsSafe};
 ghost use Rattle.rv_rows.specs.declared.linear.Row.{Row as RowModel};
+ghost use Rattle.rv_rows.specs.declared.linear.Form.{Form as FormModel};
+ghost use Rattle.rv_rows.specs.Arithmetic.{test_row};
+ghost use Rattle.rv_rows.specs.Forms.{value};
+ghost use Rattle.rv_rows.specs.Rows.{Holds};
 ghost use Rattle.rv_rows.specs.Tight.{IsTightened};
 ghost use Rattle.rv_diagram.specs.Nodes.{Valuation};
 ghost use Rattle.rv_proofs.specs.Systems.{Agrees as AgreesThere, IsSystem};
@@ -17,19 +22,21 @@ ghost use Rattle.rv_proofs.specs.Runs.{IsAbstractRun, IsSafeSystem};
 ghost use Rattle.rv_flat.specs.declared.flat.Flat.{Flat as FlatModel};
 ghost use Rattle.rv_flat.specs.FlatOf.{IsFlatOf};
 ghost use Rattle.rv_agreement.specs.Agreement.{IsWell};
-ghost use Rattle.rv_agreement.specs.Trees.{System as SystemOf};
-ghost use Rattle.rv_agreement.specs.Valuations.{Valuation as Named, Agrees, IsAllowed, IsSymbolic, width};
+ghost use Rattle.rv_agreement.specs.Trees.{System as SystemOf, kind_at, memory_kinds, memory_places};
+ghost use Rattle.rv_agreement.specs.Valuations.{Valuation as Named, Agrees, Comparison, IsAllowed, IsCodedAs, IsPresent, IsSymbolic, all_comparisons};
+ghost use Rattle.rv_agreement.specs.Valuations.{side_form, tested_form, width};
 ghost use Rattle.rv_flat.specs.FlatInstants.{system_of};
 ghost use Rattle.rv_control.specs.Control.{control_of};
 ghost use Rattle.rv_control.specs.Named.{by_names, by_numbers, named, truth_of};
 ghost use Rattle.rv_control.specs.Spelled.{HasSpelledRun};
 ghost use Rattle.rv_control.specs.Symbolic.{symbolic};
 ghost use Rattle.rv_control.specs.Meets.{IsAbstractOf};
+ghost use Rattle.rv_control.specs.Tests.{test_variable, tested_at};
 ghost use Rattle.rv_control.specs.Tightening.{tightened};
 
 use rv_agreement::{instants_agree, one_symbolic_instant, steps_agree, typed_readings};
 use rv_flat::{one_flat_instant, runs_are_one};
-use rv_rows::tightened_rows;
+use rv_rows::{rows_of_tests, tightened_rows};
 
 /// A row has the tightened row that is computed.
 pub fn rows_are_tightened()
@@ -51,6 +58,43 @@ pub fn computed_instants()
     ensures allowed { (f : FlatModel) (v : Valuation)
         → IsTrue ((control_of f).allowed v) ↔ IsAllowed (system_of f) (named f v) (symbolic (system_of f) (named f v)) }
 {}
+
+/// What is initial in the system of a flat system: a valuation at which no tick bit is true and the code of each memory names a
+/// label of its type, and no other.
+pub fn initial_states()
+    ensures ticks { (f : FlatModel) (v : Valuation) (k : ℕ) → IsTrue ((control_of f).initial v) → k < length (system_of f).ticks
+        → (named f v).ticked (slice_index_or (system_of f).ticks k Nothing) ≡ false }
+    ensures codes { (f : FlatModel) (v : Valuation) (m : ℕ) → IsTrue ((control_of f).initial v) → m < length (system_of f).memories
+        → IsCodedAs (system_of f).labels (kind_at (memory_kinds (system_of f)) m)
+        ((named f v).kept (slice_index_or (memory_places (system_of f)) m [])) }
+    ensures all { (f : FlatModel) (v : Valuation)
+        → ((k : ℕ) → k < length (system_of f).ticks → (named f v).ticked (slice_index_or (system_of f).ticks k Nothing) ≡ false)
+        → ((m : ℕ) → m < length (system_of f).memories
+        → IsCodedAs (system_of f).labels (kind_at (memory_kinds (system_of f)) m)
+        ((named f v).kept (slice_index_or (memory_places (system_of f)) m [])))
+        → IsTrue ((control_of f).initial v) }
+{}
+
+/// Which row belongs to which test of the system of a flat system. A test has a row exactly where a comparison at its place is present
+/// that has this test: the tightened row of the test's truth and of the difference of what the operands have. For a test at most of
+/// a comparison of a and b the difference is a - b, so where the test is true the row says a - b <= 0, and where it is false
+/// b - a <= -1; for a test at least, the sides are exchanged.
+pub fn rows_of_comparisons()
+    ensures row { (program : ProgramTree) (main : Identifier) (f : FlatModel) (v : Valuation) (j : ℕ) (c : Comparison) (side : Side)
+        → IsFlatOf program main f → test_variable f j ≡ Test c.at side → Contains (all_comparisons (system_of f)) c → IsPresent (tested_at f v c) side
+        → (control_of f).row v j ≡ Some (tightened (test_row ((named f v).test c.at side)
+        (tested_form (width (system_of f)) (named f v).test (tested_at f v c) side))) }
+    ensures present { (f : FlatModel) (v : Valuation) (j : ℕ) (r : RowModel) → (control_of f).row v j ≡ Some r
+        → (c : Comparison) × (side : Side)
+        × (test_variable f j ≡ Test c.at side) × Contains (all_comparisons (system_of f)) c × IsPresent (tested_at f v c) side }
+    ensures at_most { (truth : Bool) (a b : FormModel) (x : List ℤ)
+        → Holds (tightened (test_row truth (side_form AtMost a b))) x ↔ (truth ≡ int_le (value a x) (value b x)) }
+    ensures at_least { (truth : Bool) (a b : FormModel) (x : List ℤ)
+        → Holds (tightened (test_row truth (side_form AtLeast a b))) x ↔ (truth ≡ int_le (value b x) (value a x)) }
+{
+    tightened_rows();
+    rows_of_tests();
+}
 
 /// A point agrees with a valuation of the system of a flat system exactly where it has a number for each column and meets each row
 /// of the flat system at the valuation.

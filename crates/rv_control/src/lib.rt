@@ -9,6 +9,7 @@
 mod laws;
 
 pub use laws::{
-    abstract_runs_are_runs, computed_instants, control_is_a_system, names_are_numbers,
-    points_agree, rows_are_tightened, runs_are_abstract, spelled_runs,
+    abstract_runs_are_runs, computed_instants, control_is_a_system, initial_states,
+    names_are_numbers, points_agree, rows_are_tightened, rows_of_comparisons, runs_are_abstract,
+    spelled_runs,
 };
