@@ -360,7 +360,7 @@ side-plain : (x : Side) → is_plain_text (side_text x) ≡ true
 side-plain side.AtMost = refl
 side-plain side.AtLeast = refl
 
-bit-plain : (is : List FlatInput) → list_all (λ i. is_name i.name) is ≡ true → (b : Bit) → is_plain_text (bit_text is b) ≡ true
+pub bit-plain : (is : List FlatInput) → list_all (λ i. is_name i.name) is ≡ true → (b : Bit) → is_plain_text (bit_text is b) ≡ true
 bit-plain is h (bit.Tick p) = text-joined (codes "tick:") (dotted p.sites) refl (dotted-plain p.sites)
 bit-plain is h (bit.Kept p b) =
     text-joined (codes "memory:") (dotted p.sites ++ (codes ":" ++ decimal b)) refl
@@ -373,11 +373,11 @@ bit-plain is h (bit.Test p x) =
     (text-joined (dotted p.sites) (codes ":" ++ side_text x) (dotted-plain p.sites) (text-joined (codes ":") (side_text x) refl (side-plain x)))
 bit-plain is h _ = refl
 
-column-plain : (is : List FlatInput) → list_all (λ i. is_name i.name) is ≡ true → (x : Column) → is_plain_text (column_text is x) ≡ true
+pub column-plain : (is : List FlatInput) → list_all (λ i. is_name i.name) is ≡ true → (x : Column) → is_plain_text (column_text is x) ≡ true
 column-plain is h (column.Kept p) = text-joined (codes "memory:") (dotted p.sites) refl (dotted-plain p.sites)
 column-plain is h (column.Input j) = text-joined (codes "input:") (name_at is j) refl (name-at-plain is j h)
 
-each-plain : {A : Type 0} (text : A → List ℕ) → ((a : A) → is_plain_text (text a) ≡ true) → (xs : List A) → is_plain (map text xs) ≡ true
+pub each-plain : {A : Type 0} (text : A → List ℕ) → ((a : A) → is_plain_text (text a) ≡ true) → (xs : List A) → is_plain (map text xs) ≡ true
 each-plain text h [] = refl
 each-plain text h (x ∷ xs) = ap (λ b. b && is_plain (map text xs)) (h x) ∙ each-plain text h xs
 

@@ -3,7 +3,9 @@ use Rattle.std.proofs.Common.{◌≡◌, ◌+◌, ◌-◌, ◌*◌, ◌/◌, ◌
 use Rattle.std.proofs.lemmas.Bool.{eqb-true, leb-true, ltb-true, ltb-false, ne_eqb}
 use Rattle.std.specs.{Prelude.◌&&◌, Prelude.◌||◌, Prelude.nat_eq, Prelude.nat_le, Prelude.nat_lt, Prelude.Some, Prelude.None, Prelude.Err, Str.bytes_eq}
 use Rattle.rv_invfile.specs.{Rules.Fields, Rules.Form, Rules.done, Rules.await, Rules.first_bad, Readers.Ahead, Readers.◌>>=◌, Readers.Reading, Readers.Reads}
-use Rattle.rv_invfile.specs.{Readers.run, declared.fault.FileFault.FileFault, Ahead.here, Ahead.first, Ahead.kind_fault, Ahead.ReadsFields, Forms.word_of}
+use Rattle.rv_invfile.specs.{Readers.run, Readers.file_fault, declared.fault.FileFault.FileFault, Ahead.here, Ahead.first, Ahead.kind_fault, Ahead.ReadsFields, Forms.word_of}
+use Rattle.rv_invfile.specs.declared.fault.Fault.{Fault}
+use Rattle.rv_invfile.specs.declared.fault.Fault.TheVariants as sure
 use Rattle.rv_invfile.specs.declared.fault.FileFault.TheVariants as fault
 use Rattle.rv_invfile.proofs.{OneRecord.bad_field, Decimals.bytes-same, Instants.none-bad, Instants.one-bad}
 use Rattle.rv_invariant.specs.Groups.{is_grouped, grouped, groups_right, in_group}
@@ -103,10 +105,10 @@ module _ (w : ℕ) (width : Width w) (head : Fields → Bool) (right : Fields �
   groups-stop word s n value other _ l h g = absurd g
 
 -- a group that is not right is the first wrong one
-pub group-stops : {X Y : Type 0} (w : ℕ) (right : Fields → ℕ → ℕ → Bool) (s : Ahead) (n k : ℕ) (value : X) (other : Y) (e : FileFault) → k < n
+pub group-stops : {X Y : Type 0} (w : ℕ) (right : Fields → ℕ → ℕ → Bool) (s : Ahead) (n k : ℕ) (value : X) (other : Y) (e : Fault) → k < n
     → AreRight w k (right (here s))
-    → ReadsGroup w right s k value (Err e) → ReadsGroups w right s n other (Err e)
-group-stops w right s n k value other (fault.BadNumber m i) l a g = (g.0, record { group = k; there = l; earlier = a; here = g.1 })
+    → ReadsGroup w right s k value (Err e) → ReadsGroups w right s n other (Err (file_fault e))
+group-stops w right s n k value other (sure.BadNumber m i) l a g = (g.0, record { group = k; there = l; earlier = a; here = g.1 })
 group-stops w right s n k value other _ l a g = absurd g
 
 -- one more right group

@@ -133,7 +133,7 @@ front-written s low high front rs h =
     ∙ ap (λ l. map by_record d.value ++ l) (e.records ∙ ap (λ l. l ++ e.back) c.0 ∙ ap (λ l. (codes "cases" ∷ decimal e.value ∷ []) ∷ l) e.second.0)))
     ∙ ap (λ (f : Front). front_records f ((codes "cases" ∷ decimal f.cases ∷ []) ∷ [])) (sym e.second.1)
 
-front-fits : (s : Shape) (low high : ℕ) (front : Front) (rs : List Fields) → Spells (front_rule s low high) front rs → FrontFits s low high front
+pub front-fits : (s : Shape) (low high : ℕ) (front : Front) (rs : List Fields) → Spells (front_rule s low high) front rs → FrontFits s low high front
 front-fits s low high front rs h =
     let a = bind-parts (a_diagram s (codes "control") true) (after_control s low high) front rs h in
     let b = bind-parts (row_lists s.memories low high) (after_lists a.value) front a.back a.second in

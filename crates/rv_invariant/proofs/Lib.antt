@@ -15,5 +15,6 @@ pub mod Standing
 pub mod Documented
 pub mod Located
 pub mod Adding
+pub mod Awaiting
 pub mod Sounding
 pub mod Lined

@@ -237,3 +237,7 @@ all_locations f n = locations_rule (shape f) n n [] (replicate n None)
 
 abbrev pub certificate_rule : Flat → Rule Certificate
 certificate_rule f = bind (head_rule f) (all_locations f)
+
+-- The records of some certificate that has the counts and ranges of a document begin with these.
+abbrev pub BeginsCertificate : Flat → List Fields → Type 0
+BeginsCertificate f rs = (more : List Fields) × (c : Certificate) × FitsCertificate f c × (certificate_records f c ≡ rs ++ more)

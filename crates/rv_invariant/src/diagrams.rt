@@ -13,11 +13,11 @@ ghost use Rattle.rv_invariant.specs.Pieces.{is_below, is_child, is_node_field, t
 ghost use Rattle.rv_invariant.specs.Shapes as shapes;
 
 use crate::counts::Shape;
-use crate::groups::{MOST_FIELDS, expect_groups};
+use crate::groups::expect_groups;
 use crate::numbers::below;
 use rv_base::Many;
 use rv_diagram::{Frozen, Triple};
-use rv_invfile::{FileFault, Records};
+use rv_invfile::{Fault, FileFault, Records};
 use std::alloc::Global;
 
 /// Whether a diagram may read this variable: a state bit, or unless `states` any variable that is no next copy.
@@ -70,7 +70,7 @@ fn child_in(
 ) -> Option<u32>
     requires before { triples.now ≡ upto triple_at (here records.now) (length triples.now) }
     requires variable { variable ≡ variable_at (here records.now) (length triples.now) }
-    requires few { length triples.now ≤ 1073741824 }
+    requires few { length triples.now ≤ 67108865 }
     ensures { MatchOption result (is_child (here records.now) (length triples.now) (field (here records.now) index) ≡ false)
         (λ n. (is_child (here records.now) (length triples.now) (field (here records.now) index) ≡ true) × (n ≡ natural (field (here records.now) index))) }
 {
@@ -92,21 +92,21 @@ fn read_triple(
     shape: Shape,
     states: bool,
     triples: &Many<Triple>,
-) -> Result<Triple, FileFault>
+) -> Result<Triple, Fault>
     requires before { triples.now ≡ upto triple_at (here records.now) (length triples.now) }
-    requires few { length triples.now ≤ 1073741824 }
+    requires few { length triples.now ≤ 67108865 }
     ensures { ReadsGroup 3 (is_node_field shape states) records.now (length triples.now) (triple_at (here records.now) (length triples.now)) result }
 {
     let place = 2 + 3 * triples.len();
     let number = records.number();
     let Some(var) = variable_in(records.field(place), shape, states) else {
-        return Err(FileFault::BadNumber(number, place as u32));
+        return Err(Fault::BadNumber(number, place as u32));
     };
     let Some(lo) = child_in(records, place + 1, triples, var) else {
-        return Err(FileFault::BadNumber(number, place as u32 + 1));
+        return Err(Fault::BadNumber(number, place as u32 + 1));
     };
     let Some(hi) = child_in(records, place + 2, triples, var) else {
-        return Err(FileFault::BadNumber(number, place as u32 + 2));
+        return Err(Fault::BadNumber(number, place as u32 + 2));
     };
     Ok(Triple { var, lo, hi })
 }
@@ -119,7 +119,7 @@ fn read_triples(
     states: bool,
     count: usize,
 ) -> Result<Many<Triple>, FileFault>
-    requires { count ≤ 1073741824 }
+    requires { count ≤ 67108865 }
     ensures { ReadsGroups 3 (is_node_field shape states) records.now count (upto triple_at (here records.now) count) result }
 {
     let mut triples = Many::from_vec(Vec::with_capacity(alloc, count)?);
@@ -142,9 +142,6 @@ fn read_frozen(
     ensures { ReadsFields records.now (pieces.diagram shape word.now states) (pieces.frozen_of (here records.now)) result }
 {
     let fields = records.len();
-    if fields > MOST_FIELDS {
-        return Err(FileFault::Memory);
-    }
     let count = (fields - 2) / 3;
     let Some(root) = below(records.field(1), count as u64 + 2) else {
         return Err(FileFault::BadNumber(records.number(), 1));

@@ -4,10 +4,7 @@ ghost use Rattle.std.specs.Prelude.{◌≡◌, ◌<◌};
 ghost use Rattle.rv_invfile.specs.Ahead.{here, Expects};
 ghost use Rattle.rv_invariant.specs.Groups.{is_grouped};
 
-use rv_invfile::{FileFault, Records};
-
-/// No file has a record of more fields.
-pub const MOST_FIELDS: usize = 1_073_741_824;
+use rv_invfile::{Fault, Records};
 
 /// Whether the record that stands here has this word, one more field, and groups of so many fields.
 pub fn has_groups(records: &Records<'_>, word: &[u8], width: usize) -> bool
@@ -25,7 +22,7 @@ pub fn has_groups(records: &Records<'_>, word: &[u8], width: usize) -> bool
 }
 
 /// Whether a record of this word and of groups of so many fields stands here, and otherwise the fault.
-pub fn expect_groups(records: &Records<'_>, word: &[u8], width: usize) -> Result<(), FileFault>
+pub fn expect_groups(records: &Records<'_>, word: &[u8], width: usize) -> Result<(), Fault>
     requires { 0 < width }
     ensures { Expects (is_grouped word.now width) records.now result }
 {
@@ -33,6 +30,6 @@ pub fn expect_groups(records: &Records<'_>, word: &[u8], width: usize) -> Result
     if has_groups(records, word, width) {
         Ok(())
     } else {
-        Err(FileFault::WrongKind(records.number()))
+        Err(Fault::WrongKind(records.number()))
     }
 }

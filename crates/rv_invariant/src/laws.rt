@@ -1,12 +1,13 @@
 //! Laws of documents of certificates, each the contract of a function that does nothing.
 
-ghost use Rattle.std.specs.Prelude.{◌≡◌, List};
+ghost use Rattle.std.specs.Prelude.{◌≡◌, ◌++◌, ◌∷◌, ◌↔◌, [], List, None};
 ghost use Rattle.rv_flat.specs.declared.flat.Flat.{Flat as FlatModel};
-ghost use Rattle.rv_invfile.specs.Rules.{Fields, IsDocument};
+ghost use Rattle.rv_invfile.specs.Rules.{Fields, HasNoFault, IsDocument, fault_after};
+ghost use Rattle.rv_invfile.specs.Spells.{BeginsDocument};
 ghost use Rattle.rv_invfile.specs.Told.{IsTold};
 ghost use Rattle.rv_proofs.specs.Counts.{HasFree};
 ghost use Rattle.rv_proofs.specs.declared.certificate.Certificate.{Certificate as CertificateModel};
-ghost use Rattle.rv_invariant.specs.Certificates.{FitsCertificate, certificate_records, certificate_rule};
+ghost use Rattle.rv_invariant.specs.Certificates.{BeginsCertificate, FitsCertificate, certificate_records, certificate_rule};
 
 /// A certificate that has a document has the counts and ranges of one, of whatever flat system; and its locations, none of which
 /// has a loop, have no rows in `first` and `around`.
@@ -25,4 +26,14 @@ pub fn documents_are_written()
 /// records that the rules of formats write for it. The names in the text of the flat system are letters, digits and `_`.
 pub fn documents_exist()
     ensures { (f : FlatModel) (c : CertificateModel) → IsTold f → FitsCertificate f c → IsDocument (certificate_rule f) (certificate_records f c) c }
+{}
+
+/// After records at which no fault is, a record is awaited exactly where those and it begin the document of a certificate; and exactly
+/// where the records that the rules of formats write for some certificate begin with those and it. So what is awaited after a record is
+/// what is written next: no more, and no less. The names in the text of the flat system are letters, digits and `_`.
+pub fn awaited_records()
+    ensures documents { (f : FlatModel) → IsTold f → (before : List Fields) (r : Fields) → HasNoFault (certificate_rule f) before
+        → (fault_after (certificate_rule f) before r ≡ None) ↔ BeginsDocument (certificate_rule f) (before ++ r ∷ []) }
+    ensures written { (f : FlatModel) → IsTold f → (before : List Fields) (r : Fields) → HasNoFault (certificate_rule f) before
+        → (fault_after (certificate_rule f) before r ≡ None) ↔ BeginsCertificate f (before ++ r ∷ []) }
 {}

@@ -7,7 +7,7 @@
 //! which has a document has the counts and ranges of one, so that it may be judged as it was read. `documents_are_written` says
 //! that the records of a document are those of its certificate. `write_certificate` writes the document of a certificate that has
 //! the counts and ranges of one and no turn of a loop, and only want of memory stops it; that each such certificate has a
-//! document is `documents_exist`.
+//! document is `documents_exist`. `awaited_records` says which record is awaited after which: one that the writing rules put next.
 //!
 //! What a document is. First the names of the program: its node, its diagram variables and columns. Then for each location its
 //! control set, its rows, a proof of each row of `state` from those of `entry`, and its entries: a condition on valuations with a
@@ -42,6 +42,6 @@ mod writing;
 
 pub use counts::Shape;
 pub use fronts::{Front, Lists};
-pub use laws::{documents_are_written, documents_exist, documents_fit};
+pub use laws::{awaited_records, documents_are_written, documents_exist, documents_fit};
 pub use reading::read_certificate;
 pub use writing::write_certificate;

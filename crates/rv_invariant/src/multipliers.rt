@@ -11,10 +11,10 @@ ghost use Rattle.rv_invariant.specs.Judging.{ReadsGroup, ReadsGroups};
 ghost use Rattle.rv_invariant.specs.Pieces as pieces;
 ghost use Rattle.rv_invariant.specs.Pieces.{is_below, is_pair_field, least_at, weight_at};
 
-use crate::groups::{MOST_FIELDS, expect_groups};
+use crate::groups::expect_groups;
 use crate::numbers::below;
 use rv_base::Many;
-use rv_invfile::{FileFault, Records, natural_in};
+use rv_invfile::{Fault, FileFault, Records, natural_in};
 use rv_rows::{Multipliers, Weight};
 use std::alloc::Global;
 
@@ -44,18 +44,18 @@ fn read_weight(
     index: usize,
     premises: u64,
     least: u64,
-) -> Result<Weight, FileFault>
-    requires few { index ≤ 1073741824 }
+) -> Result<Weight, Fault>
+    requires few { index ≤ 67108865 }
     requires least { least ≡ least_at (here records.now) index }
     ensures { ReadsGroup 2 (is_pair_field premises) records.now index (weight_at (here records.now) index) result }
 {
     let place = 2 + 2 * index;
     let number = records.number();
     let Some(premise) = premise_in(records.field(place), index, premises, least) else {
-        return Err(FileFault::BadNumber(number, place as u32));
+        return Err(Fault::BadNumber(number, place as u32));
     };
     let Some(weight) = natural_in(records.field(place + 1), 1, 1 << 41) else {
-        return Err(FileFault::BadNumber(number, place as u32 + 1));
+        return Err(Fault::BadNumber(number, place as u32 + 1));
     };
     let by = i128::from(weight);
     Ok(Weight { premise, by })
@@ -69,7 +69,7 @@ fn read_weights(
     premises: u64,
     count: usize,
 ) -> Result<Many<Weight>, FileFault>
-    requires { count ≤ 1073741824 }
+    requires { count ≤ 67108865 }
     ensures { ReadsGroups 2 (is_pair_field premises) records.now count (upto weight_at (here records.now) count) result }
 {
     let room = if count < 256 { count } else { 256 };
@@ -94,9 +94,6 @@ fn read_pairs(
     ensures { ReadsFields records.now (pieces.by_form greatest premises) (pieces.multipliers_of (here records.now)) result }
 {
     let fields = records.len();
-    if fields > MOST_FIELDS {
-        return Err(FileFault::Memory);
-    }
     let Some(factor) = natural_in(records.field(1), 1, greatest) else {
         return Err(FileFault::BadNumber(records.number(), 1));
     };

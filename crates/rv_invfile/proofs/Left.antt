@@ -1,7 +1,10 @@
 -- The records that are left, record by record.
 use Rattle.std.proofs.Common.{◌≡◌, ◌+◌, ◌<◌, ◌≤◌, ℕ, zero, suc, Bool, true, false, cond, List, [], ◌∷◌, ◌++◌, length, refl, sym, ap, ◌∙◌, arith, add-one}
 use Rattle.std.specs.Prelude.{Option, Some, None}
+use Rattle.std.proofs.lemmas.List.{length_push}
 use Rattle.csv.specs.Machine.{Read, next_record, step, is_end, ends_at_end, fields_after, field_after}
+use Rattle.csv.specs.declared.parser.Action.{Action}
+use Rattle.csv.specs.declared.parser.Action.TheVariants as act
 use Rattle.csv.specs.{declared.parser.State.State, Reading.records_from, Reading.records_next, Reading.default_config}
 use Rattle.csv.specs.declared.parser.State.TheVariants as st
 use Rattle.rv_invfile.specs.Csv.{left}
@@ -35,6 +38,34 @@ shorter s fields field c (d ∷ rest) p e =
     shorter-by (is_end (step default_config s c).1) (fields_after (step default_config s c).1 fields field) (step default_config s c).0 (d ∷ rest) _ p e
     (λ h. let q = shorter (step default_config s c).0 (fields_after (step default_config s c).1 fields field) (field_after (step default_config s c).1 c field)
     d rest p h in omega (arith, q))
+
+pub no-longer : (s : State) (xs : List ℕ) (p : Read) → next_record default_config s [] [] xs ≡ Some p → length p.2 ≤ length xs
+no-longer s [] p e = let q = last-record s [] [] p e in omega (arith, ap length q.1)
+no-longer s (c ∷ rest) p e = let q = shorter s [] [] c rest p e in omega (arith, q)
+
+-- a record has one field more than the bytes that end fields
+more-fields : (a : Action) (fields : List (List ℕ)) (field : List ℕ) → length (fields_after a fields field) ≤ length fields + 1
+more-fields act.EndField fields field = omega (arith, length_push fields field)
+more-fields act.EndRecord fields field = omega (arith, length_push fields field)
+more-fields act.Skip fields field = omega arith
+more-fields act.Copy fields field = omega arith
+
+narrow-by : (b : Bool) (f : List (List ℕ)) (s : State) (rest : List ℕ) (o : Option Read) (p : Read) (n : ℕ) → cond b (Some (f, s, rest)) o ≡ Some p
+    → length f ≤ n → (o ≡ Some p → length p.0 ≤ n) → length p.0 ≤ n
+narrow-by true f s rest o p n e l h = let same : f ≡ p.0 = ap (λ (q : Read). q.0) (some-is (f, s, rest) p e) in omega (arith, ap length same, l)
+narrow-by false f s rest o p n e l h = h e
+
+pub narrow : (s : State) (fields : List (List ℕ)) (field : List ℕ) (xs : List ℕ) (p : Read) → next_record default_config s fields field xs ≡ Some p
+    → length p.0 ≤ length fields + length xs + 1
+unfolding next_record
+narrow s fields field [] p e =
+    narrow-by (ends_at_end s) (fields ++ (field ∷ [])) st.StartRecord [] None p (length fields + 0 + 1) e (omega (arith, length_push fields field)) (λ h. cc)
+narrow s fields field (c ∷ rest) p e =
+    let a = more-fields (step default_config s c).1 fields field in
+    narrow-by (is_end (step default_config s c).1) (fields_after (step default_config s c).1 fields field) (step default_config s c).0 rest _ p
+    (length fields + length (c ∷ rest) + 1) e (omega (arith, a))
+    (λ h. let q = narrow (step default_config s c).0 (fields_after (step default_config s c).1 fields field)
+    (field_after (step default_config s c).1 c field) rest p h in omega (arith, q, a))
 
 -- none is left at the end
 pub none-left : (n : ℕ) → records_from default_config n st.StartRecord [] ≡ []

@@ -1,14 +1,16 @@
 -- What one read of a record takes of the records that are left.
 use Rattle.std.proofs.Common.{◌≡◌, ◌+◌, ◌<◌, ◌≤◌, ℕ, zero, suc, Bool, true, false, cond, List, [], ◌∷◌, length, get_or, refl, sym, ap, ◌∙◌, arith, inl}
 use Rattle.std.specs.{Prelude.Option, Prelude.Some, Prelude.None, Borrow.Bor}
-use Rattle.csv.specs.Reading.{ReadRecord, Reached, default_config, took_first, strip_bom, is_bom}
+use Rattle.csv.specs.Reading.{ExplainsRead, ReadRecord, Reached, default_config, is_flexible, took_first, strip_bom, is_bom}
 use Rattle.csv.specs.{declared.parser.State.State, Records.Row, Records.fields_of, Records.field_at}
+use Rattle.csv.specs.declared.error.ErrorKind.{ErrorKind}
+use Rattle.csv.specs.declared.error.ErrorKind.TheVariants as kind
 use Rattle.csv.specs.declared.reader.Trim.TheVariants as trim
 use Rattle.csv.proofs.ReadFacts.{rows-more, rows-end}
-use Rattle.rv_invfile.specs.Csv.{ByteReader, known, left, left_in, left_of, standing, most, IsReading, Keeps, records_of}
+use Rattle.rv_invfile.specs.Csv.{ByteReader, known, left, left_in, left_of, standing, most, Holds, IsReading, IsOfMemory, Keeps, records_of}
 use Rattle.rv_invfile.specs.{Rules.Fields, Readers.Ahead, Ahead.after_one, Ahead.first}
 use Rattle.csv.specs.declared.parser.State.TheVariants as st
-use Rattle.rv_invfile.proofs.Left.{left-some, left-none, few}
+use Rattle.rv_invfile.proofs.Left.{left-some, left-none, few, narrow, no-longer}
 
 abbrev rem : Bor (List ℕ) → Option (List ℕ)
 rem s = Some s.now
@@ -18,16 +20,25 @@ unfolding Reached
 left-reached s s2 xs z fields h =
     left-some s xs h.0 h.1 ∙ ap (λ l. l ∷ left h.0.1 h.0.2) (sym h.2) ∙ ap (λ x. fields ∷ left x h.0.2) h.3.0 ∙ ap (λ x. fields ∷ left s2 x) h.3.1
 
+reached-short : (s s2 : State) (xs z : List ℕ) (fields : Fields) → Reached default_config s xs (fields ∷ []) s2 z
+    → (length z ≤ length xs) × (length fields ≤ length xs + 1)
+unfolding Reached
+reached-short s s2 xs z fields h =
+    let a = no-longer s xs h.0 h.1 in
+    let b = narrow s [] [] xs h.0 h.1 in
+    (omega (arith, a, ap length h.3.1), omega (arith, b, ap length h.2))
+
 start-reached : (s : State) (xs : List ℕ) → Reached default_config s xs [] s xs
 unfolding Reached
 start-reached s xs = (refl, refl)
 
 -- a record was read
 pub took-one : (a b : ByteReader) (y : List ℕ) (fields : Fields) → a.config ≡ default_config → known a ≡ Some y → ReadRecord rem a b true fields
-    → (left_of a ≡ fields ∷ left_of b) × ((z : List ℕ) × (known b ≡ Some z))
+    → (left_of a ≡ fields ∷ left_of b) × ((z : List ℕ) × (known b ≡ Some z) × (length z ≤ length y)) × (length fields ≤ length y + 1)
 took-one a b y fields ec ex r =
     let m = rows-more rem a b fields default_config a.state y y [] ec ex (start-reached a.state y) r in
-    (ap (left_in a.state) ex ∙ left-reached a.state b.state y m.0 fields m.2 ∙ ap (λ o. fields ∷ left_in b.state o) (sym m.1), (m.0, m.1))
+    let short = reached-short a.state b.state y m.0 fields m.2 in
+    (ap (left_in a.state) ex ∙ left-reached a.state b.state y m.0 fields m.2 ∙ ap (λ o. fields ∷ left_in b.state o) (sym m.1), (m.0, m.1, short.0), short.1)
 
 -- there was none
 pub took-none : (a b : ByteReader) (y : List ℕ) (fields : Fields) → a.config ≡ default_config → known a ≡ Some y → ReadRecord rem a b false fields
@@ -40,18 +51,40 @@ pub took : (found : Bool) (a b : ByteReader) (y : List ℕ) (row : Row) → a.co
 took true a b y row ec ex r = (took-one a b y (fields_of row) ec ex r).0
 took false a b y row ec ex r = took-none a b y (fields_of row) ec ex r
 
-pub kept : (found : Bool) (a b : ByteReader) (y : List ℕ) (row : Row) (n : ℕ) → a.config ≡ default_config → known a ≡ Some y → a.trim ≡ trim.None
-    → ReadRecord rem a b found (fields_of row) → took_first b ≡ true
-    → n + length (left_of a) ≤ most → Keeps found b n
-kept true a b y row n ec ex et r first few =
-    let t = took-one a b y (fields_of row) ec ex r in
-    record { trim = r.3 ∙ et; ready = inl first; config = r.2 ∙ ec; known = t.1; few = omega (arith, ap length t.0, few) }
-kept false a b y row n ec ex et r first few = omega (arith, few)
+pub kept : (found : Bool) (a b : ByteReader) (y : List ℕ) (row : Row) (n : ℕ) → a.config ≡ default_config → Holds a y → a.trim ≡ trim.None
+    → is_flexible a ≡ true → is_flexible b ≡ is_flexible a → ReadRecord rem a b found (fields_of row) → took_first b ≡ true
+    → n + length (left_of a) ≤ most → Keeps found row b n
+kept true a b y row n ec ex et ef same r got room =
+    let t = took-one a b y (fields_of row) ec ex.0 r in
+    let bytes : (z : List ℕ) × Holds b z = (t.1.0, (t.1.1, omega (arith, t.1.2, ex.1))) in
+    let reading : IsReading b n = record {
+      trim = r.3 ∙ et;
+      ready = inl got;
+      config = r.2 ∙ ec;
+      flexible = same ∙ ef;
+      bytes = bytes;
+      few = omega (arith, ap length t.0, room);
+    } in
+    (reading, omega (arith, t.2, ex.1))
+kept false a b y row n ec ex et ef same r got room = omega (arith, room)
+
+-- A reader of records of any number of fields fails for the reader underneath or for memory alone.
+pub of-memory : (a b : ByteReader) (k : ErrorKind) → is_flexible a ≡ true → ExplainsRead rem a b false k → IsOfMemory k
+of-memory a b (kind.Io e) f h = tt
+of-memory a b kind.OutOfMemory f h = tt
+of-memory a b (kind.UnequalLengths pos expected len) f h = let no : true ≡ false = sym f ∙ h.0 in cc
+of-memory a b (kind.Utf8 pos err) f h = let no : false ≡ true = h.0 in cc
+of-memory a b (kind.Serialize text) f h = absurd h
+of-memory a b (kind.Deserialize pos err) f h = absurd h
 
 -- Where a record stands the reader reads.
-pub stands : (here : Bool) (row : Row) (r : ByteReader) (n : ℕ) → 0 < length (standing here row r) → Keeps here r n → IsReading r n × (here ≡ true)
-stands true row r n h k = (k, refl)
+pub stands : (here : Bool) (row : Row) (r : ByteReader) (n : ℕ) → 0 < length (standing here row r) → Keeps here row r n → IsReading r n × (here ≡ true)
+stands true row r n h k = (k.0, refl)
 stands false row r n h k = absurd (omega arith)
+
+pub few-fields : (here : Bool) (row : Row) (r : ByteReader) (n : ℕ) → Keeps here row r n → length (first (standing here row r)) ≤ most
+few-fields true row r n k = k.1
+few-fields false row r n k = omega arith
 
 short-cut : (b : Bool) (x y z : ℕ) (rest : List ℕ) → length (cond b rest (x ∷ y ∷ z ∷ rest)) ≤ length (x ∷ y ∷ z ∷ rest)
 short-cut true x y z rest = omega arith

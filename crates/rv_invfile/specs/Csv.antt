@@ -1,8 +1,10 @@
 -- The records of bytes, and those that a reader of records has left.
-use Rattle.std.specs.Prelude.{◌≡◌, ◌+◌, ◌<◌, ◌≤◌, ℕ, Bool, true, false, cond, List, [], ◌∷◌, length, Option, Some, None}
+use Rattle.std.specs.Prelude.{◌≡◌, ◌+◌, ◌<◌, ◌≤◌, ℕ, Bool, true, false, cond, List, [], ◌∷◌, length, Option, Some, None, ⊤}
 use Rattle.std.specs.Borrow.{Bor}
-use Rattle.csv.specs.Reading.{Ready, default_config, records, records_from, strip_bom, reader_config, reader_state, reader_trim, source_of}
+use Rattle.csv.specs.Reading.{Ready, default_config, is_flexible, records, records_from, strip_bom, reader_config, reader_state, reader_trim, source_of}
 use Rattle.csv.specs.{declared.parser.State.State, declared.reader.Reader.Reader, Records.Row, Records.fields_of}
+use Rattle.csv.specs.declared.error.ErrorKind.{ErrorKind}
+use Rattle.csv.specs.declared.error.ErrorKind.TheVariants as kind
 use Rattle.csv.specs.declared.reader.Trim.TheVariants as trim
 use Rattle.rv_invfile.specs.Rules.{Fields}
 
@@ -36,14 +38,29 @@ standing here row r = cond here (fields_of row ∷ left_of r) []
 abbrev pub most : ℕ
 most = 67108865
 
--- a reader reads the records of its bytes one by one, and they are not too many to be counted
+-- The bytes that are left are no more than a file has.
+abbrev pub Holds : ByteReader → List ℕ → Type 0
+Holds r bytes = (known r ≡ Some bytes) × (length bytes < most)
+
+-- a reader reads the records of its bytes one by one, of any number of fields, and they are not too many to be counted
 pub record IsReading (r : ByteReader) (taken : ℕ) : Type 0 where
   pub trim : reader_trim r ≡ trim.None
   pub ready : Ready r
   pub config : reader_config r ≡ default_config
-  pub known : (bytes : List ℕ) × (known r ≡ Some bytes)
+  pub flexible : is_flexible r ≡ true
+  pub bytes : (bytes : List ℕ) × Holds r bytes
   pub few : taken + length (left_of r) < most
 
-abbrev pub Keeps : Bool → ByteReader → ℕ → Type 0
-Keeps true r taken = IsReading r taken
-Keeps false r taken = taken ≤ most
+-- so many records were taken, and the one that stands here is no longer than a file
+abbrev pub Keeps : Bool → Row → ByteReader → ℕ → Type 0
+Keeps true row r taken = IsReading r taken × (length (fields_of row) ≤ most)
+Keeps false row r taken = taken ≤ most
+
+-- An error of the reader underneath, or of memory.
+abbrev pub IsOfMemory : ErrorKind → Type 0
+IsOfMemory (kind.Io e) = ⊤
+IsOfMemory kind.OutOfMemory = ⊤
+IsOfMemory (kind.Utf8 pos err) = ⊥
+IsOfMemory (kind.UnequalLengths pos expected len) = ⊥
+IsOfMemory (kind.Serialize text) = ⊥
+IsOfMemory (kind.Deserialize pos err) = ⊥

@@ -2,7 +2,7 @@
 
 ghost use Rattle.std.specs.Prelude.{◌≡◌};
 ghost use Rattle.rv_invfile.specs.declared.fault.FileFault.TheVariants.{Memory as NoMemory};
-ghost use Rattle.rv_invfile.specs.Readers.{fault_at};
+ghost use Rattle.rv_invfile.specs.Readers.{fault_at, file_fault};
 
 use rv_base::Memory;
 use std::alloc::{AllocError, AllocFailed};
@@ -29,6 +29,35 @@ pub enum FileFault {
     /// There was no memory.
     #[error("out of memory")]
     Memory,
+}
+
+/// The first fault of a file, as one tells it who takes no memory.
+#[derive(Clone, Copy, Debug, PartialEq, Eq)]
+pub enum Fault {
+    /// A byte of a field of this record is outside 32 to 126.
+    NotRecords(u32),
+    /// Another record stands where this one is, by its first field and the number of its fields.
+    WrongKind(u32),
+    /// This record is not that of the program.
+    WrongProgram(u32),
+    /// The field of this record is no number in its range and no value of its type.
+    BadNumber(u32, u32),
+    /// The records end too early; this is how many there are.
+    Ends(u32),
+}
+
+impl From<Fault> for FileFault {
+    ghost from_gives = { λ told e. e ≡ file_fault told };
+
+    fn from(told: Fault) -> FileFault {
+        match told {
+            Fault::NotRecords(number) => FileFault::NotRecords(number),
+            Fault::WrongKind(number) => FileFault::WrongKind(number),
+            Fault::WrongProgram(number) => FileFault::WrongProgram(number),
+            Fault::BadNumber(number, field) => FileFault::BadNumber(number, field),
+            Fault::Ends(count) => FileFault::Ends(count),
+        }
+    }
 }
 
 /// What is at fault in a record.

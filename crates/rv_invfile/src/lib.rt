@@ -16,7 +16,7 @@ mod traces;
 mod values;
 mod writing;
 
-pub use fault::{FileFault, Why, fault_at};
+pub use fault::{Fault, FileFault, Why, fault_at};
 pub use laws::{awaited_records, fitting_traces, one_trace_rule, told_systems};
 pub use numbers::{natural_in, natural_of};
 pub use records::Records;

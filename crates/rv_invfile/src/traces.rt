@@ -1,7 +1,7 @@
 //! Reading traces.
 
 ghost use Rattle.std.specs.Prelude.{◌≡◌, ◌<◌, ◌≤◌, ◌-◌, ◌+◌, length, IfOk, IfErr, string_bytes};
-ghost use Rattle.rv_invfile.specs.Readers.{Reads, Gives, run, closing, whole};
+ghost use Rattle.rv_invfile.specs.Readers.{Reads, Gives, in_file, run, closing, whole};
 ghost use Rattle.rv_invfile.specs.Csv.{records_of};
 ghost use Rattle.rv_invfile.specs.Rules.{IsDocument};
 ghost use Rattle.rv_invfile.specs.Tells.{Finds, Explains, Refuses};
@@ -17,7 +17,7 @@ ghost use Rattle.rv_invfile.specs.Traces as spec;
 ghost use Rattle.rv_invfile.specs.Traces.{Fits};
 ghost use Rattle.rv_invfile.specs.Texts as texts;
 
-use crate::fault::FileFault;
+use crate::fault::{Fault, FileFault};
 use crate::records::Records;
 use crate::singles::{read_count, read_exactly, read_inputs, read_name};
 use crate::values::value_of;
@@ -166,16 +166,16 @@ fn read_all(alloc: Global, records: &mut Records<'_>, flat: &Flat) -> Result<Tra
     read_end(alloc, records, flat, starts)
 }
 
-/// Nothing may follow.
-pub fn expect_nothing(records: &Records<'_>) -> Result<(), FileFault>
-    ensures { Gives (closing tt records.now) result }
+/// Nothing may follow: else the record that stands here is at fault, for a byte outside 32 to 126 or as one that is not awaited.
+pub fn expect_nothing(records: &Records<'_>) -> Result<(), Fault>
+    ensures { in_file result ≡ closing tt records.now }
 {
     if !records.has_record() {
         Ok(())
     } else if records.is_plain() {
-        Err(FileFault::WrongKind(records.number()))
+        Err(Fault::WrongKind(records.number()))
     } else {
-        Err(FileFault::NotRecords(records.number()))
+        Err(Fault::NotRecords(records.number()))
     }
 }
 
