@@ -37,9 +37,10 @@ fn told(place: Option<&Place>) -> Result<Option<Place>, Memory>
     }
 }
 
-/// One instant from a state, with one value for each input of the main node, of its type and within the range. `Outgrown`
-/// comes where an integer flow, or what an integer memory takes, leaves the range, with the least place. Time grows with
-/// the flat system: what a memory takes is evaluated once.
+/// One instant from a state, with one value for each input of the main node, of its type and within the range. The state in
+/// the answer is one again: each memory holds a value of its type within the range. `Outgrown` comes where an integer flow, or
+/// what an integer memory takes, leaves the range, with the least place. Time grows with the flat system: what a memory takes
+/// is evaluated once.
 pub fn step(
     alloc: Global,
     flat: &Flat,
@@ -49,6 +50,7 @@ pub fn step(
     requires state { IsState flat.now now.now }
     requires inputs { AreValues flat.now (input_kinds flat.now) input.now }
     ensures stepped { IfOk result (IsStepped flat.now now.now input.now) }
+    ensures next_state { IfOk result (λ stepped. IsState flat.now stepped.next) }
     ensures fault { IfErr result (IsStepFault flat.now now.now input.now) }
 {
     let mut shown = none_shown(alloc, flat)?;

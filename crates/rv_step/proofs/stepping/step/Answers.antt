@@ -2,6 +2,7 @@ use Rattle.std.proofs.Common.{sym, subst, Some, None}
 use Rattle.std.specs.Option.{option_copied}
 use Rattle.rv_flat.specs.{FlatOf.IsFlatBroken, Steps.IsLeast, Steps.IsLeastOf, Steps.IsGrown}
 use Rattle.rv_step.proofs.OneStep.{broken_places, grown_places, next, next_state}
+use Rattle.rv_step.proofs.Typed.{are_taken}
 use Rattle.rv_step.proofs.stepping.step.Goals as goal
 
 pub returns-in-Some-clause-fault : goal.returns-in-Some-clause-fault
@@ -31,3 +32,12 @@ returns-clause-stepped c =
       within = grown_places f now inputs row c.requires.state kept c.in_ok-kept.ensures.kept None c.in_default.ensures;
       state = next_state f now inputs row c.requires.state kept c.in_ok-kept.ensures.kept c.in_ok-ticked.ticked c.in_ok-ticked.ensures c.in_default.ensures;
     }
+
+pub returns-clause-next_state : goal.returns-clause-next_state
+returns-clause-next_state c =
+    let f = c.args.flat.now in
+    let now = c.args.now.now in
+    let inputs = c.args.input.now in
+    let row = c.in_ok-values.values in
+    next_state f now inputs row c.requires.state c.in_ok-kept.kept c.in_ok-kept.ensures.kept c.in_ok-ticked.ticked c.in_ok-ticked.ensures c.in_default.ensures
+    (are_taken f now inputs row c.requires.state c.requires.inputs c.in_ok-values.ensures.instant)
