@@ -1,4 +1,5 @@
-//! `reaver prove FILE NODE` tells whether the observer of a Lustre node is true in every run, or shows a trace of one in which it is not;
+//! `reaver prove FILE NODE` shows why the observer of a Lustre node is true in every run, or a trace of one in which it is not, or tells
+//! that neither was found;
 //! `reaver replay FILE NODE TRACE` plays a trace, `reaver check FILE NODE INVARIANT` judges an invariant file, `reaver make N` shows a
 //! source of N calls, and `reaver tour N` proves it.
 #![tactic(auto)]

@@ -1,7 +1,7 @@
 //! The files, the standard output and the words of the machine.
 //!
 //! It promises that `DiskFiles` and `StandardOut` meet `Files` and `Sink` of `rv_base`, which say nothing of content here: they
-//! are the trusted edge, with a test each. The programs above make them, and call `run` themselves.
+//! are the trusted edge, with tests beside them. The programs above make them, and call `run` themselves.
 #![tactic(auto)]
 
 mod command_line;

@@ -4,7 +4,7 @@
 //! which is what a program and its flat system give; begin to read there, then `specs/Scopes.antt` and `Accepted.antt`.
 //! Beside certificates it has the cases and layers of an analysis, and box and row claims. `laws.rt` has the laws of
 //! certificates, `control.rt` those of cases and claims. The answers of a checker and the order of its reasons stand
-//! here, since laws speak of them, and go to the checker's crate once there is one.
+//! here, since laws speak of them and the report of a rejection is told by them; the checker is `rv_accept`.
 #![tactic(auto)]
 
 mod certificate;

@@ -1,4 +1,4 @@
-//! The control of a flat system, read into the references of a diagram store.
+//! A flat system, read into the references of a diagram store and the questions by which its cases are split.
 //!
 //! It promises that the references of a `Reading` mean the system of its flat system (`IsRead`), and of each call what it says of
 //! that system: cases, images, preimages, initial states, the walk through the layers, the box pass, the analysis by row claims and polyhedra

@@ -8,7 +8,8 @@ use Rattle.rv_diagram.specs.{declared.Triple.Triple, Nodes.Valuation, Nodes.put,
 use Rattle.rv_diagram.proofs.{Calls.value_of-true, Canon.put-other, Canon.put-same}
 use Rattle.rv_terms.specs.declared.parted.Part.{Part}
 use Rattle.rv_terms.specs.Parts.{part_at, holds, Covers, IsTerm, IsTermOf, HasNoSingle, IsSingle, IsAlone, IsMet}
-use Rattle.rv_terms.proofs.{Combining.form_is, Counting.same_put}
+use Rattle.rv_terms.proofs.Combining.{form_is}
+use Rattle.rv_diagram.proofs.Counting.{same_put}
 
 -- it has one value at valuations that agree below m
 abbrev pub ReadsOnly : ℕ → (Valuation → Bool) → Type 0

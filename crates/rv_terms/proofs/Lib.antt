@@ -4,6 +4,5 @@ pub mod Combining
 pub mod Sums
 pub mod Finding
 pub mod Multiples
-pub mod Counting
 pub mod Classes
 pub mod Summing

@@ -3,8 +3,10 @@ use Rattle.std.proofs.Common.{ℕ, zero, suc, ◌+◌, ◌*◌, ◌^◌, ◌<◌
 use Rattle.std.proofs.lemmas.Bool.{and_parts}
 use Rattle.rv_diagram.specs.{declared.Triple.Triple, Nodes.Valuation, Nodes.Diagrams, Nodes.put}
 use Rattle.rv_terms.specs.Parts.{holds, AreDisjoint, among}
-use Rattle.rv_terms.specs.{declared.parted.Part.Part, Growing.GrownFor, Growing.LacksFor, Counting.count_from, Counting.count}
-use Rattle.rv_terms.proofs.{Combining.among-more, Combining.among_some, Counting.count-same, Counting.count-join, Counting.count-most}
+use Rattle.rv_terms.specs.{declared.parted.Part.Part, Growing.GrownFor, Growing.LacksFor}
+use Rattle.rv_diagram.specs.Counting.{count_from, count}
+use Rattle.rv_terms.proofs.{Combining.among-more, Combining.among_some}
+use Rattle.rv_diagram.proofs.Counting.{count-same, count-join, count-most}
 use Rattle.rv_base.proofs.Truths.{bits_within}
 
 pub count-within : (d x : ℕ) (f g : Valuation → Bool) → ((v : Valuation) → f v ≡ true → g v ≡ true) → count_from d x f ≤ count_from d x g

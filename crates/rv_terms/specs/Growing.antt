@@ -1,7 +1,7 @@
 -- What becomes of a store in calls that may have failed.
 use Rattle.std.specs.Prelude.{◌≡◌, ◌≤◌, ◌<◌, ◌+◌, ◌*◌, ◌^◌, ℕ, Bool, length}
 use Rattle.rv_diagram.specs.Nodes.{Valuation, Diagrams, BeginsWith, IsKept}
-use Rattle.rv_terms.specs.Counting.{count}
+use Rattle.rv_diagram.specs.Counting.{count}
 
 -- the nodes that there were come first and keep their meaning
 pub record Extends (old new : Diagrams) : Type 0 where

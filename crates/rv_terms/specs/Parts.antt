@@ -3,7 +3,8 @@ use Rattle.std.specs.Prelude.{◌≡◌, ◌≢◌, ◌↔◌, ◌+◌, ◌*◌,
 use Rattle.std.specs.Prelude.{slice_index_or}
 use Rattle.rv_rows.specs.declared.linear.Form.{Form}
 use Rattle.rv_diagram.specs.{declared.Triple.Triple, Nodes.Valuation, Nodes.Diagrams, Nodes.IsRef, Nodes.value_of}
-use Rattle.rv_terms.specs.{Counting.count, declared.parted.Part.Part}
+use Rattle.rv_terms.specs.declared.parted.Part.{Part}
+use Rattle.rv_diagram.specs.Counting.{count}
 
 -- the form without columns that is 0
 abbrev pub no_form : Form

@@ -7,7 +7,7 @@ ghost use Rattle.std.specs.Option.{ForSome};
 ghost use Rattle.rv_rows.specs.Forms.{CanAdd, CanScale};
 ghost use Rattle.rv_diagram.specs.declared.Triple.{Triple};
 ghost use Rattle.rv_diagram.specs.Nodes.{Valuation, value_of, IsRef, Grows, Answers, choice};
-ghost use Rattle.rv_terms.specs.Counting.{count};
+ghost use Rattle.rv_diagram.specs.Counting.{count};
 ghost use Rattle.rv_terms.specs.Growing.{Extends, LacksRoom, GrownFor, LacksFor};
 ghost use Rattle.rv_rows.specs.Arithmetic.{form_sum, form_times};
 ghost use Rattle.rv_terms.specs.Parts.{part_at, form_at, holds, AreRefs, AreDisjoint, Covers, HaveWidth, IsTerm, IsTermOf, HasNoSingle, IsSingle, IsMet};

@@ -3,7 +3,7 @@
 ghost use Rattle.std.specs.Prelude.{◌≡◌, ℕ, ◌<◌, ◌≤◌, ◌+◌, ◌*◌, ◌^◌, ◌||◌, Bool, true, List, length};
 ghost use Rattle.rv_diagram.specs.declared.Triple.{Triple};
 ghost use Rattle.rv_diagram.specs.Nodes.{Diagrams, Grows, Valuation, IsReduced, BeginsWith, Has, IsFewest, NeedsMore};
-ghost use Rattle.rv_terms.specs.Counting.{count, ReadsOnly};
+ghost use Rattle.rv_diagram.specs.Counting.{count, ReadsOnly};
 ghost use Rattle.rv_terms.specs.declared.parted.Part.{Part};
 ghost use Rattle.rv_terms.specs.Growing.{Extends};
 ghost use Rattle.rv_terms.specs.Parts.{part_at, holds, form_at, IsTerm};

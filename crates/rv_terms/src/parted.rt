@@ -4,7 +4,7 @@ ghost use Rattle.std.specs.Prelude.{◌*◌, ◌≡◌, ◌≢◌, ℕ, ◌+◌,
 ghost use Rattle.std.specs.Prelude.{IsTrue, MatchOption};
 ghost use Rattle.rv_diagram.specs.Nodes.{value_of, IsRef, Answers};
 ghost use Rattle.rv_terms.specs.Growing.{Extends, LacksRoom};
-ghost use Rattle.rv_terms.specs.Counting.{count};
+ghost use Rattle.rv_diagram.specs.Counting.{count};
 ghost use Rattle.rv_terms.specs.Parts.{part_at, AreRefs, Adds};
 
 use rv_base::{Many, Memory};

@@ -90,10 +90,11 @@ fn changed(
         }
         "and_exists" => store.and_exists(x, both, &[true])?,
         "exists_each" => store.exists_each(both, &[true, true])?,
-        _ => {
+        "thaw" => {
             let frozen = store.freeze(both)?;
             store.thaw(&frozen)?
         }
+        _ => return Ok(String::from_str(alloc, "no call")?),
     };
     let frozen = store.freeze(reference)?;
     Ok(frozen_text(alloc, &frozen)?)

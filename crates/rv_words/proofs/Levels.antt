@@ -124,3 +124,15 @@ pub past_word : (s : Shape) (w after : Walk) (word : Text) (rest : List Text) �
     → walk_fault s [] w (word ∷ rest) ≡ walk_fault s [] after rest
 unfolding walk_fault
 past_word s w after word rest is none = ap₂ or_else none (ap (λ v. walk_fault s [] v rest) is)
+
+-- where a word has no fault and those behind it are plain, what is meant is by the walk past the word
+pub behind : (s : Shape) (name word : List ℕ) (after : Walk) (words : List (List ℕ)) → walked s.rules [] start word ≡ after → turn_fault s [] start word ≡ []
+    → Placeable s.rules after words
+    → meant s name (walk_fault s [] start (word ∷ words)) (fold (walked s.rules []) start (word ∷ words))
+    ≡ meant s name (plain_fault s after words []) (fold (placed s.rules) after words)
+behind s name word after words is none plain =
+    let faults = past_word s start after word words is none ∙ (ap (walk_fault s [] after) (sym (append-nil words))
+    ∙ (plain_walk_fault s after words [] plain ∙ ap (plain_fault s after words) (no_more s (fold (placed s.rules) after words)))) in
+    let ends = ap (λ w. fold (walked s.rules []) w words) is ∙ (ap (fold (walked s.rules []) after) (sym (append-nil words))
+    ∙ plain_walk s.rules after words [] plain) in
+    ap₂ (meant s name) faults ends

@@ -1,5 +1,5 @@
 -- What the walk over the words makes of words that are no flags, whatever their text.
-use Rattle.std.proofs.Common.{◌≡◌, ◌∙◌, ◌==◌, ◌&&◌, ◌++◌, ap, ap₂, sym, refl, true, false, not, Bool, ℕ, List, [], ◌∷◌, Some, None, is_some, append-nil}
+use Rattle.std.proofs.Common.{◌≡◌, ◌∙◌, ◌==◌, ◌&&◌, ◌++◌, ap, ap₂, sym, refl, true, false, Bool, ℕ, List, [], ◌∷◌, Some, None, is_some, append-nil}
 use Rattle.std.proofs.Common.{append_assoc}
 use Rattle.std.specs.{Prelude.⊤, Prelude.if◌then◌else◌, Prelude.option_and_then, List.fold, Option.option_map_or, Str.bytes_eq}
 use Rattle.clap.specs.Walk.{Held, Names, Rule, Step, Text, Waiting, Walk, after_step, idle, long_or_other, option, plain_word, positional, short_or_plain}

@@ -20,6 +20,9 @@ mod reading;
 mod values;
 
 pub use command::{Checking, Command, Proving, Replaying};
-pub use laws::{no_words, plain_words, taken_words, words_with_nodes};
+pub use laws::{
+    no_words, plain_words, taken_words, words_after_dashes, words_with_nodes,
+    words_with_options_first, words_with_other_flags,
+};
 pub use ranges::numbers_have_ranges;
-pub use reading::read_words;
+pub use reading::{read_answer, read_words};

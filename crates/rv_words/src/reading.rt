@@ -1,14 +1,14 @@
 //! The words of the command line, read.
 
-ghost use Rattle.std.specs.Prelude.{◌≡◌, ◌<◌, IfOk, option_map};
-ghost use Rattle.clap.specs.Words.{found_of, rows_of};
+ghost use Rattle.std.specs.Prelude.{◌≡◌, ◌≢◌, ◌↔◌, ◌<◌, IfOk, IsErrAnd, IsErrOf, option_and_then, option_map};
+ghost use Rattle.clap.specs.Words.{found_of, kind_of, rows_of, subcommand_rows_of};
 ghost use Rattle.rv_words.specs.Words.{texts, command, said, asked_by, proving, checking, replaying};
 
 use crate::building::build_reaver;
 use crate::command::{Checking, Command, Proving, Replaying};
 use crate::values::{count_in, flag_or, limit_or, names_in, value_of};
-use clap::ArgMatches;
 use clap::error::ErrorKind;
+use clap::{ArgMatches, Error};
 use rv_base::Memory;
 use std::alloc::Global;
 
@@ -30,7 +30,18 @@ pub fn read_words<'a>(alloc: Global, words: &'a [String]) -> Result<Option<Comma
     ensures read { IfOk result (λ found. option_map said found ≡ command (texts words.now)) }
 {
     let reaver = build_reaver(alloc)?;
-    match reaver.try_get_matches_from(words) {
+    read_answer(reaver.try_get_matches_from(words))
+}
+
+/// The command that the answer of `clap` on the words is. `Memory` comes exactly where that is an error for want of memory: any other
+/// error of the words says that they are no command.
+pub fn read_answer<'a>(answer: Result<ArgMatches<'a>, Error>) -> Result<Option<Command<'a>>, Memory>
+    ensures memory { IsErrOf result Memory.Memory ↔ IsErrAnd answer.entry (λ error. kind_of error ≡ ErrorKind.OutOfMemory) }
+    ensures refused { IsErrAnd answer.entry (λ error. kind_of error ≢ ErrorKind.OutOfMemory) → result ≡ Ok None }
+    ensures found { IfOk answer.entry (λ matches. IfOk result (λ found. option_map said found
+        ≡ option_and_then (λ named. asked_by named.0 named.1) (subcommand_rows_of matches))) }
+{
+    match answer {
         Ok(matches) => match matches.subcommand() {
             Some((name, found)) => Ok(asked(name, found)),
             None => Ok(None),

@@ -1,6 +1,7 @@
 use Rattle.std.proofs.lemmas.Result.{on_ok_weaker}
 use Rattle.rv_diagram.specs.Nodes.{choice}
-use Rattle.rv_terms.proofs.{Counting.fewest_few, Counting.needs_few, Classes.choice_reads}
+use Rattle.rv_terms.proofs.Classes.{choice_reads}
+use Rattle.rv_diagram.proofs.Counting.{fewest_few, needs_few}
 use Rattle.rv_terms.proofs.calls.fewest.Goals as goal
 
 pub returns-clause-few : goal.returns-clause-few

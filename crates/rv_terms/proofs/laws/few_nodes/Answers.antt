@@ -1,4 +1,4 @@
-use Rattle.rv_terms.proofs.Counting.{few_nodes, fewest_few, needs_few, count-join, count-most, joined_fewest}
+use Rattle.rv_diagram.proofs.Counting.{few_nodes, fewest_few, needs_few, count-join, count-most, joined_fewest}
 use Rattle.rv_terms.proofs.laws.few_nodes.Goals as goal
 
 pub returns : goal.returns

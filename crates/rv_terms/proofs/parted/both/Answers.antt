@@ -1,7 +1,7 @@
 use Rattle.std.proofs.{Common.◌&&◌, Common.arith, lemmas.Result.on_ok_weaker}
 use Rattle.rv_diagram.specs.Nodes.{choice, value_of}
 use Rattle.rv_diagram.proofs.Calls.{all_answers_same, fewest_same, needs_same, choice-and}
-use Rattle.rv_terms.proofs.Counting.{fewest_few, needs_few, both_reads}
+use Rattle.rv_diagram.proofs.Counting.{fewest_few, needs_few, both_reads}
 use Rattle.rv_terms.proofs.parted.both.Goals as goal
 
 pub returns-clause-ok : goal.returns-clause-ok

@@ -1,6 +1,6 @@
 use Rattle.std.proofs.{Common.refl, lemmas.Result.on_ok_weaker}
 use Rattle.rv_diagram.specs.Nodes.{value_of}
-use Rattle.rv_terms.proofs.Counting.{joined_fewest, joined_needs}
+use Rattle.rv_diagram.proofs.Counting.{joined_fewest, joined_needs}
 use Rattle.rv_terms.proofs.parted.either.Goals as goal
 
 pub returns-clause-few : goal.returns-clause-few

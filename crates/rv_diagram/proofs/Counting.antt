@@ -1,13 +1,13 @@
 -- Few valuations need few nodes: each lies on one path of a diagram, and a path has at most one node for each variable (Bryant 1986).
 use Rattle.std.proofs.Common.{ℕ, zero, suc, ◌+◌, ◌*◌, ◌^◌, ◌<◌, ◌≤◌, ◌≡◌, ◌≢◌, ◌⊎◌, Bool, true, false, ◌||◌, cond, List, [], ◌∷◌, ◌++◌, length, ◌&&◌, refl, sym}
 use Rattle.std.proofs.Common.{ap, ◌∙◌, subst, ⊎_elim, inl, inr, arith}
-use Rattle.std.proofs.{lemmas.Bool.cases_eq, lemmas.Bool.cases_Bool, lemmas.List.length_push}
+use Rattle.std.proofs.{lemmas.Bool.cases_eq, lemmas.Bool.cases_Bool, lemmas.Bool.false≢true, lemmas.List.length_push}
 use Rattle.rv_diagram.specs.declared.Triple.{Triple}
 use Rattle.rv_diagram.specs.Nodes.{ReadsBelow, Valuation, put, node_at, value_of, IsRef, IsReduced, BeginsWith, Has, IsAbsent, Built, NeedsMore, IsFewest}
 use Rattle.rv_diagram.proofs.Needed.{ReadsFrom, IsNew, has_from, has_fixed, length-longer, value_of-begins}
 use Rattle.rv_diagram.proofs.Building.{IsSplit, built_there, built_equal, built_found, built_push, built_split}
 use Rattle.rv_diagram.proofs.{Canon.put-same, Canon.put-other, Canon.canonical, Calls.value_of-true, Calls.value_of-false}
-use Rattle.rv_terms.specs.Counting.{count_from, count, ReadsOnly}
+use Rattle.rv_diagram.specs.Counting.{count_from, count, ReadsOnly}
 use Rattle.rv_base.proofs.Truths.{bit_most, or_false_is}
 
 -- COUNTS
@@ -53,6 +53,21 @@ pub count-most : (d x : ℕ) (f : Valuation → Bool) → count_from d x f ≤ 2
 count-most zero x f = bit_most (f (λ k. false))
 count-most (suc d) x f =
     omega (arith, count-most d (x + 1) (λ v. f (put v x false)), count-most d (x + 1) (λ v. f (put v x true)), doubled d)
+
+bit_le : (a b : Bool) → (a ≡ true → b ≡ true) → cond a 1 0 ≤ cond b 1 0
+bit_le true true h = omega arith
+bit_le true false h = absurd (false≢true (h refl))
+bit_le false b h = omega arith
+
+-- what is true at fewer valuations
+pub count-le : (d x : ℕ) (f g : Valuation → Bool) → ((v : Valuation) → f v ≡ true → g v ≡ true) → count_from d x f ≤ count_from d x g
+count-le zero x f g h = bit_le (f (λ k. false)) (g (λ k. false)) (h (λ k. false))
+count-le (suc d) x f g h =
+    let lo : count_from d (x + 1) (λ v. f (put v x false)) ≤ count_from d (x + 1) (λ v. g (put v x false)) =
+    count-le d (x + 1) (λ v. f (put v x false)) (λ v. g (put v x false)) (λ v. h (put v x false)) in
+    let hi : count_from d (x + 1) (λ v. f (put v x true)) ≤ count_from d (x + 1) (λ v. g (put v x true)) =
+    count-le d (x + 1) (λ v. f (put v x true)) (λ v. g (put v x true)) (λ v. h (put v x true)) in
+    omega (arith, lo, hi)
 
 -- WHAT IS READ
 
@@ -103,7 +118,7 @@ absent_more : (s t : Triple) (nodes : List Triple) → s ≢ t → IsAbsent node
 absent_more s t nodes off none zero low = off
 absent_more s t nodes off none (suc i) low = none i (omega arith)
 
-found_or_absent : (nodes : List Triple) (t : Triple) → ((i : ℕ) × (i < length nodes) × (node_at nodes i ≡ t)) ⊎ IsAbsent nodes t
+pub found_or_absent : (nodes : List Triple) (t : Triple) → ((i : ℕ) × (i < length nodes) × (node_at nodes i ≡ t)) ⊎ IsAbsent nodes t
 found_or_absent [] t = inr (λ i low. absurd (omega arith))
 found_or_absent (s ∷ nodes) t = ⊎_elim
     (λ e. inl (0, omega arith, e))
