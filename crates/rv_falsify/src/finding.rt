@@ -28,10 +28,10 @@ use rv_types::well_formed_programs;
 use std::alloc::Global;
 
 /// A trace that falsifies the program of a source without integer memories and inputs: from the first layer with a false observer back through
-/// the layers, one valuation picked in each, the least of those whose comparisons of constants hold. `reading` is that of the source's flat system, and the sets of the layers are
-/// ordered and use state variables only. Where the layers are those of the box pass, none is found exactly where no run falsifies,
-/// and none that falsifies has fewer instants. The reading is left as it was. `Nodes` comes where the diagrams outgrow their limit,
-/// `Memory` where memory runs out.
+/// the layers, one valuation picked in each, the least of those whose comparisons of constants hold. `reading` is that of the source's flat
+/// system, and the sets of the layers are ordered and use state variables only. Where the layers are those of the box pass, none is found
+/// exactly where no run falsifies, and none that falsifies has fewer instants. The reading is left as it was. `Nodes` comes where the diagrams
+/// outgrow their limit, `Memory` where memory runs out.
 fn find_back(
     alloc: Global,
     reading: &mut Reading,

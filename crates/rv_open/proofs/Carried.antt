@@ -1,13 +1,13 @@
 -- The system of the valuations that count: its layers and its runs are those of the system without columns.
-use Rattle.std.proofs.Common.{◌≡◌, ◌⊎◌, ℕ, zero, suc, ◌+◌, ◌<◌, ◌≤◌, ℤ, Bool, true, false, ◌&&◌, List, [], length, IsTrue, arith, refl, sym, ◌∙◌, ap, subst}
+use Rattle.std.proofs.Common.{◌≡◌, ◌⊎◌, ℕ, zero, suc, ◌+◌, ◌<◌, ℤ, Bool, true, false, ◌&&◌, List, [], length, arith, refl, sym, ◌∙◌, ap}
 use Rattle.std.proofs.Common.{⊎_elim, Some, None, Option, slice_get}
 use Rattle.std.specs.Prelude.{Result, Ok, Err, IfOk}
 use Rattle.std.proofs.lemmas.Bool.{cases_Bool, cases_lt}
 use Rattle.rv_diagram.specs.{Nodes.Valuation, declared.frozen.Frozen.Frozen}
 use Rattle.rv_rows.specs.declared.linear.Row.{Row}
-use Rattle.rv_proofs.specs.{Systems.System, Systems.IsSystem, Systems.Agrees, Systems.HasSameState, Systems.IsSameValuation, Runs.IsSafeSystem, Scopes.IsIn}
-use Rattle.rv_proofs.specs.{Boxes.BoxClaim, Boxes.IsBoxClaim, Boxes.IsTaken, Boxes.IsClosed, Boxes.IsGood, declared.report.Layers.Layers}
-use Rattle.rv_proofs.specs.Reached.{HasNoIntegers, IsLeastClosed, Reaches, AreLayers, IsControlClosed, unbounded}
+use Rattle.rv_proofs.specs.{Systems.System, Systems.IsSystem, Runs.IsSafeSystem, Scopes.IsIn}
+use Rattle.rv_proofs.specs.{Boxes.IsBoxClaim, Boxes.IsTaken, Boxes.IsClosed, declared.report.Layers.Layers}
+use Rattle.rv_proofs.specs.Reached.{HasNoIntegers, Reaches, AreLayers, IsControlClosed, unbounded}
 use Rattle.rv_proofs.proofs.Leasts.{open_all, least_plain}
 use Rattle.rv_walk.specs.{Ends.IsLeastControl, Ends.AreBadLayers, Falsified.IsFalsifyingRun, Paths.IsFalsifyingPath, Paths.IsShortestPath}
 use Rattle.rv_walk.specs.Paths.{at_instant, no_integers}

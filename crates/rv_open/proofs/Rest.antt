@@ -1,16 +1,17 @@
 -- What is left of a reference where the rows of tests hold.
-use Rattle.std.proofs.Common.{◌≡◌, ◌≢◌, ◌↔◌, ℕ, zero, suc, ◌+◌, ◌<◌, Bool, true, false, cond, ◌&&◌, List, [], length, arith, refl, sym, ◌∙◌, ap, subst, ⊎_elim, Some, slice_get}
+use Rattle.std.proofs.Common.{◌≡◌, ℕ, zero, suc, ◌+◌, ◌<◌, Bool, true, false, ◌&&◌, List, [], length, arith, refl, sym, ◌∙◌, ap, subst, ⊎_elim, Some, slice_get}
 use Rattle.std.proofs.Common.{get_or}
-use Rattle.std.specs.Prelude.{ℤ, pos, ◌≤ℤ◌, not, None as Nothing}
+use Rattle.std.specs.Prelude.{ℤ, pos, ◌≤ℤ◌, not}
 use Rattle.std.proofs.lemmas.{Bool.cases_lt, Bool.cases_Bool, Option.get_or_from_slice_get, Option.slice_get-get_or}
 use Rattle.rv_base.proofs.Truths.{both_of, without_is, of_not_true}
-use Rattle.rv_diagram.specs.{declared.Triple.Triple, Nodes.Valuation, Nodes.Diagrams, Nodes.Answers, Nodes.IsRef, Nodes.choice, Nodes.value_of, Several.ref_at}
+use Rattle.rv_diagram.specs.{Nodes.Valuation, Nodes.Diagrams, Nodes.Answers, Nodes.IsRef, Nodes.choice, Nodes.value_of, Several.ref_at}
 use Rattle.rv_diagram.proofs.Several.{same_truth}
 use Rattle.rv_rows.specs.{declared.linear.Row.Row, Rows.Holds}
 use Rattle.rv_proofs.specs.Systems.{System, Agrees}
 use Rattle.rv_symbolic.specs.Growing.{Extends, Finds}
 use Rattle.rv_symbolic.proofs.Extending.{extends_refl, extends_trans, grows_extends}
-use Rattle.rv_cases.specs.{declared.asking.Questions.Questions, Conditions.is_in, Conditions.list_at, Conditions.AreRefs, Questions.rows_at, Questions.AreQuestions}
+use Rattle.rv_cases.specs.{declared.asking.Questions.Questions, Questions.rows_at, Questions.AreQuestions}
+use Rattle.rv_cases.specs.Conditions.{is_in, list_at, AreRefs}
 use Rattle.rv_open.specs.{Columns.HasNoColumns, Columns.is_counted, Given.HoldAmong, Given.HoldOfTests}
 use Rattle.rv_open.proofs.Open.{row_holds, row_bound, counted_parts, counted_from}
 

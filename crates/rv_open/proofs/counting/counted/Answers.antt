@@ -1,7 +1,6 @@
-use Rattle.std.proofs.Common.{◌≡◌, ℕ, true, List, length, refl, sym, ap, ◌∙◌, subst}
-use Rattle.rv_diagram.specs.Nodes.{Valuation, Diagrams, IsRef, value_of}
-use Rattle.rv_proofs.specs.Systems.{System}
-use Rattle.rv_symbolic.specs.{declared.relation.Parts.Parts, Growing.Finds, Represented.AreParts, Represented.IsRelationOf}
+use Rattle.std.proofs.Common.{◌≡◌, true, length, sym, subst}
+use Rattle.rv_diagram.specs.Nodes.{IsRef, value_of}
+use Rattle.rv_symbolic.specs.{declared.relation.Parts.Parts, Growing.Finds}
 use Rattle.rv_symbolic.proofs.Extending.{extends_trans}
 use Rattle.rv_boxes.specs.{Layering.ArePartsWith, Narrowed.narrowed}
 use Rattle.rv_boxes.proofs.Relating.{parts_refs, parts_narrowed}

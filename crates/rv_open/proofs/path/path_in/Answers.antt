@@ -1,4 +1,4 @@
-use Rattle.std.proofs.Common.{◌≡◌, ℕ, [], length, arith, ap, ◌∙◌, sym}
+use Rattle.std.proofs.Common.{◌≡◌, length, ap, ◌∙◌, sym}
 use Rattle.rv_symbolic.proofs.Extending.{equal_extends, extends_trans}
 use Rattle.rv_boxes.specs.Narrowed.{narrowed}
 use Rattle.rv_open.specs.Columns.{is_counted}
