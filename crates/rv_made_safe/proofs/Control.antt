@@ -1,11 +1,11 @@
 -- No integers: all flows and all operands of memories are Boolean.
-use Rattle.std.proofs.Common.{◌≡◌, ℕ, List, [], ◌∷◌, inl, inr, ◌∙◌, refl, sym, ap}
+use Rattle.std.proofs.Common.{◌≡◌, ℕ, List, [], ◌∷◌, inl, inr, ◌∙◌, sym, ap}
 use Rattle.std.proofs.lemmas.List.Elements.{Contains-append_cases}
-use Rattle.std.specs.{Prelude.codes, Prelude.Some, List.Contains}
+use Rattle.std.specs.{Prelude.codes, List.Contains}
 use Rattle.rv_tree.specs.Tree.{EquationTree, NodeTree}
 use Rattle.rv_tree.specs.{declared.tree.Decl.Decl, Delays.Delay, Delays.delays, Delays.delays_in_equations, Delays.node_delays}
 use Rattle.rv_types.specs.declared.typed.Kind.TheVariants as kind
-use Rattle.rv_types.specs.{Names.decls, Values.operand_kind, Instances.Instance}
+use Rattle.rv_types.specs.{Names.decls, Values.operand_kind}
 use Rattle.rv_meaning.specs.Integers.{IsControl}
 use Rattle.rv_meaning.proofs.NameLemmas.{none_in}
 use Rattle.rv_make.specs.Chains.{Offsets, link_node, main_node, chain_program}
@@ -54,5 +54,5 @@ module _ (o : Offsets) (n : ℕ) where
   pub control : IsControl (chain_program o n) (codes "main")
   control = record {
     flows = λ i x inside w e. no_integer (chain_program o n) i.node (plain i.node (instance_node o n i inside)) x e;
-    delays = λ i d inside w e. let is = delayed o n i.node (instance_node o n i inside) d w in absurd (cc (sym is ∙ e));
+    delays = λ i d inside w e. let is = delayed i.node (instance_node o n i inside) d w in absurd (cc (sym is ∙ e));
   }

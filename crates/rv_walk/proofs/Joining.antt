@@ -108,12 +108,6 @@ module _ (s : System) (a b : Frozen) (left : IsControlSet s a) (right : IsContro
   pub without_control : (f : Frozen) → IsWithout s.variables b a f → IsControlSet s f
   without_control f x = control_set s f (fresh_of a b) x.ordered x.needed fresh_state
 
--- two sets that were thawed, and what was built of them
-pub without_extends : (s0 s1 s2 s3 : Diagrams) (a b : Frozen) (one other : ℕ) → Answers s0 s1 (value_of a.nodes a.root) one
-    → Answers s1 s2 (value_of b.nodes b.root) other → Extends s2 s3 → Extends s0 s3
-without_extends s0 s1 s2 s3 a b one other p q e =
-    extends_trans s0 s2 s3 (extends_trans s0 s1 s2 (grows_extends s0 s1 p.grows) (grows_extends s1 s2 q.grows)) e
-
 -- what is left of the first of two sets
 pub without_made : (s0 s1 s2 s3 : Diagrams) (a b f : Frozen) (one other left : ℕ) → Answers s0 s1 (value_of a.nodes a.root) one
     → Answers s1 s2 (value_of b.nodes b.root) other → Makes s2 s3 (λ v. value_of s2.nodes one v && not (value_of s2.nodes other v)) left

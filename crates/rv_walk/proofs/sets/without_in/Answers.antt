@@ -1,4 +1,5 @@
-use Rattle.rv_walk.proofs.Joining.{without_made, without_extends}
+use Rattle.rv_symbolic.proofs.Extending.{extends_trans, grows_extends}
+use Rattle.rv_walk.proofs.Joining.{without_made}
 use Rattle.rv_walk.proofs.sets.without_in.Goals as goal
 
 pub returns-clause-exact : goal.returns-clause-exact
@@ -8,11 +9,11 @@ returns-clause-exact c =
     c.in_ok-freeze.ensures.ordered c.in_ok-freeze.ensures.means c.in_ok-freeze.ensures.needed
 
 pub returns-in_err-freeze-clause-extends : goal.returns-in_err-freeze-clause-extends
-returns-in_err-freeze-clause-extends c =
-    without_extends c.args.store.now c.thaw.new.self c.thaw-2.new.self c.rest.new.store c.args.a.now c.args.b.now c.in_ok-one.one c.in_ok-other.other
-    c.in_ok-one.ensures.ok c.in_ok-other.ensures.ok c.rest.ensures.extends
+returns-in_err-freeze-clause-extends c = extends_trans c.args.store.now c.thaw-2.new.self c.rest.new.store (extends_trans c.args.store.now c.thaw.new.self
+    c.thaw-2.new.self (grows_extends c.args.store.now c.thaw.new.self c.in_ok-one.ensures.ok.grows) (grows_extends c.thaw.new.self c.thaw-2.new.self
+    c.in_ok-other.ensures.ok.grows)) c.rest.ensures.extends
 
 pub returns-clause-extends : goal.returns-clause-extends
-returns-clause-extends c =
-    without_extends c.args.store.now c.thaw.new.self c.thaw-2.new.self c.rest.new.store c.args.a.now c.args.b.now c.in_ok-one.one c.in_ok-other.other
-    c.in_ok-one.ensures.ok c.in_ok-other.ensures.ok c.rest.ensures.extends
+returns-clause-extends c = extends_trans c.args.store.now c.thaw-2.new.self c.rest.new.store (extends_trans c.args.store.now c.thaw.new.self
+    c.thaw-2.new.self (grows_extends c.args.store.now c.thaw.new.self c.in_ok-one.ensures.ok.grows) (grows_extends c.thaw.new.self c.thaw-2.new.self
+    c.in_ok-other.ensures.ok.grows)) c.rest.ensures.extends
