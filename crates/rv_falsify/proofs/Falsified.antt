@@ -10,7 +10,8 @@ use Rattle.rv_types.specs.declared.typed.Kind.TheVariants as kind
 use Rattle.rv_meaning.specs.Runs.{History, Falsifies, IsRun, observed}
 use Rattle.rv_agreement.specs.{Trees.kind_at, Valuations.whole_count}
 use Rattle.rv_diagram.specs.Nodes.{Valuation, valuation_of}
-use Rattle.rv_proofs.specs.{Reached.HasNoIntegers, Runs.IsAbstractRun}
+use Rattle.rv_proofs.specs.Runs.{IsAbstractRun}
+use Rattle.rv_open.specs.Columns.{HasNoColumns}
 use Rattle.rv_flat.specs.{declared.flat.Flat.Flat, declared.parts.FlatMemory.FlatMemory, FlatInstants.memory_places, FlatOf.first_values, FlatOf.flat_inputs}
 use Rattle.rv_flat.specs.{FlatOf.IsFlatOf, Steps.label_counts, Steps.memory_kinds, Steps.input_kinds, Steps.IsInRange, Systems.memory_of}
 use Rattle.rv_flat.proofs.Typing.{memory_kth, value_kth}
@@ -65,7 +66,7 @@ module _ (laws : Laws) (program : ProgramTree) (main : Identifier) (f : Flat) (o
         },
       )
 
-  module _ (without : HasNoIntegers (control_of f)) (words : List (List Bool)) (path : IsFalsifyingPath (control_of f) words)
+  module _ (without : HasNoColumns (control_of f)) (words : List (List Bool)) (path : IsFalsifyingPath (control_of f) words)
       (spelled : HasSpelledRun program main f (path.last + 1) (at_instant words) no_integers) where
     pub last_false : observed program main spelled.history path.last ≡ Some (Flag false)
     last_false =
@@ -199,7 +200,7 @@ module _ (laws : Laws) (program : ProgramTree) (main : Identifier) (f : Flat) (o
       omega (arith, le, many)
 
   -- The words of a falsifying path: their trace falsifies, so some run does.
-  module _ (runs : SpelledRuns) (without : HasNoIntegers (control_of f)) (words : List (List Bool)) (path : IsFalsifyingPath (control_of f) words) where
+  module _ (runs : SpelledRuns) (without : HasNoColumns (control_of f)) (words : List (List Bool)) (path : IsFalsifyingPath (control_of f) words) where
     abbrev its_run : HasSpelledRun program main f (path.last + 1) (at_instant words) no_integers
     its_run = runs program main f (path.last + 1) (at_instant words) no_integers of.well of.named of.flat path.run.run (omega arith) path.run.allowed
 

@@ -17,7 +17,7 @@ use Rattle.rv_meaning.specs.Instants.{State as Brought, is_on_in, AreGiven, IsIn
 use Rattle.rv_meaning.specs.{Meaning.content, Meaning.is_there, Meaning.kept_place, Following.held_before, Following.IsStateAt, Following.IsTypedInstant}
 use Rattle.rv_agreement.specs.{Agreement.State, Agreement.AreTyped, Agreement.HasKind as HasKindIn, Trees.kind_at, Valuations.whole_count}
 use Rattle.rv_agreement.specs.Trees as trees
-use Rattle.rv_proofs.specs.Reached.{HasNoIntegers}
+use Rattle.rv_open.specs.Columns.{HasNoColumns}
 use Rattle.rv_flat.specs.FlatInstants.{Row, held, nth, places, system_of}
 use Rattle.rv_flat.specs.{declared.flat.Flat.Flat, FlatOf.flat_inputs, Steps.memory_kinds, Steps.IsWithin, SystemRuns.IsRunOf}
 use Rattle.rv_flat.proofs.{Running.RunIsInstants, Running.StatesOfRun, SystemRuns.kept_kinds, Typing.TypedMemories, Typing.memory_found, Weighing.size}
@@ -134,7 +134,7 @@ module _ (laws : Laws) (program : ProgramTree) (main : Identifier) (f : Flat) (o
       (found.0, ap (cell row) (sym at) ∙ found.1)
 
   -- Without integers in memories and inputs no value leaves the range.
-  module _ (without : HasNoIntegers (control_of f)) where
+  module _ (without : HasNoColumns (control_of f)) where
     of_run : (states : ℕ → State) × (rows : ℕ → Row) × IsRunOf program main f starts inputs n h states rows
     of_run = laws.flat_runs program main f starts inputs n h of.well of.named of.flat run
 

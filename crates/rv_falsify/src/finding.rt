@@ -1,6 +1,6 @@
 //! A trace that falsifies: found back through the layers, or by a candidate that its replay confirms.
 
-ghost use Rattle.std.specs.Prelude.{◌≡◌, ◌↔◌, ◌<◌, ◌^◌, ℕ, Ok, None, Some, length, slice_get, IfOk, IsErrOf};
+ghost use Rattle.std.specs.Prelude.{◌≡◌, ◌↔◌, ◌<◌, ◌^◌, ℕ, ℤ, List, Ok, None, Some, length, slice_get, IfOk, IsErrOf};
 ghost use Rattle.rv_base.specs.declared.value.Trace.{Trace as TraceModel};
 ghost use Rattle.rv_tree.specs.Tree.{ProgramTree, program_tree};
 ghost use Rattle.rv_tree.specs.Places.{Identifier};
@@ -9,8 +9,7 @@ ghost use Rattle.rv_instances.specs.Fitting.{Fits};
 ghost use Rattle.rv_flat.specs.FlatOf.{IsFlatOf};
 ghost use Rattle.rv_diagram.specs.declared.frozen.Frozen.{Frozen as FrozenModel};
 ghost use Rattle.rv_proofs.specs.Ranges.{IsControlSet};
-ghost use Rattle.rv_proofs.specs.Reached.{HasNoIntegers};
-ghost use Rattle.rv_walk.specs.Ends.{AreBadLayers};
+ghost use Rattle.rv_open.specs.Columns.{HasNoColumns, AreLeastBadLayers};
 ghost use Rattle.rv_reading.specs.Read.{flat_of, system_read, diagrams_of, IsRead};
 ghost use Rattle.rv_falsify.specs.Falsifying.{IsFalsifying, IsNeverFalsified, IsShortest};
 
@@ -28,11 +27,11 @@ use rv_reading::Reading;
 use rv_types::well_formed_programs;
 use std::alloc::Global;
 
-/// A trace that falsifies the program of a source without integers: from the first layer with a false observer back through the
-/// layers, one valuation picked in each, the least. `reading` is that of the source's flat system, and the sets of the layers are
-/// ordered and use state variables only. Where the layers are those of the box pass, none is found exactly where no run falsifies,
-/// and none that falsifies has fewer instants. The reading is left as it was. `Nodes` comes where the diagrams outgrow their limit,
-/// `Memory` where memory runs out.
+/// A trace that falsifies the program of a source without integer memories and inputs: from the first layer with a false observer back through
+/// the layers, one valuation picked in each, the least of those whose comparisons of constants hold. `reading` is that of the source's flat
+/// system, and the sets of the layers are ordered and use state variables only. Where the layers are those of the box pass, none is found
+/// exactly where no run falsifies, and none that falsifies has fewer instants. The reading is left as it was. `Nodes` comes where the diagrams
+/// outgrow their limit, `Memory` where memory runs out.
 fn find_back(
     alloc: Global,
     reading: &mut Reading,
@@ -42,16 +41,17 @@ fn find_back(
     requires read { IsRead reading.old }
     requires fits { Fits (program_tree source.now.program) source.now.typed source.now.order }
     requires flat { IsFlatOf (program_tree source.now.program) (name_at (program_tree source.now.program) source.now.typed.main) (flat_of reading.old) }
-    requires control { HasNoIntegers (system_read reading.old) }
+    requires columns { HasNoColumns (system_read reading.old) }
     requires sets { (t : ℕ) (set : FrozenModel) → slice_get layers.now.sets t ≡ Some set → IsControlSet (system_read reading.old) set }
     ensures falsifies { (t : TraceModel) → result ≡ Ok (Some t)
         → IsFalsifying (program_tree source.now.program) (name_at (program_tree source.now.program) source.now.typed.main) t }
-    ensures shortest { (t : TraceModel) → AreBadLayers (system_read reading.old) layers.now → result ≡ Ok (Some t)
+    ensures shortest { (t : TraceModel) (thresholds : List ℤ) → AreLeastBadLayers (system_read reading.old) thresholds layers.now → result ≡ Ok (Some t)
         → IsShortest (program_tree source.now.program) (name_at (program_tree source.now.program) source.now.typed.main) t }
-    ensures exactly { AreBadLayers (system_read reading.old) layers.now
+    ensures exactly { (thresholds : List ℤ) → AreLeastBadLayers (system_read reading.old) thresholds layers.now
         → IfOk result (λ found. (found ≡ None)
         ↔ IsNeverFalsified (program_tree source.now.program) (name_at (program_tree source.now.program) source.now.typed.main)) }
-    ensures found { AreBadLayers (system_read reading.old) layers.now → IfOk result (λ found. found ≡ None → ⊥) }
+    ensures found { (thresholds : List ℤ) → AreLeastBadLayers (system_read reading.old) thresholds layers.now
+        → IfOk result (λ found. found ≡ None → ⊥) }
     ensures same { reading.new ≡ reading.old }
     ensures roomy { IsErrOf result StoreFault.Nodes → (diagrams_of reading.old).limit < 2 ^ (2 ^ (diagrams_of reading.old).variables) }
 {
@@ -170,9 +170,9 @@ fn find_candidate(
     }
 }
 
-/// A trace that falsifies the program of a source. Of one without integers it is found back from the first layer with a false observer through
-/// the layers, one valuation picked in each, the least: where the layers are those of the box pass, none is found exactly where no run
-/// falsifies, and none that falsifies has fewer instants. Of one with integers a path of cases is sought that leads to a false observer, with a
+/// A trace that falsifies the program of a source. Of one without integer memories and inputs it is found back from the first layer with a false
+/// observer through the layers, one valuation picked in each, the least: where the layers are those of the box pass, which found no good claim,
+/// some is found, and none that falsifies has fewer instants. Of one with integers a path of cases is sought that leads to a false observer, with a
 /// whole point of the rows of its instants, and answered only where its replay says Falsified; none promises nothing. `reading` is that of
 /// the source's flat system, and the sets of the layers are ordered and use state variables only. The reading is left as it was. `Nodes`
 /// comes where the diagrams outgrow their limit, `Memory` where memory runs out.
@@ -188,16 +188,19 @@ pub fn find(
     requires sets { (t : ℕ) (set : FrozenModel) → slice_get layers.now.sets t ≡ Some set → IsControlSet (system_read reading.old) set }
     ensures falsifies { (t : TraceModel) → result ≡ Ok (Some t)
         → IsFalsifying (program_tree source.now.program) (name_at (program_tree source.now.program) source.now.typed.main) t }
-    ensures shortest { (t : TraceModel) → HasNoIntegers (system_read reading.old) → AreBadLayers (system_read reading.old) layers.now → result ≡ Ok (Some t)
+    ensures shortest { (t : TraceModel) (thresholds : List ℤ) → HasNoColumns (system_read reading.old)
+        → AreLeastBadLayers (system_read reading.old) thresholds layers.now → result ≡ Ok (Some t)
         → IsShortest (program_tree source.now.program) (name_at (program_tree source.now.program) source.now.typed.main) t }
-    ensures exactly { HasNoIntegers (system_read reading.old) → AreBadLayers (system_read reading.old) layers.now
+    ensures exactly { (thresholds : List ℤ) → HasNoColumns (system_read reading.old)
+        → AreLeastBadLayers (system_read reading.old) thresholds layers.now
         → IfOk result (λ found. (found ≡ None)
         ↔ IsNeverFalsified (program_tree source.now.program) (name_at (program_tree source.now.program) source.now.typed.main)) }
-    ensures found { HasNoIntegers (system_read reading.old) → AreBadLayers (system_read reading.old) layers.now → IfOk result (λ found. found ≡ None → ⊥) }
+    ensures found { (thresholds : List ℤ) → HasNoColumns (system_read reading.old)
+        → AreLeastBadLayers (system_read reading.old) thresholds layers.now → IfOk result (λ found. found ≡ None → ⊥) }
     ensures same { reading.new ≡ reading.old }
     ensures roomy { IsErrOf result StoreFault.Nodes → (diagrams_of reading.old).limit < 2 ^ (2 ^ (diagrams_of reading.old).variables) }
 {
-    if reading.has_no_integers() {
+    if reading.has_no_columns() {
         return find_back(alloc, reading, source, layers);
     }
     find_candidate(alloc, reading, source, layers)

@@ -15,6 +15,7 @@ use Rattle.rv_accept.specs.Passing.{IsGiven}
 use Rattle.rv_reading.specs.declared.reading.Reading.{Reading}
 use Rattle.rv_reading.specs.Read.{flat_of, system_read, diagrams_of, relation_of, questions_of, IsRead}
 use Rattle.rv_boxes.specs.Passing.{IsPassOf}
+use Rattle.rv_open.specs.{Columns.HasNoColumns, Given.IsConstant}
 use Rattle.rv_paths.specs.Candidates.{IsSearchOf}
 use Rattle.rv_reading.specs.Analysing as analysing
 use Rattle.std.specs.Int.RustNames.{unsigned_abs}
@@ -69,7 +70,20 @@ pub is_search : (r : Reading) (columns : ℕ) → IsRead r → columns ≡ lengt
     → IsSearchOf (system_read r) (diagrams_of r) (relation_of r) (questions_of r) columns
 is_search r columns read many = record { relation = read.relation; questions = read.questions; wide = sym (many ∙ read.wide) }
 
+-- ---- What the search for a run without columns is given of a reading.
+pub is_constant : (r : Reading) → IsRead r → HasNoColumns (system_read r) → IsConstant (system_read r) (diagrams_of r) (relation_of r) (questions_of r)
+is_constant r read columns = record { relation = read.relation; questions = read.questions; columns = columns }
+
 module _ (r : Reading) (read : IsRead r) where
+  pub columns_none : (flat_of r).columns ≡ [] → HasNoColumns (system_read r)
+  columns_none columns =
+      let system = read.relation.system in
+      let none : (system_read r).columns ≡ 0 = sym read.wide ∙ ap length columns in
+      record { memories = let few = system.few_memories in omega (arith, few, none); columns = none }
+
+  pub none_columns : HasNoColumns (system_read r) → (flat_of r).columns ≡ []
+  none_columns none = nil_from_length (flat_of r).columns (read.wide ∙ none.columns)
+
   pub no_integers : (flat_of r).columns ≡ [] → (questions_of r).rows ≡ [] → HasNoIntegers (system_read r)
   no_integers columns tests =
       let system = read.relation.system in

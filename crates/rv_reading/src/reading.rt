@@ -30,6 +30,7 @@ ghost use Rattle.rv_paths.specs.Candidates.{IsCandidateOf, IsInRange as HasTrace
 ghost use Rattle.rv_walk.specs.Ends.{IsGoodCertificate, AreBadLayers, IsGoodEnd};
 ghost use Rattle.rv_walk.specs.Plain.{ArePlain};
 ghost use Rattle.rv_walk.specs.Paths.{IsFalsifyingPath, IsShortestPath};
+ghost use Rattle.rv_open.specs.Columns.{HasNoColumns, AreLeastBadLayers};
 ghost use Rattle.rv_reading.specs.Lending.{LendsStore};
 ghost use Rattle.rv_reading.specs.Read.{flat_of, system_read, diagrams_of, IsRead};
 
@@ -43,11 +44,12 @@ use rv_claimed::Claimed;
 use rv_control::{computed_instants, control_is_a_system};
 use rv_diagram::{Frozen, Store, StoreFault};
 use rv_flat::Flat;
+use rv_open::open_path;
 use rv_paths::{Candidate, candidate};
 use rv_proofs::{Case, Certificate, Layers, Verdict};
 use rv_symbolic::{Parts, Relation, relation_stays};
 use rv_tested::ask_system;
-use rv_walk::{BoxEnd, falsifying_path, walk};
+use rv_walk::{BoxEnd, walk};
 use std::alloc::Global;
 
 /// The control reading of a flat system: its control as diagrams in a store of its own, and the questions by which its cases are split:
@@ -281,26 +283,28 @@ impl<'a> Reading<'a> {
         )
     }
 
-    /// A run of the system of a flat system without integers, along which the assertions hold and at whose last instant the observer is
-    /// false for the first time, found back through the layers. One word for each instant, with a truth value for each variable of the
-    /// flat system; those of next copies mean nothing. The first layer is taken as that of the initial control states. Where the layers
-    /// are those of the walk, some run is found, and none has fewer instants.
+    /// A run of the system of a flat system without integer memories and inputs, along which the assertions hold and at whose last instant
+    /// the observer is false for the first time, found back through the layers. Constants may be compared. One word for each instant, with a
+    /// truth value for each variable of the flat system; those of next copies mean nothing. The first layer is taken as that of the initial
+    /// control states. Where the layers are those of the least closed claim, which is not good, some run is found, and none has fewer instants.
     pub fn falsifying_path(
         &mut self,
         alloc: Global,
         layers: &Layers,
     ) -> Result<Option<Many<Many<bool>>>, StoreFault>
         requires read { IsRead self.old }
-        requires control { HasNoIntegers (system_read self.old) }
+        requires columns { HasNoColumns (system_read self.old) }
         requires sets { (t : ℕ) (set : FrozenModel) → slice_get layers.now.sets t ≡ Some set → IsControlSet (system_read self.old) set }
         ensures falsifies { (words : List (List Bool)) → result ≡ Ok (Some words) → IsFalsifyingPath (system_read self.old) words }
-        ensures shortest { (words : List (List Bool)) → AreBadLayers (system_read self.old) layers.now → result ≡ Ok (Some words)
-            → IsShortestPath (system_read self.old) words }
-        ensures found { AreBadLayers (system_read self.old) layers.now → IfOk result (λ path. path ≡ None → ⊥) }
+        ensures shortest { (thresholds : List ℤ) (words : List (List Bool)) → AreLeastBadLayers (system_read self.old) thresholds layers.now
+            → result ≡ Ok (Some words) → IsShortestPath (system_read self.old) words }
+        ensures found { (thresholds : List ℤ) → AreLeastBadLayers (system_read self.old) thresholds layers.now
+            → IfOk result (λ path. path ≡ None → ⊥) }
         ensures same { self.new ≡ self.old }
         ensures roomy { IsErrOf result StoreFault.Nodes → (diagrams_of self.old).limit < 2 ^ (2 ^ (diagrams_of self.old).variables) }
     {
-        falsifying_path(alloc, &mut self.store, &self.relation, layers)
+        let questions = &self.questions;
+        open_path(alloc, &mut self.store, &self.relation, questions, layers)
     }
 
     /// The flat system.
@@ -316,6 +320,14 @@ impl<'a> Reading<'a> {
         ensures { IsTrue result ↔ HasNoIntegers (system_read self.now) }
     {
         self.flat.columns.is_empty() && self.questions.rows.is_empty()
+    }
+
+    /// Whether the flat system has no columns: no integer memories and no integer inputs.
+    pub fn has_no_columns(&self) -> bool
+        requires { IsRead self.now }
+        ensures { IsTrue result ↔ HasNoColumns (system_read self.now) }
+    {
+        self.flat.columns.is_empty()
     }
 
     /// How many state bits there are.

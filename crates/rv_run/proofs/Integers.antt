@@ -1,25 +1,23 @@
 -- A flat system without integers is that of a program without integers, and the other way round.
-use Rattle.std.proofs.Common.{◌≡◌, ℕ, ◌<◌, Bool, true, false, List, [], ◌∷◌, map, length, get_or, refl, sym, ◌∙◌, ap, arith, Some, slice_get}
+use Rattle.std.proofs.Common.{◌≡◌, ℕ, ◌<◌, Bool, true, false, List, [], map, length, get_or, refl, sym, ◌∙◌, ap, arith, Some, slice_get}
 use Rattle.std.proofs.lemmas.List.{length-map, get_or-map, get_or_default}
 use Rattle.std.proofs.{lemmas.List.Elements.All-contains, lemmas.Bool.false_from_ne_true, lemmas.Option.slice_get-get_or}
 use Rattle.std.specs.List.{Contains}
 use Rattle.rv_tree.specs.{declared.tree.Decl.Decl, Tree.ProgramTree, Places.Identifier, Places.flows}
-use Rattle.rv_types.specs.Lists.{MemoryAt, memory_at, sides_of, ComparisonAt}
+use Rattle.rv_types.specs.Lists.{MemoryAt, memory_at}
 use Rattle.rv_types.specs.Instances.{Instance, place, node_of, main_instance, IsInstance, is_main, IsNode}
-use Rattle.rv_types.specs.{declared.typed.Kind.Kind, Kinds.decl_kinds, Kinds.kind_in_program, Variables.total, Variables.is_integer, WellFormed.AreWell}
+use Rattle.rv_types.specs.{declared.typed.Kind.Kind, Kinds.decl_kinds, Kinds.kind_in_program, Variables.is_integer, WellFormed.AreWell}
 use Rattle.rv_types.specs.declared.typed.Kind.TheVariants as kind
 use Rattle.rv_meaning.specs.Integers.{IsControl}
-use Rattle.rv_flat.specs.{declared.parts.FlatFlow.FlatFlow, declared.parts.FlatInput.FlatInput, declared.flat.Flat.Flat, Lists.variable_of, FlatInstants.places}
+use Rattle.rv_flat.specs.{declared.parts.FlatFlow.FlatFlow, declared.parts.FlatInput.FlatInput, declared.flat.Flat.Flat, FlatInstants.places}
 use Rattle.rv_flat.specs.{FlatOf.IsFlatOf, Systems.memory_of, Steps.input_kinds}
 use Rattle.rv_run.specs.Judged.{IsControlSystem}
-use Rattle.rv_run.proofs.{NoIntegers.not_integer, Sites.name_at_site, Sites.name_within, Sites.input_within, Sites.input_kind, Weighing.weight}
-use Rattle.rv_run.proofs.{Weighing.all_weigh, Weighing.untested_total, Weighing.total_untested}
+use Rattle.rv_run.proofs.{NoIntegers.not_integer, Sites.name_at_site, Sites.name_within, Sites.input_within, Sites.input_kind}
 use Rattle.rv_meaning.proofs.Acceptable.{main_in}
 use Rattle.rv_sequence.proofs.NeedsGraph.{all_from}
 use Rattle.rv_tested.proofs.Inside.{integer_kind}
 use Rattle.rv_types.proofs.Members.{in_map}
 use Rattle.rv_base.proofs.Lists.{from_map, within_got}
-use Rattle.rv_flatten.proofs.ComparedParts.{counted_among}
 
 module _ (p : ProgramTree) (main : Identifier) (f : Flat) (flat : IsFlatOf p main f) (well : AreWell p) (is_node : IsNode p main) where
   flow_number : (i : Instance) (x : Identifier) → IsInstance p main i → Contains (flows i.node) x
@@ -29,13 +27,6 @@ module _ (p : ProgramTree) (main : Identifier) (f : Flat) (flat : IsFlatOf p mai
       let long = length-map f.flows (λ (g : FlatFlow). g.place.sites) in
       let lt = c.1 in
       (c.0, omega (arith, long, lt), get_or_default (places f) c.0 [] (place i x) c.1 ∙ c.2)
-
-  -- the order tests are those of comparisons
-  tests_are : total (weight 0 1) (map variable_of f.variables) ≡ total (λ (c : ComparisonAt). length (sides_of c.operator)) flat.variables.comparisons
-  tests_are =
-      let whole = ap (total (weight 0 1)) flat.variables.list ∙ all_weigh 0 1 p flat.variables.ticks flat.variables.memories
-      (decl_kinds p (node_of p main).inputs) flat.variables.comparisons in
-      omega (arith, whole)
 
   pub system_control : IsControlSystem f → IsControl p main
   system_control control = record {
@@ -48,11 +39,6 @@ module _ (p : ProgramTree) (main : Identifier) (f : Flat) (flat : IsFlatOf p mai
         let integer : m.0.kind ≡ kind.Int = ap (λ (x : MemoryAt). x.kind) m.2 ∙ is in
         let bad : true ≡ false = ap is_integer (sym integer) ∙ All-contains (λ x. is_integer x.kind ≡ false) f.memories m.0 control.memories m.1 in
         let different : ⊥ = cc in different;
-    comparisons = λ i e c inst w compares.
-        let part = counted_among (λ (x : ComparisonAt). length (sides_of x.operator)) flat.variables.comparisons c
-        (flat.variables.are_comparisons.all i e c inst w compares) in
-        let none = untested_total f.variables control.untested in
-        omega (arith, part, none, tests_are, compares.6);
   }
 
   -- the types of flows, memories and inputs of a control program
@@ -77,13 +63,6 @@ module _ (p : ProgramTree) (main : Identifier) (f : Flat) (flat : IsFlatOf p mai
     input_integer : (j : ℕ) → slice_get (input_kinds f) j ≡ Some kind.Int → ⊥
     input_integer j is = input_control j (ap (λ (l : List Kind). slice_get l j) (sym flat.input_kinds) ∙ is)
 
-    no_comparison : flat.variables.comparisons ≡ []
-    no_comparison = none flat.variables.comparisons (λ c w. let d = flat.variables.are_comparisons.only c w in control.comparisons d.0 d.1 c d.2 d.3 d.4)
-      where
-        none : (cs : List ComparisonAt) → ((c : ComparisonAt) → Contains cs c → ⊥) → cs ≡ []
-        none [] h = refl
-        none (c ∷ cs) h = absurd (h c (0, omega arith, refl))
-
     pub control_system : IsControlSystem f
     control_system = record {
       flows = λ k d lt. false_from_ne_true (is_integer (get_or f.flows k d).kind) (λ is.
@@ -95,5 +74,4 @@ module _ (p : ProgramTree) (main : Identifier) (f : Flat) (flat : IsFlatOf p mai
           let long = length-map f.inputs (λ (x : FlatInput). x.kind) in
           input_integer k (slice_get-get_or (input_kinds f) k kind.Bool (omega (arith, long, lt))
           ∙ ap (λ (x : Kind). Some x) (get_or-map (λ (x : FlatInput). x.kind) f.inputs k d kind.Bool lt ∙ integer_kind (get_or f.inputs k d).kind is)));
-      untested = total_untested f.variables (tests_are ∙ ap (total (λ (c : ComparisonAt). length (sides_of c.operator))) no_comparison);
     }

@@ -2,7 +2,6 @@ mod Known
 mod Found
 pub mod Named
 mod NoIntegers
-mod Weighing
 mod Sites
 mod Integers
 mod MainNode

@@ -1,24 +1,17 @@
 -- What is tested of a flat system to tell whether a source is judged.
-use Rattle.std.specs.{Prelude.◌≡◌, Prelude.Bool, Prelude.true, Prelude.false, List.All}
+use Rattle.std.specs.{Prelude.◌≡◌, Prelude.false, List.All}
 use Rattle.rv_types.specs.{Variables.is_integer, Instances.IsNode, WellFormed.AreWell}
-use Rattle.rv_flat.specs.{declared.parts.Bit.Bit, declared.flat.Flat.Flat, FlatOf.IsFlatOf}
-use Rattle.rv_flat.specs.declared.parts.Bit.TheVariants as bit
+use Rattle.rv_flat.specs.{declared.flat.Flat.Flat, FlatOf.IsFlatOf}
 use Rattle.rv_tree.specs.{Tree.ProgramTree, Places.Identifier}
 use Rattle.rv_meaning.specs.Runs.{IsSafe}
 use Rattle.rv_proofs.specs.Runs.{IsSafeSystem}
 use Rattle.rv_control.specs.Control.{control_of}
 
--- an order test of integers
-abbrev pub is_test : Bit → Bool
-is_test (bit.Test p s) = true
-is_test _ = false
-
--- A flat system without integers: no flow, memory or input is one, and none are compared.
+-- A flat system without integers: no flow, memory or input is one. Integers that are compared are then constants.
 pub record IsControlSystem (f : Flat) : Type 0 where
   pub flows : All (λ g. is_integer g.kind ≡ false) f.flows
   pub memories : All (λ m. is_integer m.kind ≡ false) f.memories
   pub inputs : All (λ i. is_integer i.kind ≡ false) f.inputs
-  pub untested : All (λ b. is_test b ≡ false) f.variables
 
 -- The flat system is that of a well formed program, which is safe where the system of valuations is.
 pub record IsKnown (program : ProgramTree) (main : Identifier) (f : Flat) : Type 0 where

@@ -17,15 +17,14 @@ ghost use Rattle.rv_proofs.specs.Accepted.{IsAccepted};
 ghost use Rattle.rv_proofs.specs.Left.{IsLeftPartition};
 ghost use Rattle.rv_proofs.specs.Ranges.{IsControlSet};
 ghost use Rattle.rv_proofs.specs.Boxes.{HasGoodBox};
-ghost use Rattle.rv_proofs.specs.Reached.{HasNoIntegers};
 ghost use Rattle.rv_source.specs.Numbers.{HasSmallNumbers};
 ghost use Rattle.rv_reading.specs.Read.{flat_of, system_read, diagrams_of, IsRead};
-ghost use Rattle.rv_walk.specs.Ends.{AreBadLayers};
+ghost use Rattle.rv_open.specs.Columns.{HasNoColumns, AreLeastBadLayers};
 ghost use Rattle.rv_falsify.specs.Falsifying.{IsFalsifying};
 ghost use Rattle.rv_probe.specs.Probes.{HasFalsifyingProbe};
 ghost use Rattle.rv_replay.specs.Traces.{IsTrace};
 ghost use Rattle.rv_run.specs.Programs.{HasGood, HasManyVariables, LacksProbe};
-ghost use Rattle.rv_run.specs.Judged.{is_test, IsControlSystem, IsKnown};
+ghost use Rattle.rv_run.specs.Judged.{IsControlSystem, IsKnown};
 ghost use Rattle.rv_run.specs.Verdicts.{IsProbe, IsTraced, IsVerdictOf};
 
 use crate::verdict::Verdict;
@@ -35,7 +34,7 @@ use rv_control::{control_is_a_system, runs_are_abstract};
 use rv_diagram::StoreFault;
 use rv_falsify::find;
 use rv_fixpoint::{End, Left, Options, analyse};
-use rv_flat::{Bit, Flat};
+use rv_flat::Flat;
 use rv_flatten::flatten;
 use rv_instances::Source;
 use rv_invariant::write_certificate;
@@ -211,7 +210,7 @@ fn not_good(
     requires thresholds { All (λ t. unsigned_abs t ≤ 2 ^ 41) (flat_of reading.old).thresholds }
     requires unprobed { HasFalsifyingProbe (program_tree source.now.program) (name_at (program_tree source.now.program) source.now.typed.main)
         (flat_of reading.old) → IsControlSystem (flat_of reading.old) }
-    requires bad { HasNoIntegers (system_read reading.old) → AreBadLayers (system_read reading.old) layers.now }
+    requires bad { AreLeastBadLayers (system_read reading.old) (flat_of reading.old).thresholds layers.now }
     requires sets { (t : ℕ) (set : Frozen) → slice_get layers.now.sets t ≡ Some set → IsControlSet (system_read reading.old) set }
     ensures judged { (nodes : ℕ) → IfOk result (λ v. IsVerdictOf nodes v (program_tree source.now.program)
         (name_at (program_tree source.now.program) source.now.typed.main)) }
@@ -263,7 +262,7 @@ fn searched(
     with_trace(alloc, source, flat, trace)
 }
 
-/// The verdict on a source without integers whose layers have a false observer.
+/// The verdict on a source without integers of which no closed box claim is good.
 fn violated(
     alloc: Global,
     source: &Source,
@@ -275,8 +274,8 @@ fn violated(
     requires read { IsRead reading.old }
     requires known { IsKnown (program_tree source.now.program) (name_at (program_tree source.now.program) source.now.typed.main) (flat_of reading.old) }
     requires program_control { IsControl (program_tree source.now.program) (name_at (program_tree source.now.program) source.now.typed.main) }
-    requires control { HasNoIntegers (system_read reading.old) }
-    requires bad { AreBadLayers (system_read reading.old) layers.now }
+    requires columns { HasNoColumns (system_read reading.old) }
+    requires bad { AreLeastBadLayers (system_read reading.old) (flat_of reading.old).thresholds layers.now }
     ensures judged { (nodes : ℕ) → IfOk result (λ v. IsVerdictOf nodes v (program_tree source.now.program)
         (name_at (program_tree source.now.program) source.now.typed.main)) }
     ensures wide { IsErrOf result StoreFault.Nodes → (diagrams_of reading.old).limit < 2 ^ (2 ^ (diagrams_of reading.old).variables) }
@@ -291,11 +290,11 @@ fn violated(
     with_trace(alloc, source, flat, trace)
 }
 
-/// Whether a flat system has no integers.
+/// Whether no flow, memory or input of a flat system is an integer. Constants may be compared.
 fn is_control(flat: &Flat) -> bool
     ensures { IsTrue result ↔ IsControlSystem flat.now }
 {
-    has_no_integer(flat) && !flat.variables.as_slice().iter().any(is_order_test)
+    has_no_integer(flat)
 }
 
 /// Whether no flow, memory or input is an integer.
@@ -318,10 +317,4 @@ fn has_no_integer(flat: &Flat) -> bool
             .as_slice()
             .iter()
             .all(|input| input.kind != Kind::Int)
-}
-
-fn is_order_test(variable: &Bit) -> bool
-    ensures { result ≡ is_test variable.now }
-{
-    matches!(variable, Bit::Test(_, _))
 }

@@ -42,11 +42,11 @@ returns-in_ok-trace-in-Some-clause-falsifies c = λ t e.
     let starts = c.in_ok-trace-in-Some.ensures.starts ∙ ap (λ (g : Flat). spelled_starts g (valuation_of (slice_index_or words 0 [])) []) flat_is in
     let same : c.in_ok-trace-in-Some.trace ≡ t = cc in
     subst (λ (x : Trace). IsFalsifying p (name_at p s.typed.main) x) same
-    (words_falsify laws p (name_at p s.typed.main) f of c.spelled_runs.ensures c.requires.control words path c.in_ok-trace-in-Some.trace starts instants
+    (words_falsify laws p (name_at p s.typed.main) f of c.spelled_runs.ensures c.requires.columns words path c.in_ok-trace-in-Some.trace starts instants
     c.in_ok-trace-in-Some.ensures.count)
 
 pub returns-in_ok-trace-in-Some-clause-shortest : goal.returns-in_ok-trace-in-Some-clause-shortest
-returns-in_ok-trace-in-Some-clause-shortest c = λ t bad e.
+returns-in_ok-trace-in-Some-clause-shortest c = λ t thresholds bad e.
     let s = c.args.source.now in
     let p = program_tree s.program in
     let f : Flat = c.args.reading.now.flat.now in
@@ -66,11 +66,11 @@ returns-in_ok-trace-in-Some-clause-shortest c = λ t bad e.
     let same : c.in_ok-trace-in-Some.trace ≡ t = cc in
     subst (λ (x : Trace). IsShortest p (name_at p s.typed.main) x) same
     (shortest laws p (name_at p s.typed.main) f of c.runs_are_abstract.ensures.runs words c.in_ok-trace-in-Some.trace
-    (c.in_ok-path.ensures.shortest words bad (ap (λ x. Ok x) c.in-Some.is))
+    (c.in_ok-path.ensures.shortest thresholds words bad (ap (λ x. Ok x) c.in-Some.is))
     (ap length instants ∙ length-map words (λ word. spelled_inputs f (valuation_of word) [])))
 
 pub returns-in_ok-trace-in-Some-clause-exactly : goal.returns-in_ok-trace-in-Some-clause-exactly
-returns-in_ok-trace-in-Some-clause-exactly c = λ bad.
+returns-in_ok-trace-in-Some-clause-exactly c = λ thresholds bad.
     let s = c.args.source.now in
     let p = program_tree s.program in
     let f : Flat = c.args.reading.now.flat.now in
@@ -87,5 +87,5 @@ returns-in_ok-trace-in-Some-clause-exactly c = λ bad.
     } in
     let path : IsFalsifyingPath (control_of f) words = c.in_ok-path.ensures.falsifies words (ap (λ x. Ok x) c.in-Some.is) in (
       λ e. let wrong : ⊥ = cc in absurd wrong,
-      λ never. absurd (some_falsifies laws p (name_at p s.typed.main) f of c.spelled_runs.ensures c.requires.control words path never),
+      λ never. absurd (some_falsifies laws p (name_at p s.typed.main) f of c.spelled_runs.ensures c.requires.columns words path never),
     )

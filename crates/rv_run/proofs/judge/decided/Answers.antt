@@ -5,8 +5,9 @@ use Rattle.rv_types.specs.Instances.{name_at}
 use Rattle.rv_flat.specs.declared.flat.Flat.{Flat}
 use Rattle.rv_control.specs.Control.{control_of}
 use Rattle.rv_diagram.specs.declared.frozen.Frozen.{Frozen}
-use Rattle.rv_proofs.specs.{Accepted.IsAccepted, Ranges.IsControlSet, Boxes.HasGoodBox, Reached.HasNoIntegers}
-use Rattle.rv_walk.specs.{Ends.AreBadLayers, Ends.IsGoodEnd, declared.end.BoxEnd.BoxEnd}
+use Rattle.rv_proofs.specs.{Accepted.IsAccepted, Ranges.IsControlSet, Boxes.HasGoodBox}
+use Rattle.rv_walk.specs.{Ends.IsGoodEnd, declared.end.BoxEnd.BoxEnd}
+use Rattle.rv_open.specs.Columns.{AreLeastBadLayers}
 use Rattle.rv_reading.specs.{declared.reading.Reading.Reading, Read.flat_of, Read.system_read}
 use Rattle.rv_probe.specs.Probes.{HasFalsifyingProbe}
 use Rattle.rv_run.specs.Judged.{IsControlSystem, IsKnown}
@@ -54,8 +55,8 @@ not_good-requires-clause-lacks c =
 
 pub not_good-requires-clause-bad : goal.not_good-requires-clause-bad
 not_good-requires-clause-bad c =
-    subst (λ (r : Reading). HasNoIntegers (system_read r) → AreBadLayers (system_read r) c.in-Bad.layers) (sym c.in_ok-certificate.ensures.same)
-    (λ none. c.in_ok-certificate.ensures.control_bad c.in-Bad.layers none (ap Ok c.in-Bad.is))
+    subst (λ (r : Reading). AreLeastBadLayers (system_read r) (flat_of r).thresholds c.in-Bad.layers) (sym c.in_ok-certificate.ensures.same)
+    (c.in_ok-certificate.ensures.least_bad c.in-Bad.layers (ap Ok c.in-Bad.is))
 
 pub not_good-requires-clause-sets : goal.not_good-requires-clause-sets
 not_good-requires-clause-sets c =

@@ -9,7 +9,7 @@ use Rattle.rv_diagram.specs.declared.frozen.Frozen.{Frozen}
 use Rattle.rv_probe.specs.Probes.{HasFalsifyingProbe}
 use Rattle.rv_fixpoint.specs.Ends.{IsProved}
 use Rattle.rv_run.specs.{Judged.IsControlSystem, Judged.IsKnown, Programs.HasGood}
-use Rattle.rv_run.proofs.{Claimed.lacks_both, Integers.system_control, NoIntegers.no_integers}
+use Rattle.rv_run.proofs.{Claimed.lacks_both, Integers.system_control, NoIntegers.no_columns}
 use Rattle.rv_run.proofs.judge.not_good.Goals as goal
 
 pub violated-requires-clause-program_control : goal.violated-requires-clause-program_control
@@ -20,13 +20,9 @@ violated-requires-clause-program_control c =
     system_control p main (flat_of c.args.reading.now) known.flat known.well known.named
     (subst IsControlSystem c.flat-flat.ensures (c.is_control.ensures.0 c.if-is_control.true))
 
-pub violated-requires-clause-control : goal.violated-requires-clause-control
-violated-requires-clause-control c =
-    no_integers (flat_of c.args.reading.now) (subst IsControlSystem c.flat-flat.ensures (c.is_control.ensures.0 c.if-is_control.true))
-
-pub violated-requires-clause-bad : goal.violated-requires-clause-bad
-violated-requires-clause-bad c =
-    c.requires.bad (no_integers (flat_of c.args.reading.now) (subst IsControlSystem c.flat-flat.ensures (c.is_control.ensures.0 c.if-is_control.true)))
+pub violated-requires-clause-columns : goal.violated-requires-clause-columns
+violated-requires-clause-columns c =
+    no_columns (flat_of c.args.reading.now) (subst IsControlSystem c.flat-flat.ensures (c.is_control.ensures.0 c.if-is_control.true))
 
 pub analyse-requires-clause-seed : goal.analyse-requires-clause-seed
 analyse-requires-clause-seed c = c.requires.sets

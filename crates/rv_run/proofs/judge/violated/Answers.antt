@@ -30,7 +30,9 @@ pub with_trace-requires-clause-trace : goal.with_trace-requires-clause-trace
 with_trace-requires-clause-trace c = (c.in_ok-found.ensures.falsifies c.in-Some.trace (ap Ok c.in-Some.is)).trace
 
 pub unreachable-requires : goal.unreachable-requires
-unreachable-requires c = c.in_ok-found.ensures.found c.requires.control c.requires.bad (none_of c.in_ok-found.found c.in_default.not-Some)
+unreachable-requires c =
+    c.in_ok-found.ensures.found (flat_of c.args.reading.now).thresholds c.requires.columns c.requires.bad
+    (none_of c.in_ok-found.found c.in_default.not-Some)
 
 pub returns-clause-judged : goal.returns-clause-judged
 returns-clause-judged c = λ nodes.
@@ -48,7 +50,10 @@ returns-clause-judged c = λ nodes.
     traced-verdict nodes p main t
     (record {
       falsifying = falsifies;
-      origin = inl (c.requires.program_control, c.in_ok-found.ensures.shortest t c.requires.control c.requires.bad (ap Ok c.in-Some.is));
+      origin = inl (
+        c.requires.program_control,
+        c.in_ok-found.ensures.shortest t f.thresholds c.requires.columns c.requires.bad (ap Ok c.in-Some.is),
+      );
     })
     (f, known.flat, lacks) c.with_trace.result c.with_trace.ensures.traced
 
