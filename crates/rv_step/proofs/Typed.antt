@@ -1,5 +1,5 @@
 -- By what a flat system keeps in its type, each memory whose clock is there takes a value of its type.
-use Rattle.std.proofs.Common.{◌≡◌, ℕ, zero, suc, ◌+◌, ◌<◌, ◌≤◌, ◌*ℤ◌, Bool, true, false, not, ◌&&◌, cond, List, [], ◌∷◌, map, length, get_or, refl, sym, ◌∙◌}
+use Rattle.std.proofs.Common.{◌≡◌, ℕ, zero, suc, ◌+◌, ◌<◌, ◌*ℤ◌, Bool, true, false, not, ◌&&◌, cond, List, [], ◌∷◌, map, length, get_or, refl, sym, ◌∙◌}
 use Rattle.std.proofs.Common.{ap, subst, arith, Option, Some, None as Nothing, slice_get, nat_lt}
 use Rattle.std.proofs.lemmas.Option.{get_or_from_slice_get, slice_get_within}
 use Rattle.std.proofs.{lemmas.Bool.eqb-true, lemmas.Bool.ltb-true, lemmas.Simd.map-map, Math.ListN.length-map}
@@ -17,7 +17,7 @@ use Rattle.rv_agreement.specs.Trees.{Kept, System, kind_at, memory_kinds as kind
 use Rattle.rv_agreement.specs.Evaluation.{Found, form_value, integers, trues, value}
 use Rattle.rv_flat.specs.FlatInstants.{Row, nth, held, is_on, is_on_at, found_at, flow_items, memory_items, nth_item, system_of, value_at, IsFlatInstant}
 use Rattle.rv_flat.specs.Steps.{AreTaken, AreValues, IsState, input_kinds, label_counts, memory_kinds}
-use Rattle.rv_flat.specs.{declared.flat.Flat.Flat, declared.parts.FlatMemory.FlatMemory, declared.state.State.State, Systems.flow_item, Systems.kept_of}
+use Rattle.rv_flat.specs.{declared.flat.Flat.Flat, declared.state.State.State, Systems.flow_item, Systems.kept_of}
 use Rattle.rv_flat.proofs.Tested.{current_fits, if_fits, operator_fits}
 use Rattle.rv_flat.proofs.Inlining.{items_kept}
 use Rattle.rv_meaning.proofs.Below.{each_below}
