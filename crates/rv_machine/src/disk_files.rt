@@ -97,7 +97,10 @@ mod tests {
 
     #[test]
     fn reads_a_file(rt: HostRuntime) -> Result<(), Fail> {
-        let all = vec![in rt.alloc(); b'y'; 10_000]?;
+        let mut all = Vec::new(rt.alloc());
+        for number in 0u32..10_000 {
+            all.push((number % 251) as u8)?;
+        }
         fs::write(&rt, "ten_thousand", all.as_slice())?;
         let mut files = DiskFiles::new(&rt);
         for (limit, length) in [
@@ -111,7 +114,8 @@ mod tests {
             match files.load(rt.alloc(), "ten_thousand", limit) {
                 Ok(bytes) => {
                     assert_eq!(rt; bytes.len(), length, "at {limit}");
-                    assert!(rt; bytes.iter().all(|byte| *byte == b'y'), "at {limit}");
+                    let mut pairs = bytes.iter().zip(all.iter());
+                    assert!(rt; pairs.all(|(read, written)| read == written), "at {limit}");
                 }
                 Err(_) => assert!(rt; false, "at {limit}"),
             }
@@ -131,10 +135,11 @@ mod tests {
     }
 
     /// A reader whose reads answer in turn as they are told, with so many bytes at most or a failure, and which is then
-    /// at its end.
+    /// at its end. Its bytes are `a`, `b` and so on.
     #[derive(Drop)]
     struct Told<'a> {
         answers: &'a [Result<usize, ErrorKind>],
+        next: u8,
     }
 
     impl Read for Told<'_> {
@@ -146,7 +151,10 @@ mod tests {
             match answer {
                 Ok(count) => {
                     let count = buf.len().min(*count);
-                    buf[..count].fill(b'x');
+                    for byte in &mut buf[..count] {
+                        *byte = self.next;
+                        self.next = self.next.wrapping_add(1);
+                    }
                     Ok(count)
                 }
                 Err(kind) => Err(io::Error::from(*kind)),
@@ -157,20 +165,30 @@ mod tests {
     #[test]
     fn reads_until_a_read_fails(rt: HostRuntime) {
         let failed = Err(LoadFault::Failed);
-        for (answers, limit, length) in [
-            ([].as_slice(), 9, Ok(0)),
-            (&[Ok(1), Ok(1), Ok(1)], 9, Ok(3)),
-            (&[Ok(2), Err(ErrorKind::Interrupted), Ok(2)], 9, Ok(4)),
+        for (answers, limit, read) in [
+            ([].as_slice(), 9, Ok("")),
+            (&[Ok(1), Ok(1), Ok(1)], 9, Ok("abc")),
+            (&[Ok(2), Err(ErrorKind::Interrupted), Ok(2)], 9, Ok("abcd")),
             (&[Ok(2), Err(ErrorKind::BrokenPipe), Ok(2)], 9, failed),
             (
                 &[Ok(2), Err(ErrorKind::OutOfMemory)],
                 9,
                 Err(LoadFault::Memory),
             ),
-            (&[Ok(2), Ok(2), Err(ErrorKind::BrokenPipe)], 2, Ok(3)),
+            (&[Ok(2), Ok(2), Err(ErrorKind::BrokenPipe)], 2, Ok("abc")),
         ] {
-            let found = read_some(Told { answers }, rt.alloc(), limit);
-            assert_eq!(rt; found.map(|bytes| bytes.len()), length);
+            let found = read_some(
+                Told {
+                    answers,
+                    next: b'a',
+                },
+                rt.alloc(),
+                limit,
+            );
+            match (found, read) {
+                (Ok(bytes), Ok(text)) => assert_eq!(rt; bytes.as_slice(), text.as_bytes()),
+                (found, read) => assert_eq!(rt; found.err(), read.err()),
+            }
         }
     }
 }

@@ -8,6 +8,6 @@ mod command_line;
 mod disk_files;
 mod standard_out;
 
-pub use command_line::{ended_by, words};
+pub use command_line::{ended_by, words, words_in};
 pub use disk_files::DiskFiles;
 pub use standard_out::StandardOut;

@@ -84,6 +84,8 @@ fn write_whole<W: Write>(writer: &mut W, piece: &[u8]) -> io::Result<()>
 #[cfg(test)]
 mod tests {
     use super::*;
+    use std::alloc::{AllocError, Global};
+    use std::cell::{Cell, RefCell};
     use std::fmt::Display;
     use std::test::Fail;
 
@@ -163,10 +165,13 @@ mod tests {
         Ok(())
     }
 
-    /// An output that takes so many bytes at each write.
+    /// An output that takes so many bytes at each write and keeps them, and fails at the write with this number.
     #[derive(Drop)]
     struct Narrow {
         width: usize,
+        failing: Option<u32>,
+        writes: Cell<u32>,
+        shown: RefCell<Vec<u8>>,
     }
 
     impl Print for Narrow {
@@ -183,7 +188,17 @@ mod tests {
         }
 
         fn write_some(&self, bytes: &[u8]) -> io::Result<usize> {
-            Ok(bytes.len().min(self.width))
+            let number = self.writes.get();
+            self.writes.set(number.wrapping_add(1));
+            if self.failing == Some(number) {
+                return Err(io::Error::from(ErrorKind::BrokenPipe));
+            }
+            let count = bytes.len().min(self.width);
+            let Ok(mut shown) = self.shown.try_borrow_mut() else {
+                return Err(io::Error::from(ErrorKind::Other));
+            };
+            shown.extend_from_slice(&bytes[..count])?;
+            Ok(count)
         }
     }
 
@@ -194,7 +209,12 @@ mod tests {
             (3, Ok(()), 0),
             (0, Err(PutFault::Failed), 2),
         ] {
-            let narrow = Narrow { width };
+            let narrow = Narrow {
+                width,
+                failing: None,
+                writes: Cell::new(0),
+                shown: RefCell::new(Vec::new(rt.alloc())),
+            };
             let mut out = StandardOut::new(&narrow);
             assert_eq!(rt; out.put(b"one"), answer, "at {width}");
             assert_eq!(rt; out.put(b"another"), answer, "at {width}");
@@ -202,6 +222,51 @@ mod tests {
             assert_eq!(rt; out.puts, 3, "at {width}");
             assert_eq!(rt; out.faults, faults, "at {width}");
         }
+    }
+
+    /// 70,000 bytes, of which neighbours differ, and so do those that stand a power of two apart.
+    fn long_piece(alloc: Global) -> Result<Vec<u8>, AllocError> {
+        let mut piece = Vec::new(alloc);
+        for number in 0u32..70_000 {
+            piece.push((number % 251) as u8)?;
+        }
+        Ok(piece)
+    }
+
+    #[test]
+    fn shows_pieces_in_order(rt: HostRuntime) -> Result<(), Fail> {
+        let long = long_piece(rt.alloc())?;
+        let failed = Err(PutFault::Failed);
+        for (width, failing, answer, length) in [
+            (70_000, None, Ok(()), 70_000),
+            (65_536, None, Ok(()), 70_000),
+            (4_096, None, Ok(()), 70_000),
+            (999, None, Ok(()), 70_000),
+            (65_536, Some(1), failed, 65_536),
+            (4_096, Some(3), failed, 12_288),
+            (1, Some(0), failed, 0),
+        ] {
+            let narrow = Narrow {
+                width,
+                failing,
+                writes: Cell::new(0),
+                shown: RefCell::new(Vec::new(rt.alloc())),
+            };
+            let mut out = StandardOut::new(&narrow);
+            assert_eq!(rt; out.put(&long), answer, "at {width}");
+            assert_eq!(rt; out.put(b"end"), Ok(()), "at {width}");
+            let mut wanted = Vec::new(rt.alloc());
+            for byte in long.iter().take(length).chain(b"end") {
+                wanted.push(*byte)?;
+            }
+            match narrow.shown.try_borrow() {
+                Ok(shown) => {
+                    assert!(rt; shown.as_slice() == wanted.as_slice(), "at {width}");
+                }
+                Err(_) => assert!(rt; false, "at {width}"),
+            }
+        }
+        Ok(())
     }
 
     #[test]

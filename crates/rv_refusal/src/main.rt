@@ -1,4 +1,4 @@
-//! The program once more, so that a second run of it is stored: a source with a cycle, and the status that it ends with.
+//! The program once more, so that a run of it is stored on words that are no command, with the status that it ends with.
 #![tactic(auto)]
 
 use rv_machine::{DiskFiles, StandardOut, ended_by, words};

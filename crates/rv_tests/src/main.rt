@@ -11,7 +11,8 @@
 //! - polyhedra and abstract values: `meet`, `join`, `after`, `eliminate`, `included`, `whole_point`, `post`, `includes`, `both`
 //!   (`polyhedra.rt`);
 //! - decision diagrams: `diagram` (`diagrams.rt`);
-//! - the whole program over files and sinks in memory: `run`, `prove`, `replay`, `replaylong`, `surely`, `long`, `bytes`, `printed`
+//! - the whole program over files and sinks in memory: `run`, `prove`, `replay`, `replaylong`, `surely`, `long`, `bytes`, `weighed`,
+//!   `printed`
 //!   (`runs.rt`).
 #![tactic(auto)]
 

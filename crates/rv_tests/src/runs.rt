@@ -46,6 +46,8 @@ const CHECK: &str = "reaver check f m t";
 /// `long`: the same of a text by its front, a part, how often it is repeated, and the back. A `%` in the part stands for
 /// how often it stood before;
 /// `bytes`: the same of bytes by their numbers;
+/// `weighed`: the words, and what is shown told by its length and by the two sums of Adler's checksum, where nothing fails and the
+/// file `f` is empty;
 /// `printed`: a report by its words, and its text.
 pub fn ran(alloc: Global, kind: &str, fields: &str) -> Result<Option<String>, Memory> {
     match kind {
@@ -71,6 +73,7 @@ pub fn ran(alloc: Global, kind: &str, fields: &str) -> Result<Option<String>, Me
             Some(bytes) => Ok(Some(proved(alloc, &bytes)?)),
             None => Ok(None),
         },
+        "weighed" => Ok(Some(weighed(alloc, fields)?)),
         "printed" => printed(alloc, fields),
         _ => Ok(None),
     }
@@ -265,6 +268,30 @@ fn ran_failing(
     out.fail_calls(puts)?;
     let outcome = run_in_memory(alloc, words, files, &mut out);
     outcome_text(alloc, &outcome, out.bytes())
+}
+
+/// What is done with these words over an empty file `f`, where nothing fails, and what is shown told by its length and its sums.
+fn weighed(alloc: Global, words: &str) -> Result<String, Memory> {
+    let words = words_of(alloc, words)?;
+    let mut files = files_of(alloc, b"")?;
+    let mut out = MemorySink::new(alloc);
+    let outcome = run_in_memory(alloc, &words, &mut files, &mut out);
+    let (first, second) = sums_of(out.bytes());
+    let length = out.bytes().len();
+    let mut text = outcome_text(alloc, &outcome, b"")?;
+    text.push_str(format!(in alloc; "{length} {first} {second}")?.as_str())?;
+    Ok(text)
+}
+
+/// The two sums of Adler's checksum.
+fn sums_of(bytes: &[u8]) -> (u32, u32) {
+    let mut first: u32 = 1;
+    let mut second: u32 = 0;
+    for byte in bytes {
+        first = first.wrapping_add(u32::from(*byte)) % 65_521;
+        second = second.wrapping_add(first) % 65_521;
+    }
+    (first, second)
 }
 
 /// Over files in memory Safe means that what they hold has runs, each of which is safe, and a fresh sink is given one piece.
