@@ -6,6 +6,11 @@ returns-clause-extends c =
     meet_extends c.args.store.now c.thaw.new.self c.thaw-2.new.self c.and.new.self c.args.a.now c.args.b.now c.in_ok-one.one c.in_ok-other.other
     c.in_ok-both.both c.in_ok-one.ensures.ok c.in_ok-other.ensures.ok c.in_ok-both.ensures.ok
 
+pub returns-in_err-frozen_some-clause-extends : goal.returns-in_err-frozen_some-clause-extends
+returns-in_err-frozen_some-clause-extends c =
+    meet_extends c.args.store.now c.thaw.new.self c.thaw-2.new.self c.and.new.self c.args.a.now c.args.b.now c.in_ok-one.one c.in_ok-other.other
+    c.in_ok-both.both c.in_ok-one.ensures.ok c.in_ok-other.ensures.ok c.in_ok-both.ensures.ok
+
 pub returns-clause-met : goal.returns-clause-met
 returns-clause-met c =
     meet_found c.args.store.now c.thaw.new.self c.thaw-2.new.self c.and.new.self c.args.a.now c.args.b.now c.in_ok-one.one c.in_ok-other.other
