@@ -3,7 +3,8 @@ use Rattle.std.proofs.Common.{ℕ, Bool, ◌≡◌, ◌↔◌, true, IsTrue, ◌
 use Rattle.rv_diagram.specs.Nodes.{Valuation, Diagrams, Answers, IsOrderedOver, value_of}
 use Rattle.rv_diagram.specs.{Several.UsesNeeded, declared.frozen.Frozen.Frozen}
 use Rattle.rv_proofs.specs.{Scopes.IsIn, Systems.System, Ranges.IsControlSet}
-use Rattle.rv_symbolic.proofs.{Extending.needed_same, Reading.control-value, Reading.control_set}
+use Rattle.rv_symbolic.specs.Growing.{Extends}
+use Rattle.rv_symbolic.proofs.{Extending.needed_same, Extending.extends_trans, Extending.grows_extends, Reading.control-value, Reading.control_set}
 use Rattle.rv_state.specs.States.{either, IsUnion}
 
 module _ (s0 s1 s2 : Diagrams) (a b : Frozen) (one other : ℕ) (p : Answers s0 s1 (value_of a.nodes a.root) one)
@@ -17,6 +18,11 @@ module _ (s0 s1 s2 : Diagrams) (a b : Frozen) (one other : ℕ) (p : Answers s0 
     λ on v inside. sym (q.means v) ∙ h.0 on v (first-is v ∙ inside),
     λ all. h.1 (λ v inside. q.means v ∙ all v (sym (first-is v) ∙ inside)),
   )
+
+  -- the store grows over two sets that are thawed and a third call
+  pub union-extends : (s3 : Diagrams) (both : ℕ) → Answers s2 s3 (λ v. value_of s2.nodes one v || value_of s2.nodes other v) both → Extends s0 s3
+  union-extends s3 both r =
+      extends_trans s0 s2 s3 (extends_trans s0 s1 s2 (grows_extends s0 s1 p.grows) (grows_extends s1 s2 q.grows)) (grows_extends s2 s3 r.grows)
 
   pub union-made : (s3 : Diagrams) (f : Frozen) (both : ℕ) → Answers s2 s3 (λ v. value_of s2.nodes one v || value_of s2.nodes other v) both
       → IsOrderedOver s3.variables f → ((v : Valuation) → value_of f.nodes f.root v ≡ value_of s3.nodes both v) → UsesNeeded f.nodes (value_of s3.nodes both)
