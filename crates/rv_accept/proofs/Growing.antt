@@ -1,9 +1,9 @@
 -- Stores that grow, and sets that are gathered.
 use Rattle.std.proofs.Common.{ℕ, ◌+◌, ◌<◌, ◌≤◌, ◌≡◌, ◌↔◌, ◌⊎◌, Bool, true, false, not, ◌&&◌, ◌||◌, List, [], ◌∷◌, length, refl, sym, ap, ◌∙◌, subst, ⊎_elim}
-use Rattle.std.proofs.Common.{inl, inr, arith, Some, slice_get}
+use Rattle.std.proofs.Common.{inl, inr, arith, Some, slice_get, Result, Ok, Err, IfOk, if◌then◌else◌}
 use Rattle.std.proofs.lemmas.Bool.{cases_lt, or_cases, and_from, and_parts, or_left, or_right}
 use Rattle.std.proofs.lemmas.Option.{same_Some}
-use Rattle.rv_diagram.specs.Nodes.{Valuation, Diagrams, IsRef}
+use Rattle.rv_diagram.specs.Nodes.{Valuation, Diagrams, IsRef, Answers, choice, value_of}
 use Rattle.rv_proofs.specs.{Scopes.IsIn, declared.certificate.Location.Location, declared.certificate.Entry.Entry}
 use Rattle.rv_terms.specs.Growing.{Extends}
 use Rattle.rv_accept.specs.Steps.{has}
@@ -16,6 +16,19 @@ found_later a b r e h = let k : length a.nodes ≤ length b.nodes = e.longer in 
 
 pub and_not : (x y z : Bool) → z ≡ (x && not y) → (z ≡ true) ↔ ((x ≡ true) × (y ≡ false))
 and_not x y z e = (λ h. let p = and_parts x (not y) (sym e ∙ h) in (p.0, of_not_true y p.1), λ (a, b). e ∙ and_from x (not y) a (ap not b))
+
+if_not : (x y z : Bool) → z ≡ false → (if y then z else x) ≡ (x && not y)
+if_not true true z e = e
+if_not false true z e = e
+if_not true false z e = refl
+if_not false false z e = refl
+
+-- the choice of nothing where the second is true is the first without the second
+pub cut_means : {E : Type 0} (o : Result ℕ E) (a b : Diagrams) (x y none : ℕ) → ((v : Valuation) → value_of a.nodes none v ≡ false)
+    → IfOk o (λ r. Answers a b (choice a.nodes y none x) r)
+    → IfOk o (λ r. (v : Valuation) → value_of b.nodes r v ≡ (value_of a.nodes x v && not (value_of a.nodes y v)))
+cut_means (Err f) a b x y none off ok = ok
+cut_means (Ok r) a b x y none off ok = λ v. ok.means v ∙ if_not (value_of a.nodes x v) (value_of a.nodes y v) (value_of a.nodes none v) (off v)
 
 -- WHAT IS GATHERED
 

@@ -16,8 +16,8 @@ use Rattle.rv_symbolic.specs.declared.relation.Parts.{Parts}
 use Rattle.rv_cases.specs.declared.asking.Questions.{Questions}
 use Rattle.rv_cases.proofs.Keeping.{questions_later}
 use Rattle.rv_accept.specs.{Steps.IsTrueOf, Steps.IsLeastWord, Steps.has, Held.IsHeld, Held.IsWithin, Held.IsScope, Held.ReadsNext, Held.IsUnseen}
-use Rattle.rv_accept.specs.{Held.IsElsewhere, Passing.IsGiven, Passing.NoneBefore, Passing.Passes, Passing.AllPass, Passing.IsFirstNotIncluded}
-use Rattle.rv_accept.proofs.{Growing.found_later, Firsts.no_row}
+use Rattle.rv_accept.specs.{Held.IsElsewhere, Held.AreLedInto, Passing.IsGiven, Passing.NoneBefore, Passing.Passes, Passing.AllPass, Passing.IsFirstNotIncluded}
+use Rattle.rv_accept.proofs.{Growing.found_later, Moving.refs_later, Firsts.no_row}
 
 module _ (a b : Diagrams) (e : Extends a b) where
   value_later : (r : ℕ) (f : Valuation → Bool) → IsRef a.nodes r → ((v : Valuation) → value_of a.nodes r v ≡ f v) → (v : Valuation) → value_of b.nodes r v ≡ f v
@@ -51,6 +51,14 @@ module _ (a b : Diagrams) (e : Extends a b) where
   true_later P r t = record {
     found = found_later a b r e t.found;
     exact = λ v. (λ h. (t.exact v).0 (sym (e.kept r t.found v) ∙ h), λ h. e.kept r t.found v ∙ (t.exact v).1 h);
+  }
+
+  pub led_later : (s : System) (c : Certificate) (led : List ℕ) → AreLedInto s c a led → AreLedInto s c b led
+  led_later s c led h = record {
+    size = h.size;
+    refs = refs_later a b led e h.refs;
+    means = λ k l at v. e.kept (ref_at led k) (h.refs k (let w : k < length c.locations = slice_get_within c.locations k l at in omega (arith, w, h.size))) v
+        ∙ h.means k l at v;
   }
 
 -- WHAT IS GIVEN
@@ -126,18 +134,19 @@ elsewhere_one (Some w) s c l e into is h = record {
   });
 }
 
-pub elsewhere_step : {E : Type 0} (o : Result (Option (List Bool)) E) (d : Diagrams) (p : Parts) (c : Certificate) (k j n : ℕ) (l : Location) (e : Entry)
-    (into : Location) (scope : ℕ)
+pub elsewhere_step : {E : Type 0} (o : Result (Option (List Bool)) E) (d : Diagrams) (c : Certificate) (k j n : ℕ) (l : Location) (e : Entry)
+    (into : Location) (scope : ℕ) (led : List ℕ)
     → IsEntry c k j l e → IsTarget c l e.kind into → slice_get c.locations n ≡ Some into
-    → IfOk o (λ o. (s : System) (l' : Location) (x : Entry) (target : Location) → IsHeld s d p → IsControlSet s l'.control → IsCondition s x.condition
-    → IsControlSet s target.control → target.control ≡ into.control
-    → IsScope s l' x d scope → MatchOption o (LeadsInto s l' x target) (λ w. IsLeastWord (IsElsewhere s l' x target) w))
-    → IfOk o (λ o. (s : System) → IsHeld s d p → IsInRange s c → IsScope s l e d scope
+    → IfOk o (λ o. (s : System) (l' : Location) (x : Entry) (target : Location) → IsSystem s → d.variables ≡ s.variables → IsControlSet s l'.control
+    → IsCondition s x.condition → IsControlSet s target.control → IsScope s l' x d scope
+    → ((v : Valuation) → value_of d.nodes (ref_at led n) v ≡ has target.control (s.next v))
+    → MatchOption o (LeadsInto s l' x target) (λ w. IsLeastWord (IsElsewhere s l' x target) w))
+    → IfOk o (λ o. (s : System) → IsSystem s → d.variables ≡ s.variables → IsInRange s c → AreLedInto s c d led → IsScope s l e d scope
     → MatchOption o (Leads s c l e e.kind) (λ w. IsLeastWord (LeadsElsewhere s c l e) w))
-elsewhere_step (Err f) d p c k j n l e into scope is target at h = h
-elsewhere_step (Ok o) d p c k j n l e into scope is target at h = λ s held range sc. elsewhere_one o s c l e into target
-    (h s l e into held (range.locations k l is.location).control ((range.locations k l is.location).entries j e is.entry).condition
-    (range.locations n into at).control refl sc)
+elsewhere_step (Err f) d c k j n l e into scope led is target at h = h
+elsewhere_step (Ok o) d c k j n l e into scope led is target at h = λ s fits variables range are sc. elsewhere_one o s c l e into target
+    (h s l e into fits variables (range.locations k l is.location).control ((range.locations k l is.location).entries j e is.entry).condition
+    (range.locations n into at).control sc (are.means n into at))
 
 pub counted_target : (c : Certificate) (l : Location) (e : Entry) (kind : EntryKind) (target : ℕ) (reach : List Multipliers) → HasKindCounts c l kind
     → kind ≡ Go target reach → target < length c.locations
@@ -162,14 +171,16 @@ whole_one Nothing s c k l included covered h = record { included = included; cov
 whole_one (Some r) s c k l included covered h = λ before. h before included covered
 
 pub location_whole : {E : Type 0} (o : Result (Option Reason) E) (a d : Diagrams) (p : Parts) (q : Questions) (c : Certificate) (k : ℕ) (l : Location)
-    (within : ℕ) → IsIncluded l
-    → ((s : System) → IsGiven s a p q c → IsGiven s d p q c × IsWithin s l d within × IsCovered s l)
-    → IfOk o (λ o. (s : System) → IsGiven s d p q c → IsWithin s l d within
+    (within : ℕ) (led : List ℕ) → IsIncluded l
+    → ((s : System) → IsGiven s a p q c → AreLedInto s c a led → IsGiven s d p q c × IsWithin s l d within × AreLedInto s c d led × IsCovered s l)
+    → IfOk o (λ o. (s : System) → IsGiven s d p q c → IsWithin s l d within → AreLedInto s c d led
     → MatchOption o ((j : ℕ) (e : Entry) → slice_get l.entries j ≡ Some e → Passes s c l e) (λ r. NoneBefore s c (1 ∷ k ∷ []) → IsIncluded l
     → IsCovered s l → IsFirst s c r))
-    → IfOk o (λ o. (s : System) → IsGiven s a p q c → MatchOption o (AllPass s c l) (λ r. NoneBefore s c (1 ∷ k ∷ []) → IsFirst s c r))
-location_whole (Err f) a d p q c k l within included known h = h
-location_whole (Ok o) a d p q c k l within included known h = λ s g. let (g', w, covered) = known s g in whole_one o s c k l included covered (h s g' w)
+    → IfOk o (λ o. (s : System) → IsGiven s a p q c → AreLedInto s c a led
+    → MatchOption o (AllPass s c l) (λ r. NoneBefore s c (1 ∷ k ∷ []) → IsFirst s c r))
+location_whole (Err f) a d p q c k l within led included known h = h
+location_whole (Ok o) a d p q c k l within led included known h = λ s g li. let (g', w, li', covered) = known s g li in
+    whole_one o s c k l included covered (h s g' w li')
 
 pub scope_made : (s : System) (l : Location) (e : Entry) (a b : Diagrams) (within r : ℕ) → IsWithin s l a within → IsRef b.nodes r → ((v : Valuation)
     → value_of b.nodes r v ≡ (value_of a.nodes within v && has e.condition v)) → IsScope s l e b r

@@ -1,11 +1,13 @@
 -- A set of control states before a step, node by node.
-use Rattle.std.proofs.Common.{ℕ, ◌+◌, ◌-◌, ◌/◌, ◌<◌, ◌≤◌, ◌≡◌, ◌⊎◌, false, if◌then◌else◌, List, [], ◌∷◌, ◌++◌, length, sym, ap, ◌∙◌, subst, ⊎_elim, arith}
-use Rattle.std.proofs.Common.{Result, Ok, Err, IfOk}
-use Rattle.std.proofs.{lemmas.Bool.cases_lt, lemmas.List.get_or_append_left, Math.Seq.get_or-append_seam, Math.ListN.get_or-eq_default, Math.Path.fun_ext}
+use Rattle.std.proofs.Common.{ℕ, ◌+◌, ◌-◌, ◌/◌, ◌<◌, ◌≤◌, ◌≡◌, ◌⊎◌, Bool, false, if◌then◌else◌, List, [], ◌∷◌, ◌++◌, length, sym, ap, ◌∙◌, subst, ⊎_elim, arith}
+use Rattle.std.proofs.Common.{Result, Ok, Err, IfOk, Some, slice_get, refl}
+use Rattle.std.proofs.{lemmas.Bool.cases_lt, lemmas.List.get_or_append_left, Math.Seq.get_or-append_seam, Math.ListN.get_or-eq_default, Math.Path.fun_ext, lemmas.Option.same_Some}
 use Rattle.rv_diagram.specs.Nodes.{Valuation, Diagrams, Answers, IsExpanded, IsRef, value_of, choice, node_at}
-use Rattle.rv_diagram.specs.{declared.Triple.Triple, Several.ref_at}
+use Rattle.rv_diagram.specs.{declared.Triple.Triple, declared.frozen.Frozen.Frozen, Several.ref_at, Several.UsesNeeded}
+use Rattle.rv_diagram.proofs.Several.{unused_ignored}
+use Rattle.rv_proofs.specs.declared.certificate.Location.{Location}
 use Rattle.rv_terms.specs.Growing.{Extends}
-use Rattle.rv_accept.specs.{Steps.AreRefs, Held.AreMoved, Held.follow}
+use Rattle.rv_accept.specs.{Steps.AreRefs, Steps.has, Held.AreMoved, Held.ReadsNext, Held.follow}
 
 pub child_found : (d : Diagrams) (moved : List ℕ) (r x : ℕ) → AreRefs d moved → r < length moved + 2 → (r < 2 → x ≡ r) → ((n : ℕ) → r ≡ n + 2
     → x ≡ ref_at moved n) → IsRef d.nodes x
@@ -73,3 +75,32 @@ moved_more a b d next nodes moved i r node expanded refs ab bd size low is are b
     ∙ sym (expanded.node i low (follow a next v))
     ∙ ap (λ (k : ℕ). value_of nodes (k + 2) (follow a next v)) same)
     (cases_lt n i)
+
+-- what is reached reads no other bits
+pub reads_reached : (set f : Frozen) (n : ℕ) → UsesNeeded f.nodes (value_of set.nodes set.root) → ReadsNext n set.nodes → ReadsNext n f.nodes
+reads_reached set f n needed reads i low = ⊎_elim (λ less. less)
+    (λ more. absurd (needed (node_at f.nodes i).var (unused_ignored set.nodes set.root (node_at f.nodes i).var (λ j there e.
+    let h : (node_at f.nodes i).var / 2 < n = subst (λ y. y / 2 < n) e (reads j there) in omega (arith, more, h))) i low refl))
+    (cases_lt ((node_at f.nodes i).var / 2) n)
+
+-- one more location's set has been moved
+pub led_more : (a b d : Diagrams) (next : List ℕ) (locations : List Location) (led : List ℕ) (i r : ℕ) (here : Location) → AreRefs a next → Extends a b
+    → Extends b d → length led ≡ i → slice_get locations i ≡ Some here → AreRefs b led
+    → ((n : ℕ) (x : Location) → n < i → slice_get locations n ≡ Some x → (v : Valuation)
+    → value_of b.nodes (ref_at led n) v ≡ has x.control (follow a next v))
+    → ((v : Valuation) → value_of d.nodes r v ≡ has here.control (follow b next v))
+    → (n : ℕ) (x : Location) → n < i + 1 → slice_get locations n ≡ Some x → (v : Valuation)
+    → value_of d.nodes (ref_at (led ++ r ∷ []) n) v ≡ has x.control (follow a next v)
+led_more a b d next locations led i r here refs ab bd size at are before new n x less there v = ⊎_elim
+    (λ lt. ap (λ y. value_of d.nodes y v) (get_or_append_left led (r ∷ []) 0 n (omega arith)) ∙ bd.kept (ref_at led n) (are n (omega arith)) v
+    ∙ before n x lt there v)
+    (λ ge. let same : i ≡ n = omega arith in
+    ap (λ y. value_of d.nodes y v) (ap (ref_at (led ++ r ∷ [])) (sym same ∙ sym size) ∙ get_or-append_seam led r [] 0)
+    ∙ new v ∙ ap (λ (u : Valuation). has here.control u) (follow_kept a b next ab refs v)
+    ∙ ap (λ (l : Location). has l.control (follow a next v)) (same_Some here x (sym at ∙ ap (λ m. slice_get locations m) same ∙ there)))
+    (cases_lt n i)
+
+pub thawed_means : {E : Type 0} (o : Result ℕ E) (a b : Diagrams) (f g : Valuation → Bool) → ((v : Valuation) → f v ≡ g v) → IfOk o (λ r. Answers a b f r)
+    → IfOk o (λ r. (v : Valuation) → value_of b.nodes r v ≡ g v)
+thawed_means (Err x) a b f g same ok = ok
+thawed_means (Ok r) a b f g same ok = λ v. ok.means v ∙ same v

@@ -1,10 +1,10 @@
 -- What a checker has of a system: references in a store that mean what the system is. And what it builds of them.
-use Rattle.std.specs.Prelude.{◌≡◌, ℕ, ◌+◌, ◌/◌, ◌<◌, true, false, Bool, List, IsTrue, length}
+use Rattle.std.specs.Prelude.{◌≡◌, ℕ, ◌+◌, ◌/◌, ◌<◌, true, false, Bool, List, IsTrue, length, Some, slice_get}
 use Rattle.rv_diagram.specs.{declared.Triple.Triple, Nodes.Valuation, Nodes.Diagrams, Nodes.value_of, Nodes.valuation_of, Nodes.node_at, Several.ref_at}
 use Rattle.rv_symbolic.specs.{Represented.HaveRefs, Represented.AreParts, declared.relation.Parts.Parts}
 use Rattle.rv_proofs.specs.{Systems.System, Systems.IsSystem, Scopes.IsIn, Scopes.IsInScope, Verdicts.IsWord, declared.certificate.Location.Location}
-use Rattle.rv_proofs.specs.{declared.certificate.Entry.Entry}
-use Rattle.rv_accept.specs.Steps.{IsTrueOf}
+use Rattle.rv_proofs.specs.{declared.certificate.Entry.Entry, declared.certificate.Certificate.Certificate}
+use Rattle.rv_accept.specs.Steps.{IsTrueOf, AreRefs, has}
 
 -- The references are those of the store, and mean what the system is.
 pub record IsHeld (s : System) (d : Diagrams) (p : Parts) : Type 0 where
@@ -31,6 +31,13 @@ ReadsNext n nodes = (i : ℕ) → i < length nodes → (node_at nodes i).var / 2
 -- The first nodes have become these references, each true where the node is true of the next control state.
 abbrev pub AreMoved : Diagrams → List ℕ → List Triple → List ℕ → Type 0
 AreMoved d next nodes moved = (n : ℕ) → n < length moved → (v : Valuation) → value_of d.nodes (ref_at moved n) v ≡ value_of nodes (n + 2) (follow d next v)
+
+-- There is a reference for each location, true of the valuations whose next control state is in its control set.
+pub record AreLedInto (s : System) (c : Certificate) (d : Diagrams) (led : List ℕ) : Type 0 where
+  pub size : length led ≡ length c.locations
+  pub refs : AreRefs d led
+  pub means : (k : ℕ) (l : Location) → slice_get c.locations k ≡ Some l → (v : Valuation)
+      → value_of d.nodes (ref_at led k) v ≡ has l.control (s.next v)
 
 -- a valuation of the scope at which the observer is false
 pub record IsUnseen (s : System) (l : Location) (e : Entry) (digits : List Bool) : Type 0 where

@@ -11,7 +11,7 @@ ghost use Rattle.rv_proofs.specs.declared.certificate.Location.{Location};
 ghost use Rattle.rv_proofs.specs.declared.certificate.Entry.{Entry};
 ghost use Rattle.rv_terms.specs.Growing.{Extends};
 ghost use Rattle.rv_accept.specs.Steps.{IsLeastWord};
-ghost use Rattle.rv_accept.specs.Held.{IsHeld, IsWithin};
+ghost use Rattle.rv_accept.specs.Held.{IsHeld, IsWithin, AreLedInto};
 ghost use Rattle.rv_accept.specs.Passing.{NoneBefore, Passes, AllPass, IsGiven};
 
 use crate::entry::entry_fault;
@@ -62,7 +62,8 @@ fn cover_word(
     answer
 }
 
-/// The first reason among the entries of a location, or none. `within` is true of the allowed valuations of the location.
+/// The first reason among the entries of a location, or none. `within` is true of the allowed valuations of the location, and `led` has for
+/// each location the valuations that lead into it.
 fn entries_fault(
     alloc: Global,
     store: &mut Store,
@@ -72,14 +73,16 @@ fn entries_fault(
     location: &Location,
     k: u32,
     within: Ref,
+    led: &[Ref],
 ) -> Result<Option<Reason>, StoreFault>
-    requires given { (s : System) × IsGiven s store.old parts.now questions.now certificate.now × IsWithin s location.now store.old within }
+    requires given { (s : System) × IsGiven s store.old parts.now questions.now certificate.now × IsWithin s location.now store.old within
+        × AreLedInto s certificate.now store.old led.now }
     requires at { slice_get certificate.now.locations k ≡ Some location.now }
     requires within { IsRef store.old.nodes within }
     ensures same { store.new ≡ store.old }
     ensures roomy { IsErrOf result StoreFault.Nodes → store.old.limit < 2 ^ (2 ^ store.old.variables) }
     ensures exact { IfOk result (λ o. (s : System) → IsGiven s store.old parts.now questions.now certificate.now → IsWithin s location.now store.old within
-        → MatchOption o ((j : ℕ) (e : Entry) → slice_get location.now.entries j ≡ Some e → Passes s certificate.now location.now e)
+        → AreLedInto s certificate.now store.old led.now → MatchOption o ((j : ℕ) (e : Entry) → slice_get location.now.entries j ≡ Some e → Passes s certificate.now location.now e)
         (λ r. NoneBefore s certificate.now (1 ∷ k ∷ []) → IsIncluded location.now → IsCovered s location.now → IsFirst s certificate.now r)) }
 {
     for j in 0..location.entries.len() {
@@ -93,6 +96,7 @@ fn entries_fault(
             k,
             j as u32,
             within,
+            led,
         )? {
             return Ok(Some(reason));
         }
@@ -109,13 +113,14 @@ fn location_fault_in(
     certificate: &Certificate,
     location: &Location,
     k: u32,
+    led: &[Ref],
 ) -> Result<Option<Reason>, StoreFault>
-    requires given { (s : System) × IsGiven s store.old parts.now questions.now certificate.now }
+    requires given { (s : System) × IsGiven s store.old parts.now questions.now certificate.now × AreLedInto s certificate.now store.old led.now }
     requires at { slice_get certificate.now.locations k ≡ Some location.now }
     ensures extends { Extends store.old store.new }
     ensures roomy { IsErrOf result StoreFault.Nodes → store.old.limit < 2 ^ (2 ^ store.old.variables) }
     ensures exact { IfOk result (λ o. (s : System) → IsGiven s store.old parts.now questions.now certificate.now
-        → MatchOption o (AllPass s certificate.now location.now) (λ r. NoneBefore s certificate.now (1 ∷ k ∷ []) → IsFirst s certificate.now r)) }
+        → AreLedInto s certificate.now store.old led.now → MatchOption o (AllPass s certificate.now location.now) (λ r. NoneBefore s certificate.now (1 ∷ k ∷ []) → IsFirst s certificate.now r)) }
 {
     if let Some(row) = first_not_included(location) {
         return Ok(Some(Reason::Inclusion(k, row)));
@@ -133,6 +138,7 @@ fn location_fault_in(
         location,
         k,
         within,
+        led,
     )
 }
 
@@ -145,22 +151,85 @@ fn location_fault(
     certificate: &Certificate,
     location: &Location,
     k: u32,
+    led: &[Ref],
 ) -> Result<Option<Reason>, StoreFault>
-    requires given { (s : System) × IsGiven s store.old parts.now questions.now certificate.now }
+    requires given { (s : System) × IsGiven s store.old parts.now questions.now certificate.now × AreLedInto s certificate.now store.old led.now }
     requires at { slice_get certificate.now.locations k ≡ Some location.now }
     ensures same { store.new ≡ store.old }
     ensures roomy { IsErrOf result StoreFault.Nodes → store.old.limit < 2 ^ (2 ^ store.old.variables) }
     ensures exact { IfOk result (λ o. (s : System) → IsGiven s store.old parts.now questions.now certificate.now
-        → MatchOption o (AllPass s certificate.now location.now) (λ r. NoneBefore s certificate.now (1 ∷ k ∷ []) → IsFirst s certificate.now r)) }
+        → AreLedInto s certificate.now store.old led.now → MatchOption o (AllPass s certificate.now location.now) (λ r. NoneBefore s certificate.now (1 ∷ k ∷ []) → IsFirst s certificate.now r)) }
 {
     let mark = store.mark();
-    let answer = location_fault_in(alloc, store, parts, questions, certificate, location, k);
+    let answer = location_fault_in(
+        alloc,
+        store,
+        parts,
+        questions,
+        certificate,
+        location,
+        k,
+        led,
+    );
     store.release(mark);
     answer
 }
 
-/// The first reason among the locations, or none.
+/// The first reason among the locations, or none. `led` has for each location the valuations that lead into it.
 fn locations_fault(
+    alloc: Global,
+    store: &mut Store,
+    parts: &Parts,
+    questions: &Questions,
+    certificate: &Certificate,
+    led: &[Ref],
+) -> Result<Option<Reason>, StoreFault>
+    requires given { (s : System) × IsGiven s store.old parts.now questions.now certificate.now × AreLedInto s certificate.now store.old led.now }
+    ensures same { store.new ≡ store.old }
+    ensures roomy { IsErrOf result StoreFault.Nodes → store.old.limit < 2 ^ (2 ^ store.old.variables) }
+    ensures exact { IfOk result (λ o. (s : System) → IsGiven s store.old parts.now questions.now certificate.now
+        → AreLedInto s certificate.now store.old led.now → MatchOption o ((k : ℕ) (l : Location) → slice_get certificate.now.locations k ≡ Some l
+        → AllPass s certificate.now l) (λ r. IsInitial s certificate.now → IsFirst s certificate.now r)) }
+{
+    for k in 0..certificate.locations.len() {
+        let location = certificate.locations.at(k);
+        if let Some(reason) = location_fault(
+            alloc,
+            store,
+            parts,
+            questions,
+            certificate,
+            location,
+            k as u32,
+            led,
+        )? {
+            return Ok(Some(reason));
+        }
+    }
+    Ok(None)
+}
+
+/// The first reason after the initial control states, with what was built for all locations.
+fn later_fault_in(
+    alloc: Global,
+    store: &mut Store,
+    parts: &Parts,
+    questions: &Questions,
+    certificate: &Certificate,
+) -> Result<Option<Reason>, StoreFault>
+    requires given { (s : System) × IsGiven s store.old parts.now questions.now certificate.now }
+    ensures extends { Extends store.old store.new }
+    ensures roomy { IsErrOf result StoreFault.Nodes → store.old.limit < 2 ^ (2 ^ store.old.variables) }
+    ensures exact { IfOk result (λ o. (s : System) → IsGiven s store.old parts.now questions.now certificate.now
+        → MatchOption o ((k : ℕ) (l : Location) → slice_get certificate.now.locations k ≡ Some l
+        → AllPass s certificate.now l) (λ r. IsInitial s certificate.now → IsFirst s certificate.now r)) }
+{
+    let led = words::led_into_each(alloc, store, parts, certificate)?;
+    locations_fault(alloc, store, parts, questions, certificate, led.as_slice())
+}
+
+/// The first reason after the initial control states, or none. The store is left as it was.
+fn later_fault(
     alloc: Global,
     store: &mut Store,
     parts: &Parts,
@@ -174,21 +243,10 @@ fn locations_fault(
         → MatchOption o ((k : ℕ) (l : Location) → slice_get certificate.now.locations k ≡ Some l
         → AllPass s certificate.now l) (λ r. IsInitial s certificate.now → IsFirst s certificate.now r)) }
 {
-    for k in 0..certificate.locations.len() {
-        let location = certificate.locations.at(k);
-        if let Some(reason) = location_fault(
-            alloc,
-            store,
-            parts,
-            questions,
-            certificate,
-            location,
-            k as u32,
-        )? {
-            return Ok(Some(reason));
-        }
-    }
-    Ok(None)
+    let mark = store.mark();
+    let answer = later_fault_in(alloc, store, parts, questions, certificate);
+    store.release(mark);
+    answer
 }
 
 /// The verdict on a certificate. The store is left as it was.
@@ -207,7 +265,7 @@ fn verdict_of(
     if let Some(word) = initial_word(store, parts, certificate)? {
         return Ok(Verdict::Rejected(Reason::NoInitial(word)));
     }
-    if let Some(reason) = locations_fault(alloc, store, parts, questions, certificate)? {
+    if let Some(reason) = later_fault(alloc, store, parts, questions, certificate)? {
         return Ok(Verdict::Rejected(reason));
     }
     Ok(Verdict::Accepted)

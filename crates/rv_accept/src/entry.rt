@@ -2,7 +2,7 @@
 
 ghost use Rattle.std.specs.Prelude.{◌≡◌, ℕ, ◌<◌, ◌^◌, [], ◌∷◌, Some, IfOk, IsErrOf, MatchOption, MatchBool, length, slice_get};
 ghost use Rattle.rv_diagram.specs.Nodes.{IsRef};
-ghost use Rattle.rv_proofs.specs.Systems.{System};
+ghost use Rattle.rv_proofs.specs.Systems.{System, IsSystem};
 ghost use Rattle.rv_proofs.specs.Ranges.{IsInRange};
 ghost use Rattle.rv_proofs.specs.Accepted.{IsObserved, IsStepKind, IsDeadKind, Leads, IsEntry};
 ghost use Rattle.rv_proofs.specs.Verdicts.{IsUnobserved, LeadsElsewhere, IsFirst};
@@ -11,7 +11,7 @@ ghost use Rattle.rv_proofs.specs.declared.certificate.Location.{Location};
 ghost use Rattle.rv_proofs.specs.declared.certificate.Entry.{Entry};
 ghost use Rattle.rv_terms.specs.Growing.{Extends};
 ghost use Rattle.rv_accept.specs.Steps.{IsLeastWord};
-ghost use Rattle.rv_accept.specs.Held.{IsHeld, IsWithin, IsScope};
+ghost use Rattle.rv_accept.specs.Held.{IsHeld, IsWithin, IsScope, AreLedInto};
 ghost use Rattle.rv_accept.specs.Passing.{NoneBefore, Passes, IsGiven};
 
 use crate::facts::entry_facts;
@@ -57,39 +57,35 @@ fn step_unobserved(
     }
 }
 
-/// The least valuation in the scope of a step that does not lead where it should, or none.
+/// The least valuation in the scope of a step that does not lead where it should, or none. `led` has for each location the
+/// valuations that lead into it.
 fn step_misses(
-    alloc: Global,
     store: &mut Store,
-    parts: &Parts,
     certificate: &Certificate,
     location: &Location,
     entry: &Entry,
+    k: u32,
     scope: Ref,
+    led: &[Ref],
 ) -> Result<Option<Many<bool>>, StoreFault>
-    requires given { (s : System) × IsHeld s store.old parts.now × IsInRange s certificate.now }
-    requires entry { (k j : ℕ) × IsEntry certificate.now k j location.now entry.now }
+    requires given { (s : System) × IsSystem s × IsInRange s certificate.now × AreLedInto s certificate.now store.old led.now }
+    requires entry { (j : ℕ) × IsEntry certificate.now k j location.now entry.now }
     requires scope { IsRef store.old.nodes scope }
     ensures extends { Extends store.old store.new }
     ensures roomy { IsErrOf result StoreFault.Nodes → store.old.limit < 2 ^ (2 ^ store.old.variables) }
-    ensures exact { IfOk result (λ o. (s : System) → IsHeld s store.old parts.now → IsInRange s certificate.now
-        → IsScope s location.now entry.now store.old scope
+    ensures exact { IfOk result (λ o. (s : System) → IsSystem s → store.old.variables ≡ s.variables → IsInRange s certificate.now
+        → AreLedInto s certificate.now store.old led.now → IsScope s location.now entry.now store.old scope
         → MatchOption o (Leads s certificate.now location.now entry.now entry.now.kind) (λ w. IsLeastWord
         (LeadsElsewhere s certificate.now location.now entry.now) w)) }
 {
     match &entry.kind {
         EntryKind::Dead(_) => Ok(None),
-        EntryKind::Go { target, .. } => {
-            let into = certificate.locations.at(*target as usize);
-            words::misses_target(alloc, store, parts, scope, &into.control)
-        }
-        EntryKind::Loop { .. } => {
-            words::misses_target(alloc, store, parts, scope, &location.control)
-        }
+        EntryKind::Go { target, .. } => words::misses_target(store, scope, led[*target as usize]),
+        EntryKind::Loop { .. } => words::misses_target(store, scope, led[k as usize]),
     }
 }
 
-/// The first reason of an entry, with what was built for it.
+/// The first reason of an entry, with what was built for it. `led` has for each location the valuations that lead into it.
 fn entry_fault_in(
     alloc: Global,
     store: &mut Store,
@@ -100,15 +96,17 @@ fn entry_fault_in(
     k: u32,
     j: u32,
     within: Ref,
+    led: &[Ref],
 ) -> Result<Option<Reason>, StoreFault>
-    requires given { (s : System) × IsGiven s store.old parts.now questions.now certificate.now × IsWithin s location.now store.old within }
+    requires given { (s : System) × IsGiven s store.old parts.now questions.now certificate.now × IsWithin s location.now store.old within
+        × AreLedInto s certificate.now store.old led.now }
     requires at { slice_get certificate.now.locations k ≡ Some location.now }
     requires entry { j < length location.now.entries }
     requires within { IsRef store.old.nodes within }
     ensures extends { Extends store.old store.new }
     ensures roomy { IsErrOf result StoreFault.Nodes → store.old.limit < 2 ^ (2 ^ store.old.variables) }
     ensures exact { IfOk result (λ o. (s : System) → IsGiven s store.old parts.now questions.now certificate.now → IsWithin s location.now store.old within
-        → (e : Entry) → slice_get location.now.entries j ≡ Some e
+        → AreLedInto s certificate.now store.old led.now → (e : Entry) → slice_get location.now.entries j ≡ Some e
         → MatchOption o (Passes s certificate.now location.now e) (λ r. NoneBefore s certificate.now (1 ∷ k ∷ 2 ∷ j ∷ []) → IsFirst s certificate.now r)) }
 {
     let entry = location.entries.at(j as usize);
@@ -120,7 +118,7 @@ fn entry_fault_in(
     if let Some(word) = step_unobserved(store, parts, entry, scope)? {
         return Ok(Some(Reason::Observer(k, j, word)));
     }
-    if let Some(word) = step_misses(alloc, store, parts, certificate, location, entry, scope)? {
+    if let Some(word) = step_misses(store, certificate, location, entry, k, scope, led)? {
         return Ok(Some(Reason::Target(k, j, word)));
     }
     if let Some(n) = first_unimplied(alloc, certificate, location, entry, &facts)? {
@@ -140,15 +138,17 @@ pub fn entry_fault(
     k: u32,
     j: u32,
     within: Ref,
+    led: &[Ref],
 ) -> Result<Option<Reason>, StoreFault>
-    requires given { (s : System) × IsGiven s store.old parts.now questions.now certificate.now × IsWithin s location.now store.old within }
+    requires given { (s : System) × IsGiven s store.old parts.now questions.now certificate.now × IsWithin s location.now store.old within
+        × AreLedInto s certificate.now store.old led.now }
     requires at { slice_get certificate.now.locations k ≡ Some location.now }
     requires entry { j < length location.now.entries }
     requires within { IsRef store.old.nodes within }
     ensures same { store.new ≡ store.old }
     ensures roomy { IsErrOf result StoreFault.Nodes → store.old.limit < 2 ^ (2 ^ store.old.variables) }
     ensures exact { IfOk result (λ o. (s : System) → IsGiven s store.old parts.now questions.now certificate.now → IsWithin s location.now store.old within
-        → (e : Entry) → slice_get location.now.entries j ≡ Some e
+        → AreLedInto s certificate.now store.old led.now → (e : Entry) → slice_get location.now.entries j ≡ Some e
         → MatchOption o (Passes s certificate.now location.now e) (λ r. NoneBefore s certificate.now (1 ∷ k ∷ 2 ∷ j ∷ []) → IsFirst s certificate.now r)) }
 {
     let mark = store.mark();
@@ -162,6 +162,7 @@ pub fn entry_fault(
         k,
         j,
         within,
+        led,
     );
     store.release(mark);
     answer

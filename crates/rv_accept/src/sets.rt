@@ -47,8 +47,9 @@ pub fn without(store: &mut Store, a: Ref, b: Ref) -> Result<Ref, StoreFault>
     ensures found { IfOk result (λ r. IsRef store.new.nodes r) }
     ensures means { IfOk result (λ r. (v : Valuation) → value_of store.new.nodes r v ≡ (value_of store.old.nodes a v && not (value_of store.old.nodes b v))) }
 {
-    let off = store.not(b)?;
-    store.and(a, off)
+    // No diagram of the whole complement: where the first has little, little of the second is looked at.
+    let none = store.constant(false);
+    store.ite(b, none, a)
 }
 
 /// The valuations that meet the condition of some entry.

@@ -8,7 +8,7 @@ ghost use Rattle.rv_terms.specs.Growing.{Extends};
 ghost use Rattle.rv_diagram.specs.Several.{ref_at};
 ghost use Rattle.rv_accept.specs.Steps.{IsLeastWord, has};
 ghost use Rattle.rv_accept.specs.Steps.{AreRefs};
-ghost use Rattle.rv_accept.specs.Held.{IsHeld, IsWithin, IsScope, follow, ReadsNext, AreMoved, IsUnseen, IsElsewhere};
+ghost use Rattle.rv_accept.specs.Held.{IsHeld, IsWithin, IsScope, follow, ReadsNext, AreMoved, AreLedInto, IsUnseen, IsElsewhere};
 ghost use Rattle.rv_proofs.specs.Systems.{System, IsSystem};
 ghost use Rattle.rv_proofs.specs.Accepted.{IsInitial, IsCovered, IsObserved, LeadsInto};
 ghost use Rattle.rv_proofs.specs.Ranges.{IsControlSet, IsCondition, IsInRange};
@@ -140,9 +140,25 @@ fn moved_nodes(
     Ok(moved)
 }
 
-/// The valuations whose next control state is in a set: the set's nodes are gone through once, children first, and each
-/// becomes a choice by the reference of its state bit.
-pub fn led_into(
+/// The same set with no node that its root does not reach: a file may have others. The store is left as it was.
+fn reached(store: &mut Store, set: &Frozen) -> Result<Frozen, StoreFault>
+    requires { IsOrderedOver store.old.variables set.now }
+    ensures same { store.new ≡ store.old }
+    ensures roomy { IsErrOf result StoreFault.Nodes → store.old.limit < 2 ^ (2 ^ store.old.variables) }
+    ensures ordered { IfOk result (λ f. IsOrderedOver store.old.variables f) }
+    ensures means { IfOk result (λ f. (v : Valuation) → has f v ≡ has set.now v) }
+    ensures states { IfOk result (λ f. (n : ℕ) → ReadsNext n set.now.nodes → ReadsNext n f.nodes) }
+{
+    let mark = store.mark();
+    let r = store.thaw(set)?;
+    let kept = store.freeze(r);
+    store.release(mark);
+    Ok(kept?)
+}
+
+/// The valuations whose next control state is in a set: the nodes that the set's root reaches are gone through once, children
+/// first, and each becomes a choice by the reference of its state bit.
+fn led_into(
     alloc: Global,
     store: &mut Store,
     next: &[Ref],
@@ -156,33 +172,111 @@ pub fn led_into(
     ensures found { IfOk result (λ r. IsRef store.new.nodes r) }
     ensures means { IfOk result (λ r. (v : Valuation) → value_of store.new.nodes r v ≡ has set.now (follow store.old next.now v)) }
 {
+    let kept = reached(store, set)?;
     let variables = store.variables();
-    let _ordered = set.ordered(variables);
-    let moved = moved_nodes(alloc, store, next, set.nodes.as_slice())?;
+    let _ordered = kept.ordered(variables);
+    let moved = moved_nodes(alloc, store, next, kept.nodes.as_slice())?;
     let _count = store.mark();
-    Ok(moved_child(moved.as_slice(), set.root))
+    Ok(moved_child(moved.as_slice(), kept.root))
 }
 
-/// The least valuation of a scope whose next control state is not in a set, or none.
-pub fn misses_target(
+/// The same as a diagram that stands by itself, with what was built for it.
+fn led_frozen(
+    alloc: Global,
+    store: &mut Store,
+    next: &[Ref],
+    set: &Frozen,
+) -> Result<Frozen, StoreFault>
+    requires next { AreRefs store.old next.now }
+    requires set { IsOrderedOver store.old.variables set.now }
+    requires states { ReadsNext (length next.now) set.now.nodes }
+    ensures extends { Extends store.old store.new }
+    ensures roomy { IsErrOf result StoreFault.Nodes → store.old.limit < 2 ^ (2 ^ store.old.variables) }
+    ensures ordered { IfOk result (λ f. IsOrderedOver store.old.variables f) }
+    ensures means { IfOk result (λ f. (v : Valuation) → has f v ≡ has set.now (follow store.old next.now v)) }
+{
+    let led = led_into(alloc, store, next, set)?;
+    Ok(store.freeze(led)?)
+}
+
+/// The same. The store is left as it was.
+fn led_apart(
+    alloc: Global,
+    store: &mut Store,
+    next: &[Ref],
+    set: &Frozen,
+) -> Result<Frozen, StoreFault>
+    requires next { AreRefs store.old next.now }
+    requires set { IsOrderedOver store.old.variables set.now }
+    requires states { ReadsNext (length next.now) set.now.nodes }
+    ensures same { store.new ≡ store.old }
+    ensures roomy { IsErrOf result StoreFault.Nodes → store.old.limit < 2 ^ (2 ^ store.old.variables) }
+    ensures ordered { IfOk result (λ f. IsOrderedOver store.old.variables f) }
+    ensures means { IfOk result (λ f. (v : Valuation) → has f v ≡ has set.now (follow store.old next.now v)) }
+{
+    let mark = store.mark();
+    let answer = led_frozen(alloc, store, next, set);
+    store.release(mark);
+    answer
+}
+
+/// The valuations whose next control state is in a set, with the nodes that they need and no others that were built on the way.
+fn led_alone(
+    alloc: Global,
+    store: &mut Store,
+    next: &[Ref],
+    set: &Frozen,
+) -> Result<Ref, StoreFault>
+    requires next { AreRefs store.old next.now }
+    requires set { IsOrderedOver store.old.variables set.now }
+    requires states { ReadsNext (length next.now) set.now.nodes }
+    ensures extends { Extends store.old store.new }
+    ensures roomy { IsErrOf result StoreFault.Nodes → store.old.limit < 2 ^ (2 ^ store.old.variables) }
+    ensures found { IfOk result (λ r. IsRef store.new.nodes r) }
+    ensures means { IfOk result (λ r. (v : Valuation) → value_of store.new.nodes r v ≡ has set.now (follow store.old next.now v)) }
+{
+    let apart = led_apart(alloc, store, next, set)?;
+    store.thaw(&apart)
+}
+
+/// For each location the valuations whose next control state is in its control set: each set is moved once, however many
+/// entries lead into it.
+pub fn led_into_each(
     alloc: Global,
     store: &mut Store,
     parts: &Parts,
-    scope: Ref,
-    into: &Frozen,
-) -> Result<Option<Many<bool>>, StoreFault>
-    requires next { AreRefs store.old parts.now.next }
-    requires scope { IsRef store.old.nodes scope }
-    requires into { IsOrderedOver store.old.variables into.now }
-    requires states { ReadsNext (length parts.now.next) into.now.nodes }
+    certificate: &Certificate,
+) -> Result<Vec<Ref>, StoreFault>
+    requires given { (s : System) × IsHeld s store.old parts.now × IsInRange s certificate.now }
     ensures extends { Extends store.old store.new }
     ensures roomy { IsErrOf result StoreFault.Nodes → store.old.limit < 2 ^ (2 ^ store.old.variables) }
-    ensures exact { IfOk result (λ o. (s : System) (l : Location) (e : Entry) (target : Location) → IsHeld s store.old parts.now → IsControlSet s l.control
-        → IsCondition s e.condition
-        → IsControlSet s target.control → target.control ≡ into.now → IsScope s l e store.old scope
+    ensures exact { IfOk result (λ led. (s : System) → IsHeld s store.old parts.now → IsInRange s certificate.now
+        → AreLedInto s certificate.now store.new led.items) }
+{
+    let mut led = Vec::new(alloc);
+    for k in 0..certificate.locations.len() {
+        let control = &certificate.locations.at(k).control;
+        let r = led_alone(alloc, store, parts.next.as_slice(), control)?;
+        led.push(r)?;
+    }
+    Ok(led)
+}
+
+/// The least valuation of a scope that is not among those that lead into a target, or none.
+pub fn misses_target(
+    store: &mut Store,
+    scope: Ref,
+    led: Ref,
+) -> Result<Option<Many<bool>>, StoreFault>
+    requires scope { IsRef store.old.nodes scope }
+    requires led { IsRef store.old.nodes led }
+    ensures extends { Extends store.old store.new }
+    ensures roomy { IsErrOf result StoreFault.Nodes → store.old.limit < 2 ^ (2 ^ store.old.variables) }
+    ensures exact { IfOk result (λ o. (s : System) (l : Location) (e : Entry) (target : Location) → IsSystem s → store.old.variables ≡ s.variables
+        → IsControlSet s l.control → IsCondition s e.condition → IsControlSet s target.control → IsScope s l e store.old scope
+        → ((v : Valuation) → value_of store.old.nodes led v ≡ has target.control (s.next v))
         → MatchOption o (LeadsInto s l e target) (λ w. IsLeastWord (IsElsewhere s l e target) w)) }
 {
-    let led = led_into(alloc, store, parts.next.as_slice(), into)?;
     let rest = sets::without(store, scope, led)?;
     Ok(store.pick(rest)?)
 }

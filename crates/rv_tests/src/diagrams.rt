@@ -4,13 +4,13 @@ ghost use Rattle.std.specs.Prelude.{◌≡◌};
 ghost use Rattle.rv_diagram.specs.Nodes.{IsRef};
 
 use rv_base::{Many, Memory};
-use rv_diagram::{Frozen, Ref, Store, StoreFault};
+use rv_diagram::{Frozen, Ref, Store, StoreFault, Triple};
 use std::alloc::{AllocError, Global};
 
 /// The answer on a row of the kind `diagram`, which names what is made:
 /// `x`, `and`, `or`, `not`, `ite`, `exists`, `restrict`, `compose`, `and_exists`, `exists_each`, `thaw`: its nodes when
 /// frozen, and the reference;
-/// `pick`, `values`, `implies`, `ordered`, `reads`, `release`, `full`: what these calls answer.
+/// `pick`, `values`, `implies`, `ordered`, `reads`, `release`, `full`, `whole`: what these calls answer.
 pub fn diagram(alloc: Global, call: &str) -> Result<Option<String>, Memory> {
     let mut store = Store::new(alloc, 2, 64)?;
     let told = match call {
@@ -21,6 +21,7 @@ pub fn diagram(alloc: Global, call: &str) -> Result<Option<String>, Memory> {
         "reads" => read(alloc, &mut store),
         "release" => released(alloc, &mut store),
         "full" => return Ok(Some(filled(alloc)?)),
+        "whole" => frozen_whole(alloc),
         _ => made(alloc, &mut store, call),
     };
     match told {
@@ -208,4 +209,39 @@ fn filled(alloc: Global) -> Result<String, Memory> {
     let left = store.mark();
     let (variables, limit) = (store.variables(), store.limit());
     Ok(format!(in alloc; "{first} {one}, {told} {left}, {variables} variables, limit {limit}")?)
+}
+
+/// The diagram of `x and y`.
+fn both_frozen(alloc: Global) -> Result<Frozen, AllocError> {
+    let mut nodes = Many::new(alloc);
+    nodes.push(Triple {
+        var: 1,
+        lo: 0,
+        hi: 1,
+    })?;
+    nodes.push(Triple {
+        var: 0,
+        lo: 0,
+        hi: 2,
+    })?;
+    Ok(Frozen { nodes, root: 3 })
+}
+
+/// In a store of two nodes: `x and y`, which needs both, frozen again, how many nodes there are, and what `x` is told then.
+fn frozen_whole(alloc: Global) -> Result<String, StoreFault> {
+    let mut store = Store::new(alloc, 2, 2)?;
+    let given = both_frozen(alloc)?;
+    if !given.ordered(2) {
+        return Ok(String::from_str(alloc, "not ordered")?);
+    }
+    let both = store.thaw(&given)?;
+    let again = store.freeze(both)?;
+    let text = frozen_text(alloc, &again)?;
+    let many = store.mark();
+    let told = match store.variable(0) {
+        Ok(_) => "made",
+        Err(StoreFault::Nodes) => "nodes",
+        Err(StoreFault::Memory) => return Err(StoreFault::Memory),
+    };
+    Ok(format!(in alloc; "{text}, {many}, {told}")?)
 }
