@@ -1,5 +1,5 @@
 -- The least words that fail.
-use Rattle.std.proofs.Common.{ℕ, ◌/◌, ◌≡◌, ◌⊎◌, Bool, false, not, ◌&&◌, List, [], sym, ap, ◌∙◌, ⊎_elim, arith, Option, Some, MatchOption, IsTrue, slice_get}
+use Rattle.std.proofs.Common.{ℕ, ◌/◌, ◌≡◌, Bool, false, not, ◌&&◌, List, [], sym, ap, ◌∙◌, ⊎_elim, arith, Option, Some, MatchOption, IsTrue, slice_get}
 use Rattle.std.proofs.lemmas.Bool.{cases_Bool, false_from_ne_true}
 use Rattle.rv_diagram.specs.Nodes.{Valuation, Diagrams, node_at, value_of, valuation_of, IsLeast, IsRef}
 use Rattle.rv_diagram.specs.{declared.frozen.Frozen.Frozen, Several.ref_at}

@@ -1,5 +1,5 @@
 -- The first implication of a list that is not proved, and what that says of the entry.
-use Rattle.std.proofs.Common.{ℕ, zero, suc, ◌+◌, ◌-◌, ◌<◌, ◌≤◌, ◌≡◌, ◌↔◌, ◌⊎◌, ◌^◌, ℤ, ◌-ℤ◌, List, [], ◌∷◌, ◌++◌, map, length, length-append, All, refl, sym}
+use Rattle.std.proofs.Common.{ℕ, zero, suc, ◌+◌, ◌<◌, ◌≤◌, ◌≡◌, ◌↔◌, ◌^◌, ℤ, ◌-ℤ◌, List, [], ◌∷◌, ◌++◌, map, length, length-append, All, refl, sym}
 use Rattle.std.proofs.Common.{subst, ⊎_elim, arith, Option, Some, IfSome, slice_get, None as Nothing}
 use Rattle.std.proofs.{lemmas.List.length_push, lemmas.Option.none-some, lemmas.Option.same_Some, lemmas.Option.slice_get_within}
 use Rattle.rv_rows.specs.{declared.linear.Row.Row, declared.linear.Form.Form, declared.farkas.Multipliers.Multipliers, Rows.dot, Tight.Fits, Forms.number}

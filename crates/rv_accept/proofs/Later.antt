@@ -1,5 +1,5 @@
 -- What is given stays so as the store grows, and the answers of the tests put together.
-use Rattle.std.proofs.Common.{ℕ, ◌+◌, ◌-◌, ◌*◌, ◌/◌, ◌<◌, ◌≤◌, ◌≡◌, ◌&&◌, Bool, true, false, List, [], ◌∷◌, length, refl, sym, ◌∙◌, subst, ⊎_elim, inl, inr}
+use Rattle.std.proofs.Common.{ℕ, ◌+◌, ◌-◌, ◌*◌, ◌/◌, ◌<◌, ◌≤◌, ◌≡◌, ◌&&◌, Bool, true, false, List, [], ◌∷◌, length, sym, ◌∙◌, subst, ⊎_elim, inl, inr}
 use Rattle.std.proofs.Common.{arith, Result, Ok, Err, IfOk, Option, Some, MatchOption, MatchBool, IsTrue, slice_get, None as Nothing}
 use Rattle.std.proofs.{lemmas.Option.same_Some, lemmas.Option.slice_get_within, lemmas.Bool.and_parts, lemmas.Bool.and_from}
 use Rattle.rv_diagram.specs.Nodes.{Valuation, Diagrams, IsRef, IsOrderedOver, value_of, valuation_of, node_at}
@@ -148,10 +148,9 @@ elsewhere_step (Ok o) d c k j n l e into scope led is target at h = λ s fits va
     (h s l e into fits variables (range.locations k l is.location).control ((range.locations k l is.location).entries j e is.entry).condition
     (range.locations n into at).control sc (are.means n into at))
 
-pub counted_target : (c : Certificate) (l : Location) (e : Entry) (kind : EntryKind) (target : ℕ) (reach : List Multipliers) → HasKindCounts c l kind
-    → kind ≡ Go target reach → target < length c.locations
-counted_target c l e kind target reach h is = let (into, at, size) = subst (λ
-    (x : EntryKind). HasKindCounts c l x) is h in slice_get_within c.locations target into at
+pub target_there : (c : Certificate) (l : Location) (kind : EntryKind) (target : ℕ) (reach : List Multipliers) → HasKindCounts c l kind
+    → kind ≡ Go target reach → (into : Location) × (slice_get c.locations target ≡ Some into)
+target_there c l kind target reach h is = let (into, at, size) = subst (λ (x : EntryKind). HasKindCounts c l x) is h in (into, at)
 
 pub within_made : (s : System) (l : Location) (a b : Diagrams) (p : Parts) (r : ℕ) → IsHeld s a p → IsRef b.nodes r → ((v : Valuation)
     → value_of b.nodes r v ≡ (value_of a.nodes p.allowed v && has l.control v)) → IsWithin s l b r

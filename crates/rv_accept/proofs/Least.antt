@@ -1,9 +1,9 @@
 -- The least valuation of a set has false at each variable that the set does not go by.
-use Rattle.std.proofs.Common.{ℕ, ◌*◌, ◌<◌, ◌≤◌, ◌≡◌, ◌≢◌, ◌⊎◌, Bool, false, cond, List, length, sym, ap, ◌∙◌, subst, ⊎_elim, arith, Option, Some, MatchOption}
+use Rattle.std.proofs.Common.{ℕ, ◌*◌, ◌<◌, ◌≤◌, ◌≡◌, ◌≢◌, Bool, false, cond, List, length, sym, ap, ◌∙◌, subst, ⊎_elim, arith, Option, Some, MatchOption}
 use Rattle.std.proofs.Common.{None as Nothing}
 use Rattle.std.proofs.lemmas.Bool.{cases_Bool, ne_eqb}
 use Rattle.rv_diagram.specs.declared.frozen.Frozen.{Frozen}
-use Rattle.rv_diagram.specs.Nodes.{Valuation, Diagrams, node_at, value_among, value_of, valuation_of, put, ComesBefore, IsLeast}
+use Rattle.rv_diagram.specs.Nodes.{Valuation, Diagrams, node_at, value_of, valuation_of, put, ComesBefore, IsLeast}
 use Rattle.rv_proofs.specs.Systems.{System, IsSystem, IsState, IsRead, IsSameValuation, HasSameState}
 use Rattle.rv_proofs.specs.{Scopes.IsInScope, Ranges.IsControlSet, Ranges.IsCondition, declared.certificate.Location.Location, declared.certificate.Entry.Entry}
 use Rattle.rv_proofs.proofs.ControlReads.{value_among-reads, control_same, condition_same}

@@ -1,5 +1,5 @@
 -- A set of control states before a step, node by node.
-use Rattle.std.proofs.Common.{ℕ, ◌+◌, ◌-◌, ◌/◌, ◌<◌, ◌≤◌, ◌≡◌, ◌⊎◌, Bool, false, if◌then◌else◌, List, [], ◌∷◌, ◌++◌, length, sym, ap, ◌∙◌, subst, ⊎_elim, arith}
+use Rattle.std.proofs.Common.{ℕ, ◌+◌, ◌-◌, ◌/◌, ◌<◌, ◌≤◌, ◌≡◌, Bool, if◌then◌else◌, List, [], ◌∷◌, ◌++◌, length, sym, ap, ◌∙◌, subst, ⊎_elim, arith}
 use Rattle.std.proofs.Common.{Result, Ok, Err, IfOk, Some, slice_get, refl}
 use Rattle.std.proofs.{lemmas.Bool.cases_lt, lemmas.List.get_or_append_left, Math.Seq.get_or-append_seam, Math.ListN.get_or-eq_default, Math.Path.fun_ext, lemmas.Option.same_Some}
 use Rattle.rv_diagram.specs.Nodes.{Valuation, Diagrams, Answers, IsExpanded, IsRef, value_of, choice, node_at}

@@ -1,5 +1,5 @@
 -- What is given to the checker can be met.
-use Rattle.std.proofs.Common.{ℕ, zero, suc, ◌<◌, ◌≡◌, Bool, true, false, cond, not, [], ◌∷◌, refl, ◌∙◌, subst, arith}
+use Rattle.std.proofs.Common.{ℕ, zero, suc, ◌<◌, ◌≡◌, Bool, true, false, cond, [], ◌∷◌, refl, ◌∙◌, subst, arith}
 use Rattle.std.proofs.lemmas.Option.{none-some, same_Some}
 use Rattle.rv_diagram.specs.{Nodes.Valuation, Nodes.value_of, Nodes.IsRef, Several.ref_at}
 use Rattle.rv_proofs.specs.Samples.{counting, counted, at_first, at_later, counting_on}

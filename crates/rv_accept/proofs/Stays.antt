@@ -1,6 +1,6 @@
 -- Rows and forms that stay throughout a scope.
 use Rattle.std.proofs.Common.{ℕ, zero, suc, ◌+◌, ◌<◌, ◌≡◌, ◌↔◌, ◌⊎◌, ℤ, Bool, true, false, List, length, refl, sym, ap, ◌∙◌, subst, ⊎_elim, inl, inr, arith}
-use Rattle.std.proofs.Common.{Some, IsTrue, slice_get}
+use Rattle.std.proofs.Common.{Some, IsTrue}
 use Rattle.std.proofs.{lemmas.Bool.cases_lt, lemmas.Bool.cases_Bool, lemmas.Option.none-some, lemmas.Option.slice_get-get_or}
 use Rattle.std.specs.{Cmp.Rules.signed_items, Cmp.signed_Decides, Cmp.Lexicographic.pointwise, Ordering.int_eq}
 use Rattle.rv_rows.specs.{declared.linear.Row.Row, declared.linear.Form.Form, Rows.row_at}

@@ -1,5 +1,5 @@
 -- What a checker has of a system: references in a store that mean what the system is. And what it builds of them.
-use Rattle.std.specs.Prelude.{◌≡◌, ℕ, ◌+◌, ◌/◌, ◌<◌, true, false, Bool, List, IsTrue, length, Some, slice_get}
+use Rattle.std.specs.Prelude.{◌≡◌, ℕ, ◌+◌, ◌/◌, ◌<◌, false, Bool, List, IsTrue, length, Some, slice_get}
 use Rattle.rv_diagram.specs.{declared.Triple.Triple, Nodes.Valuation, Nodes.Diagrams, Nodes.value_of, Nodes.valuation_of, Nodes.node_at, Several.ref_at}
 use Rattle.rv_symbolic.specs.{Represented.HaveRefs, Represented.AreParts, declared.relation.Parts.Parts}
 use Rattle.rv_proofs.specs.{Systems.System, Systems.IsSystem, Scopes.IsIn, Scopes.IsInScope, Verdicts.IsWord, declared.certificate.Location.Location}

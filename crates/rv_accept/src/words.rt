@@ -158,12 +158,7 @@ fn reached(store: &mut Store, set: &Frozen) -> Result<Frozen, StoreFault>
 
 /// The valuations whose next control state is in a set: the nodes that the set's root reaches are gone through once, children
 /// first, and each becomes a choice by the reference of its state bit.
-fn led_into(
-    alloc: Global,
-    store: &mut Store,
-    next: &[Ref],
-    set: &Frozen,
-) -> Result<Ref, StoreFault>
+fn led_into(alloc: Global, store: &mut Store, next: &[Ref], set: &Frozen) -> Result<Ref, StoreFault>
     requires next { AreRefs store.old next.now }
     requires set { IsOrderedOver store.old.variables set.now }
     requires states { ReadsNext (length next.now) set.now.nodes }

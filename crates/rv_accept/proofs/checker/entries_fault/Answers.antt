@@ -1,4 +1,4 @@
-use Rattle.std.proofs.Common.{◌≡◌, ◌∙◌, ◌<◌, ◌^◌, sym, subst, ap, length, arith, Some, slice_get, ⊎_elim}
+use Rattle.std.proofs.Common.{◌≡◌, ◌∙◌, ◌<◌, ◌^◌, sym, subst, ap, length, arith, slice_get, ⊎_elim}
 use Rattle.std.proofs.{lemmas.Bool.cases_lt, lemmas.Option.slice_get_within}
 use Rattle.rv_diagram.specs.Nodes.{Diagrams}
 use Rattle.rv_proofs.specs.Systems.{System}

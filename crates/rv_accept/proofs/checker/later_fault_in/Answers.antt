@@ -6,13 +6,15 @@ use Rattle.rv_accept.specs.{Held.AreLedInto, Passing.IsGiven, Passing.AllPass}
 use Rattle.rv_accept.proofs.Later.{given_later}
 use Rattle.rv_accept.proofs.checker.later_fault_in.Goals as goal
 
-pub locations_fault-requires-clause-given : goal.locations_fault-requires-clause-given
-locations_fault-requires-clause-given c = let (s, g) = c.requires.given in (
-  s,
-  given_later c.args.store.now c.led_into_each.new.store c.led_into_each.ensures.extends s c.args.parts.now c.args.questions.now c.args.certificate.now g,
-  subst (λ (l : List ℕ). AreLedInto s c.args.certificate.now c.led_into_each.new.store l) (sym c.as_slice.ensures.value)
-      (c.in_ok-led.ensures.exact s g.held g.range),
-)
+pub locations_fault-requires : goal.locations_fault-requires
+locations_fault-requires c = let (s, g) = c.requires.given in record {
+  given = (
+    s,
+    given_later c.args.store.now c.led_into_each.new.store c.led_into_each.ensures.extends s c.args.parts.now c.args.questions.now c.args.certificate.now g,
+    subst (λ (l : List ℕ). AreLedInto s c.args.certificate.now c.led_into_each.new.store l) (sym c.as_slice.ensures.value)
+        (c.in_ok-led.ensures.exact s g.held g.range),
+  );
+}
 
 pub returns-clause-extends : goal.returns-clause-extends
 returns-clause-extends c = extends_trans c.args.store.now c.led_into_each.new.store c.locations_fault.new.store c.led_into_each.ensures.extends

@@ -1,4 +1,4 @@
-use Rattle.std.proofs.Common.{◌∙◌, sym, subst, Some}
+use Rattle.std.proofs.Common.{◌∙◌, sym, subst}
 use Rattle.rv_diagram.specs.Nodes.{Diagrams}
 use Rattle.rv_proofs.specs.Systems.{System}
 use Rattle.rv_accept.specs.{Held.IsWithin, Held.AreLedInto, Passing.IsGiven}

@@ -1,4 +1,4 @@
-use Rattle.std.proofs.{Common.◌∙◌, Common.sym, Common.subst, Common.Some, lemmas.Option.same_Some}
+use Rattle.std.proofs.{Common.◌∙◌, Common.sym, Common.subst, lemmas.Option.same_Some}
 use Rattle.rv_proofs.specs.{Scopes.IsInScope, Accepted.IsEntry, declared.certificate.Entry.Entry}
 use Rattle.rv_accept.specs.{Held.IsScope, Held.AreLedInto, Passing.IsGiven, Passing.Passes}
 use Rattle.rv_terms.proofs.Growths.{extends_trans, equal_extends}

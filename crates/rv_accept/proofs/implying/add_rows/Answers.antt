@@ -1,4 +1,4 @@
-use Rattle.std.proofs.Common.{◌∙◌, ◌+◌, ◌<◌, ◌++◌, List, [], ◌∷◌, take, length, ap, sym, arith}
+use Rattle.std.proofs.Common.{◌∙◌, ◌<◌, ◌++◌, List, [], ◌∷◌, take, length, ap, sym, arith}
 use Rattle.std.proofs.{lemmas.List.append_assoc, lemmas.List.take_more, lemmas.Option.get_or_from_slice_get}
 use Rattle.rv_rows.specs.declared.linear.Row.{Row}
 use Rattle.rv_accept.proofs.implying.add_rows.Goals as goal

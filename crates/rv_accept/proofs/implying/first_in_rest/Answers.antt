@@ -1,4 +1,4 @@
-use Rattle.std.proofs.Common.{◌∙◌, ◌+◌, ◌≤◌, ◌++◌, Some, length, sym, arith}
+use Rattle.std.proofs.Common.{◌∙◌, ◌≤◌, ◌++◌, length, sym, arith}
 use Rattle.rv_proofs.specs.Scopes.{before, after, each}
 use Rattle.rv_accept.proofs.{Listing.length_each, Judged.judged_left, Judged.found_few, Judged.asked_few, Judged.both_few}
 use Rattle.rv_accept.proofs.implying.first_in_rest.Goals as goal

@@ -1,4 +1,4 @@
-use Rattle.std.proofs.Common.{◌∙◌, ◌+◌, ◌≤◌, ◌++◌, List, Some, length, sym, subst, arith, None as Nothing}
+use Rattle.std.proofs.Common.{◌∙◌, ◌≤◌, ◌++◌, List, Some, length, sym, subst, arith, None as Nothing}
 use Rattle.rv_rows.specs.declared.linear.Row.{Row}
 use Rattle.rv_proofs.specs.{Systems.System, Systems.IsSystem, Scopes.after, Scopes.each}
 use Rattle.rv_accept.specs.Passing.{AreLimited, AreAsked, AreJudged}

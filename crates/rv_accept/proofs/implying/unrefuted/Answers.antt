@@ -1,4 +1,4 @@
-use Rattle.std.proofs.Common.{◌≡◌, ◌+◌, ◌^◌, ℕ, List, All, length, length-append, ap, subst, sym, true, false, ◌∙◌}
+use Rattle.std.proofs.Common.{◌≡◌, ◌+◌, ◌^◌, ℕ, List, All, length, length-append, ap, subst, sym, ◌∙◌}
 use Rattle.std.proofs.lemmas.List.Elements.{All-append}
 use Rattle.rv_rows.specs.{declared.linear.Row.Row, Rows.RowWithin}
 use Rattle.rv_proofs.specs.Ranges.{IsRecord}

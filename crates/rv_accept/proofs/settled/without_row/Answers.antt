@@ -1,4 +1,4 @@
-use Rattle.std.proofs.{Common.◌+◌, Common.ℕ, Common.[], Common.pos, Common.true, Common.arith, lemmas.Option.get_or_from_slice_get}
+use Rattle.std.proofs.{Common.◌+◌, Common.ℕ, Common.[], Common.pos, Common.arith, lemmas.Option.get_or_from_slice_get}
 use Rattle.rv_diagram.specs.Several.{ref_at}
 use Rattle.rv_rows.specs.{declared.linear.Row.Row, Rows.row_at}
 use Rattle.rv_terms.proofs.Growths.{extends_refl, extends_trans}

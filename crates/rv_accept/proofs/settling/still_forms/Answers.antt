@@ -1,4 +1,4 @@
-use Rattle.std.proofs.Common.{◌≡◌, ◌∙◌, ◌+◌, ◌<◌, true, length, sym, ap, subst, arith, Some, [], pos}
+use Rattle.std.proofs.Common.{◌≡◌, ◌∙◌, ◌+◌, ◌<◌, length, sym, ap, subst, arith, [], pos}
 use Rattle.rv_diagram.specs.Nodes.{Diagrams, IsRef}
 use Rattle.rv_proofs.specs.Systems.{IsUpdate}
 use Rattle.rv_cases.specs.Conditions.{AreAnswers}
