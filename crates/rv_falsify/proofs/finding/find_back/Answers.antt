@@ -1,4 +1,4 @@
-use Rattle.std.proofs.Common.{◌≡◌, ◌∙◌, List, [], Bool, length, map, ap, subst, arith}
+use Rattle.std.proofs.Common.{◌≡◌, ◌∙◌, List, [], Bool, length, map, ap, subst, refl, arith}
 use Rattle.std.proofs.lemmas.List.{length-map}
 use Rattle.std.specs.Prelude.{Ok, slice_index_or}
 use Rattle.rv_base.specs.declared.value.Trace.{Trace}
@@ -89,3 +89,12 @@ returns-in_ok-trace-in-Some-clause-exactly c = λ thresholds bad.
       λ e. let wrong : ⊥ = cc in absurd wrong,
       λ never. absurd (some_falsifies laws p (name_at p s.typed.main) f of c.spelled_runs.ensures c.requires.columns words path never),
     )
+
+pub returns-in-None-clause-found : goal.returns-in-None-clause-found
+returns-in-None-clause-found c = λ thresholds bad e. c.in_ok-path.ensures.found thresholds bad c.in-None.is
+
+pub returns-in-None-clause-exactly : goal.returns-in-None-clause-exactly
+returns-in-None-clause-exactly c = λ thresholds bad. (
+  λ e. absurd (c.in_ok-path.ensures.found thresholds bad c.in-None.is),
+  λ never. refl,
+)
