@@ -1,4 +1,4 @@
--- What is tested of a flat system to tell whether a source is judged.
+-- What is tested of a flat system to tell whether its source is without integer flows.
 use Rattle.std.specs.{Prelude.◌≡◌, Prelude.false, List.All}
 use Rattle.rv_types.specs.{Variables.is_integer, Instances.IsNode, WellFormed.AreWell}
 use Rattle.rv_flat.specs.{declared.flat.Flat.Flat, FlatOf.IsFlatOf}

@@ -26,10 +26,11 @@ use std::alloc::Global;
 
 /// The report on a source, and the document of its certificate or trace where it is Safe or Violated. Refused where the bytes have no
 /// tree, where their program breaks a rule of names, types or clocks, and where it breaks one of recursion, sizes, cycles or weights,
-/// with the first fault. Otherwise Violated wherever a probe falsifies; Safe with a certificate where some closed box claim is good; and
-/// where neither is so, Unknown for a program with integers. One without integers has such a claim exactly where it is safe, and is else
-/// Violated, with a shortest trace that falsifies it, or a probe where its diagrams outgrow their limit. Nodes comes only where no probe
-/// falsifies and it has many diagram variables for the number of nodes that the diagrams may have.
+/// with the first fault. Otherwise Violated wherever a probe falsifies, and Safe with an accepted certificate wherever some closed box
+/// claim or row claim is good. A source without integer flows has a good claim exactly where it is safe, and is else Violated, with a
+/// shortest trace that falsifies it, or a probe where its diagrams outgrow their limit. One with integer flows of which neither is so is
+/// Safe with another certificate, Violated with a trace that its replay confirms, or Unknown with what is left, as they are found. Nodes
+/// comes only where no probe falsifies and it has many diagram variables for the number of nodes that the diagrams may have.
 pub fn report_on_source(alloc: Global, bytes: &[u8], node: &str, nodes: u32) -> Answer
     requires short { length bytes.now ≤ SOURCE_LIMIT }
     requires limit { nodes ≤ 33554432 }

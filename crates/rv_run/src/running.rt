@@ -239,10 +239,11 @@ fn show<S: Sink>(alloc: Global, answer: &Answer, out: &mut S) -> Sent
 /// token, or where their program breaks a rule with this main node, with its first fault of names, types and clocks, and then of
 /// recursion, sizes, cycles and weights, where any cycle may be told.
 ///
-/// Of an accepted program `prove` answers Violated wherever a probe falsifies it, with any number of nodes, Safe exactly where some closed
-/// box claim of it is good, with a certificate, and Unknown where it has integers and neither is so. A program without integers has such a
-/// claim exactly where it is safe, and is else Violated, with a shortest trace that falsifies it, or with a probe where its diagrams outgrow
-/// their limit. The document of certificate or trace is shown in place of a text. `replay` answers
+/// Of an accepted program `prove` answers Violated wherever a probe falsifies it, with any number of nodes, and Safe, with an accepted
+/// certificate, wherever some closed box claim or row claim of it is good. One without integer flows has a good claim exactly where it is
+/// safe, and is else Violated, with a shortest trace that falsifies it, or with a probe where its diagrams outgrow their limit. One with
+/// integer flows of which neither is so is Safe, Violated or Unknown, as a certificate or a trace is found; what is found is accepted, or
+/// confirmed by its replay. The document of certificate or trace is shown in place of a text. `replay` answers
 /// BadFile exactly where the trace's bytes are the document of no trace of the program, with their first fault; otherwise the first
 /// instant that ends the replay decides, by Outgrown, AssertionFails or Falsified in this order, and NeverFalse comes exactly where
 /// there is none. `check` answers BadFile exactly where the file's bytes are the document of no certificate of the program, with their
