@@ -43,10 +43,10 @@ def source(pairs):
 
 
 def head(pairs):
-    """The records before the locations. The main tick is the first state bit, and the latches' memories follow."""
-    flows = 4 * pairs + 1
+    """The records before the locations. The main tick is the first state bit, and the latches' memories follow: those of the inputs, which
+    are the first flows."""
     states = ["tick", "next"]
-    for memory in range(flows, flows + 2 * pairs):
+    for memory in range(2 * pairs):
         states += [f"memory:{memory}:0", "next"]
     inputs = [f"input:a{i}:0" for i in range(pairs)] + [f"input:b{i}:0" for i in range(pairs)]
     return ["reaver,invariant,1", "main,main", ",".join(["bits"] + states + inputs), "columns", "locations,2"]
