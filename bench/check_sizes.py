@@ -79,23 +79,13 @@ def equal_latches(pairs):
     return record, record.node(0, 0, after[""])
 
 
-def word_is(pairs, number):
-    """The condition that the inputs a are the bits of a number, the first of them the greatest."""
+def condition(pairs, number, or_more):
+    """The condition that the inputs a, the first of them the greatest bit, are a number, or at least that number."""
     record = Record()
     at = 1
     for i in reversed(range(pairs)):
         var = 2 * (1 + 2 * pairs) + i
-        at = record.node(var, 0, at) if number >> (pairs - 1 - i) & 1 else record.node(var, at, 0)
-    return record.text("when", at)
-
-
-def word_from(pairs, number):
-    """The condition that the number of the inputs a is at least this one."""
-    record = Record()
-    at = 1
-    for i in reversed(range(pairs)):
-        var = 2 * (1 + 2 * pairs) + i
-        at = record.node(var, 0, at) if number >> (pairs - 1 - i) & 1 else record.node(var, at, 1)
+        at = record.node(var, 0, at) if number >> (pairs - 1 - i) & 1 else record.node(var, at, int(or_more))
     return record.text("when", at)
 
 
@@ -108,7 +98,7 @@ def invariant(pairs, control, cases):
 def cases(pairs, count):
     """One case for each of the first words, and one for all others."""
     record, root = equal_latches(pairs)
-    conditions = [word_is(pairs, number) for number in range(count - 1)] + [word_from(pairs, count - 1)]
+    conditions = [condition(pairs, number, False) for number in range(count - 1)] + [condition(pairs, count - 1, True)]
     return invariant(pairs, record.text("control", root), conditions)
 
 
