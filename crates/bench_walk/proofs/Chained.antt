@@ -2,9 +2,10 @@
 use Rattle.std.proofs.Common.{ℕ, ◌+◌, ◌-◌, ◌*◌, ◌<◌, ◌≤◌, ◌≡◌, Bool, true, false, not, ◌&&◌, ◌||◌, ◌==◌, cond, refl, ap, ◌∙◌, arith}
 use Rattle.std.proofs.lemmas.Bool.{not-true}
 use Rattle.rv_diagram.specs.Nodes.{Valuation, Diagrams, Answers, value_of}
+use Rattle.rv_diagram.specs.Growing.{Extends}
+use Rattle.rv_diagram.proofs.Growing.{extends_trans, grows_extends}
 use Rattle.rv_proofs.specs.Systems.{IsSystem, IsRead, IsSameValuation}
-use Rattle.rv_symbolic.specs.Growing.{Extends, Makes}
-use Rattle.rv_symbolic.proofs.Extending.{extends_trans, grows_extends}
+use Rattle.rv_symbolic.specs.Growing.{Makes}
 use Rattle.bench_walk.specs.Chain.{held_of, seen_of, observer_of, links}
 
 pub held_made : (a b c d : Diagrams) (x p q r : ℕ) → Answers a b (λ v. v 0) p → Answers b c (λ v. v x) q

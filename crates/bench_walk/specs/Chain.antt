@@ -2,8 +2,8 @@
 -- variable 2 n + 4. Links hand on what the first takes from the input, and what was seen is whether it was ever true.
 use Rattle.std.specs.Prelude.{◌≡◌, ℕ, ◌+◌, ◌-◌, ◌*◌, ◌<◌, pos, [], Bool, true, false, not, ◌&&◌, ◌||◌, ◌==◌, cond, List, length, None as Nothing}
 use Rattle.rv_diagram.specs.{Nodes.Valuation, Nodes.Diagrams, Nodes.IsRef, Nodes.value_of, Several.ref_at}
+use Rattle.rv_diagram.specs.Growing.{Extends}
 use Rattle.rv_proofs.specs.Systems.{System}
-use Rattle.rv_symbolic.specs.Growing.{Extends}
 
 -- what a bit holds before a step, and false before the first
 abbrev pub held_of : ℕ → Valuation → Bool

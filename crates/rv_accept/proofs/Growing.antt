@@ -4,8 +4,8 @@ use Rattle.std.proofs.Common.{inl, inr, arith, Some, slice_get, Result, Ok, Err,
 use Rattle.std.proofs.lemmas.Bool.{cases_lt, or_cases, and_from, and_parts, or_left, or_right}
 use Rattle.std.proofs.lemmas.Option.{same_Some}
 use Rattle.rv_diagram.specs.Nodes.{Valuation, Diagrams, IsRef, Answers, choice, value_of}
+use Rattle.rv_diagram.specs.Growing.{Extends}
 use Rattle.rv_proofs.specs.{Scopes.IsIn, declared.certificate.Location.Location, declared.certificate.Entry.Entry}
-use Rattle.rv_terms.specs.Growing.{Extends}
 use Rattle.rv_accept.specs.Steps.{has}
 use Rattle.rv_base.proofs.Truths.{clash, of_not_true}
 

@@ -4,6 +4,7 @@ use Rattle.std.proofs.Common.{arith, Result, Ok, Err, IfOk, Option, Some, MatchO
 use Rattle.std.proofs.{lemmas.Option.same_Some, lemmas.Option.slice_get_within, lemmas.Bool.and_parts, lemmas.Bool.and_from}
 use Rattle.rv_diagram.specs.Nodes.{Valuation, Diagrams, IsRef, IsOrderedOver, value_of, valuation_of, node_at}
 use Rattle.rv_diagram.specs.{declared.frozen.Frozen.Frozen, Several.ref_at}
+use Rattle.rv_diagram.specs.Growing.{Extends}
 use Rattle.rv_rows.specs.declared.farkas.Multipliers.{Multipliers}
 use Rattle.rv_proofs.specs.Accepted.{AreProved, IsIncluded, IsCovered, IsObserved, IsStepKind, IsDeadKind, IsEntry, Leads, LeadsInto}
 use Rattle.rv_proofs.specs.Verdicts.{IsUnobserved, LeadsElsewhere, IsTarget, IsFirst, IsUnproved}
@@ -11,7 +12,6 @@ use Rattle.rv_proofs.specs.{Systems.System, Systems.IsSystem, Systems.IsState, C
 use Rattle.rv_proofs.specs.{Ranges.IsInRange, declared.certificate.Certificate.Certificate, declared.certificate.Location.Location}
 use Rattle.rv_proofs.specs.{declared.certificate.Entry.Entry, declared.certificate.EntryKind.EntryKind, declared.certificate.EntryKind.TheVariants.Dead}
 use Rattle.rv_proofs.specs.{declared.certificate.EntryKind.TheVariants.Go, declared.certificate.EntryKind.TheVariants.Loop, declared.verdict.Reason.Reason}
-use Rattle.rv_terms.specs.Growing.{Extends}
 use Rattle.rv_symbolic.specs.declared.relation.Parts.{Parts}
 use Rattle.rv_cases.specs.declared.asking.Questions.{Questions}
 use Rattle.rv_cases.proofs.Keeping.{questions_later}

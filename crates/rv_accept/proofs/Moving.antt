@@ -5,8 +5,8 @@ use Rattle.std.proofs.{lemmas.Bool.cases_lt, lemmas.List.get_or_append_left, Mat
 use Rattle.rv_diagram.specs.Nodes.{Valuation, Diagrams, Answers, IsExpanded, IsRef, value_of, choice, node_at}
 use Rattle.rv_diagram.specs.{declared.Triple.Triple, declared.frozen.Frozen.Frozen, Several.ref_at, Several.UsesNeeded}
 use Rattle.rv_diagram.proofs.Several.{unused_ignored}
+use Rattle.rv_diagram.specs.Growing.{Extends}
 use Rattle.rv_proofs.specs.declared.certificate.Location.{Location}
-use Rattle.rv_terms.specs.Growing.{Extends}
 use Rattle.rv_accept.specs.{Steps.AreRefs, Steps.has, Held.AreMoved, Held.ReadsNext, Held.follow}
 
 pub child_found : (d : Diagrams) (moved : List ℕ) (r x : ℕ) → AreRefs d moved → r < length moved + 2 → (r < 2 → x ≡ r) → ((n : ℕ) → r ≡ n + 2

@@ -5,8 +5,8 @@ use Rattle.std.proofs.{lemmas.Bool.cases_lt, lemmas.Bool.cases_Bool, lemmas.Opti
 use Rattle.std.specs.{Cmp.Rules.signed_items, Cmp.signed_Decides, Cmp.Lexicographic.pointwise, Ordering.int_eq}
 use Rattle.rv_rows.specs.{declared.linear.Row.Row, declared.linear.Form.Form, Rows.row_at}
 use Rattle.rv_diagram.specs.{declared.Triple.Triple, Nodes.Valuation, Nodes.Diagrams, Nodes.IsRef, Nodes.value_of}
+use Rattle.rv_diagram.specs.Growing.{Extends}
 use Rattle.rv_proofs.specs.{Systems.System, Implied.form_at}
-use Rattle.rv_terms.specs.Growing.{Extends}
 use Rattle.rv_cases.specs.{Conditions.is_in, Conditions.AreAnswers, Questions.AreTestAnswers, Questions.AreUpdateAnswers}
 use Rattle.rv_accept.specs.Steps.{IsTrueOf}
 use Rattle.rv_base.proofs.Truths.{clash}

@@ -2,6 +2,7 @@
 
 ghost use Rattle.std.specs.Prelude.{◌≡◌, ◌↔◌, ℕ, ◌<◌, ◌^◌, [], ◌∷◌, Some, IfOk, IsErrOf, MatchOption, slice_get};
 ghost use Rattle.rv_diagram.specs.Nodes.{IsRef, IsOrderedOver};
+ghost use Rattle.rv_diagram.specs.Growing.{Extends};
 ghost use Rattle.rv_proofs.specs.Systems.{System, IsSystem};
 ghost use Rattle.rv_proofs.specs.Ranges.{IsControlSet, IsCondition, IsInRange};
 ghost use Rattle.rv_proofs.specs.Accepted.{IsAccepted, IsInitial, IsIncluded, IsCovered};
@@ -9,7 +10,6 @@ ghost use Rattle.rv_proofs.specs.Runs.{IsSafeSystem};
 ghost use Rattle.rv_proofs.specs.Verdicts.{LacksInitial, IsUncovered, IsFirst, IsVerdict};
 ghost use Rattle.rv_proofs.specs.declared.certificate.Location.{Location};
 ghost use Rattle.rv_proofs.specs.declared.certificate.Entry.{Entry};
-ghost use Rattle.rv_terms.specs.Growing.{Extends};
 ghost use Rattle.rv_accept.specs.Steps.{IsLeastWord};
 ghost use Rattle.rv_accept.specs.Held.{IsHeld, IsWithin, AreLedInto};
 ghost use Rattle.rv_accept.specs.Passing.{NoneBefore, Passes, AllPass, IsGiven};

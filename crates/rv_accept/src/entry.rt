@@ -2,6 +2,7 @@
 
 ghost use Rattle.std.specs.Prelude.{◌≡◌, ℕ, ◌<◌, ◌^◌, [], ◌∷◌, Some, IfOk, IsErrOf, MatchOption, MatchBool, length, slice_get};
 ghost use Rattle.rv_diagram.specs.Nodes.{IsRef};
+ghost use Rattle.rv_diagram.specs.Growing.{Extends};
 ghost use Rattle.rv_proofs.specs.Systems.{System, IsSystem};
 ghost use Rattle.rv_proofs.specs.Ranges.{IsInRange};
 ghost use Rattle.rv_proofs.specs.Accepted.{IsObserved, IsStepKind, IsDeadKind, Leads, IsEntry};
@@ -9,7 +10,6 @@ ghost use Rattle.rv_proofs.specs.Verdicts.{IsUnobserved, LeadsElsewhere, IsFirst
 ghost use Rattle.rv_proofs.specs.declared.certificate.Certificate.{Certificate};
 ghost use Rattle.rv_proofs.specs.declared.certificate.Location.{Location};
 ghost use Rattle.rv_proofs.specs.declared.certificate.Entry.{Entry};
-ghost use Rattle.rv_terms.specs.Growing.{Extends};
 ghost use Rattle.rv_accept.specs.Steps.{IsLeastWord};
 ghost use Rattle.rv_accept.specs.Held.{IsHeld, IsWithin, IsScope, AreLedInto};
 ghost use Rattle.rv_accept.specs.Passing.{NoneBefore, Passes, IsGiven};

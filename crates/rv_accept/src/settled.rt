@@ -2,6 +2,7 @@
 
 ghost use Rattle.std.specs.Prelude.{◌≡◌, ℕ, ◌+◌, ◌<◌, ◌^◌, ◌↔◌, true, false, Some, Option, IfOk, IfSome, IsErrOf, IsTrue, MatchOption, length};
 ghost use Rattle.rv_diagram.specs.Nodes.{value_of, valuation_of, IsRef};
+ghost use Rattle.rv_diagram.specs.Growing.{Extends};
 ghost use Rattle.rv_rows.specs.declared.linear.Row.{Row};
 ghost use Rattle.rv_rows.specs.declared.linear.Form.{Form};
 ghost use Rattle.rv_rows.specs.Rows.{row_at};
@@ -9,7 +10,6 @@ ghost use Rattle.rv_proofs.specs.Implied.{form_at};
 ghost use Rattle.rv_proofs.specs.Systems.{System};
 ghost use Rattle.rv_cases.specs.Conditions.{is_in, AreRefs, AreAnswers};
 ghost use Rattle.rv_cases.specs.Questions.{AreTestAnswers, AreUpdateAnswers};
-ghost use Rattle.rv_terms.specs.Growing.{Extends};
 ghost use Rattle.rv_accept.specs.Steps.{IsTrueOf};
 ghost use Rattle.rv_accept.specs.Needs.{StaysRow, StaysForm};
 

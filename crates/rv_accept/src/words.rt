@@ -4,8 +4,8 @@ ghost use Rattle.std.specs.Prelude.{◌≡◌, ℕ, ◌+◌, ◌/◌, ◌<◌, �
 ghost use Rattle.std.specs.Prelude.{length, slice_get, if◌then◌else◌};
 ghost use Rattle.rv_diagram.specs.declared.Triple.{Triple};
 ghost use Rattle.rv_diagram.specs.Nodes.{Valuation, value_of, IsRef, IsOrdered, IsExpanded, IsOrderedOver};
-ghost use Rattle.rv_terms.specs.Growing.{Extends};
 ghost use Rattle.rv_diagram.specs.Several.{ref_at};
+ghost use Rattle.rv_diagram.specs.Growing.{Extends};
 ghost use Rattle.rv_accept.specs.Steps.{IsLeastWord, has};
 ghost use Rattle.rv_accept.specs.Steps.{AreRefs};
 ghost use Rattle.rv_accept.specs.Held.{IsHeld, IsWithin, IsScope, follow, ReadsNext, AreMoved, AreLedInto, IsUnseen, IsElsewhere};

@@ -3,12 +3,13 @@ use Rattle.std.proofs.Common.{◌≡◌, ℕ, ◌+◌, ◌<◌, ◌≤◌, Bool,
 use Rattle.std.proofs.Math.ListN.{drop_of_length-le}
 use Rattle.rv_types.specs.declared.typed.Kind.TheVariants as kind
 use Rattle.rv_diagram.specs.Nodes.{Valuation, Diagrams, Answers, IsRef, value_of}
+use Rattle.rv_diagram.specs.Growing.{Extends}
+use Rattle.rv_diagram.proofs.Growing.{extends_trans}
 use Rattle.rv_agreement.specs.Valuations.{Reading, Truth, holds_true, read, IsSymbolic}
 use Rattle.rv_agreement.specs.{Agreement.ItemFits, Agreement.IsNamed, Trees.FlatTree, Trees.Item}
 use Rattle.rv_control.specs.{Control.all_met, Named.named}
 use Rattle.rv_flat.specs.{declared.flat.Flat.Flat, FlatInstants.system_of}
-use Rattle.rv_symbolic.specs.Growing.{Extends, Makes}
-use Rattle.rv_symbolic.proofs.Extending.{extends_trans}
+use Rattle.rv_symbolic.specs.Growing.{Makes}
 use Rattle.rv_bits.specs.Shown.{clock_bit, is_there_at, AreFlowRefs, ReadsTo}
 use Rattle.rv_bits.specs.{Asserted.met_at, Asserted.IsMetRead, Asserted.AreMetRead, declared.around.FlowRefs.FlowRefs, Bits.bit}
 use Rattle.rv_bits.specs.declared.assertions.Guard.TheVariants as guard

@@ -5,13 +5,15 @@ use Rattle.std.proofs.{lemmas.Bool.cases_lt, Math.ListN.get_or-eq_default}
 use Rattle.rv_types.specs.declared.typed.Kind.{Kind}
 use Rattle.rv_types.specs.declared.typed.Kind.TheVariants as kind
 use Rattle.rv_diagram.specs.{declared.Triple.Triple, Nodes.Valuation, Nodes.Diagrams, Nodes.IsRef, Nodes.value_of, Several.ref_at}
+use Rattle.rv_diagram.specs.Growing.{Extends}
+use Rattle.rv_diagram.proofs.Growing.{extends_trans}
 use Rattle.rv_agreement.specs.Trees.{FlatTree, Item, nth_item, kind_at}
 use Rattle.rv_agreement.specs.Valuations.{Reading, Truth, Name, Linear, holds_true, reads_at, read, IsSymbolic}
 use Rattle.rv_agreement.specs.{Agreement.Fits, Agreement.IsNamed, Agreement.IsWell, Evaluation.is_on, Evaluation.nth}
 use Rattle.rv_flat.specs.{declared.flat.Flat.Flat, FlatInstants.system_of}
 use Rattle.rv_control.specs.Named.{named}
-use Rattle.rv_symbolic.specs.{Growing.Extends, Linked.AreRefs}
-use Rattle.rv_symbolic.proofs.Extending.{extends_trans, refs_after}
+use Rattle.rv_symbolic.specs.Linked.{AreRefs}
+use Rattle.rv_symbolic.proofs.Extending.{refs_after}
 use Rattle.rv_bits.specs.Shown.{Shows, refs_at, is_there_at, clock_bit, AreFlowRefs, IsAfter, ReadsTo}
 use Rattle.rv_bits.specs.{declared.around.FlowRefs.FlowRefs, Bits.bit, Flows.on_bit, Flows.AreAfters, Reads.ShowsTo}
 use Rattle.rv_bits.proofs.{Making.any_ref, Making.refs_more, Making.ref_before, Making.ref_last, Making.bits_kept, Showing.shows_kept, Showing.shows_truth}

@@ -6,13 +6,15 @@ use Rattle.std.proofs.{lemmas.Bool.cases_eq, Math.ListN.drop_of_length-le}
 use Rattle.std.specs.Prelude.{slice_get, slice_set, slice_index_or}
 use Rattle.rv_types.specs.declared.typed.Kind.TheVariants as kind
 use Rattle.rv_diagram.specs.{declared.Triple.Triple, Nodes.Valuation, Nodes.Diagrams, Nodes.value_of, Several.ref_at}
+use Rattle.rv_diagram.specs.Growing.{Extends}
+use Rattle.rv_diagram.proofs.Growing.{extends_refl}
 use Rattle.rv_agreement.specs.{Agreement.Fits, Agreement.AllFit, Trees.More, Trees.Kept, Trees.nth_item, Trees.memory_items, Trees.kind_at, Trees.memory_kinds}
 use Rattle.rv_agreement.specs.{Valuations.Reading, Valuations.Truth, Valuations.holds_true, Valuations.read, Valuations.IsSymbolic}
 use Rattle.rv_flat.specs.{declared.flat.Flat.Flat, declared.parts.FlatExpr.FlatExpr, declared.parts.FlatMemory.FlatMemory, Inlined.IsTable, Inlined.tree_among}
 use Rattle.rv_flat.specs.{Systems.kept_of, Systems.memory_item, FlatInstants.system_of}
 use Rattle.rv_control.specs.Named.{named}
-use Rattle.rv_symbolic.specs.{Growing.Extends, Linked.AreRefs}
-use Rattle.rv_symbolic.proofs.Extending.{extends_refl, refs_after}
+use Rattle.rv_symbolic.specs.Linked.{AreRefs}
+use Rattle.rv_symbolic.proofs.Extending.{refs_after}
 use Rattle.rv_bits.specs.Shown.{refs_at, found, is_there_at, AreTables, AreFlowRefs, IsAfter, AreAfter, IsAround, ReadsTo}
 use Rattle.rv_bits.specs.Reads.{trees_in, tree_in, true_at, ShowsTo}
 use Rattle.rv_bits.specs.{declared.around.Around.Around, declared.around.Tables.Tables, declared.around.FlowRefs.FlowRefs, Bits.bit, Bits.count_true}

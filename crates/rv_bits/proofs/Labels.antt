@@ -6,10 +6,11 @@ use Rattle.rv_tree.specs.Places.{Sites}
 use Rattle.rv_types.specs.{declared.typed.Kind.Kind, Variables.bits_for}
 use Rattle.rv_types.specs.declared.typed.Kind.TheVariants as kind
 use Rattle.rv_diagram.specs.Nodes.{Valuation as Numbered, Diagrams, Answers, IsRef, value_of}
+use Rattle.rv_diagram.specs.Growing.{Extends}
+use Rattle.rv_diagram.proofs.Growing.{extends_refl}
 use Rattle.rv_agreement.specs.{Agreement.bit_count, Trees.Kept, Valuations.Valuation}
 use Rattle.rv_control.specs.Control.{names_label, memories_named, inputs_named, none_ticked}
-use Rattle.rv_symbolic.specs.Growing.{Extends, Makes}
-use Rattle.rv_symbolic.proofs.Extending.{extends_refl}
+use Rattle.rv_symbolic.specs.Growing.{Makes}
 use Rattle.rv_control.proofs.Alike.{code_same}
 
 pub label_same : (labels : List ℕ) (j : Kind) (g h : ℕ → Bool) → ((b : ℕ) → b < bit_count labels j → g b ≡ h b)

@@ -7,12 +7,14 @@ use Rattle.std.specs.Prelude.{slice_index_or}
 use Rattle.rv_tree.specs.Places.{Sites}
 use Rattle.rv_types.specs.{declared.typed.Kind.Kind, Lists.Variable}
 use Rattle.rv_diagram.specs.{Nodes.Valuation, Nodes.Diagrams, Nodes.value_of, Several.ref_at}
+use Rattle.rv_diagram.specs.Growing.{Extends}
+use Rattle.rv_diagram.proofs.Growing.{extends_refl, extends_trans}
 use Rattle.rv_agreement.specs.Agreement.{bit_count}
 use Rattle.rv_flat.specs.{declared.parts.Bit.Bit, Lists.tick_places}
 use Rattle.rv_flat.specs.declared.parts.Bit.TheVariants as variant
 use Rattle.rv_control.specs.Named.{truth_at, tick_variable}
-use Rattle.rv_symbolic.specs.Growing.{Extends, Makes}
-use Rattle.rv_symbolic.proofs.Extending.{extends_refl, extends_trans, refs_after}
+use Rattle.rv_symbolic.specs.Growing.{Makes}
+use Rattle.rv_symbolic.proofs.Extending.{refs_after}
 use Rattle.rv_bits.specs.{Bits.Spells, Shown.refs_at, Tables.AreTickRefs, Tables.AreBits, Tables.AreBitLists, Tables.ticks_in}
 use Rattle.rv_bits.proofs.Making.{any_ref, refs_more, ref_before, ref_last, bits_kept}
 

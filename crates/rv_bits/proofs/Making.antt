@@ -5,8 +5,9 @@ use Rattle.std.proofs.Math.Nat.{pow-succ', mul_comm, div-div-eq-div-mul, lt-div-
 use Rattle.std.proofs.{lemmas.Bool.cases_lt, lemmas.List.get_or_append_left, Math.ListN.get_or-eq_default, Math.Seq.get_or-append_seam, lemmas.Nat.pow_pos}
 use Rattle.rv_diagram.specs.{declared.Triple.Triple, Nodes.Valuation, Nodes.Diagrams, Nodes.Answers, Nodes.IsRef, Nodes.value_of, Nodes.choice, Several.ref_at}
 use Rattle.rv_diagram.proofs.Calls.{value_of-false, value_of-true}
-use Rattle.rv_symbolic.specs.{Growing.Extends, Growing.Makes, Linked.AreRefs}
-use Rattle.rv_symbolic.proofs.Extending.{extends_trans, grows_extends}
+use Rattle.rv_diagram.specs.Growing.{Extends}
+use Rattle.rv_diagram.proofs.Growing.{extends_trans, grows_extends}
+use Rattle.rv_symbolic.specs.{Growing.Makes, Linked.AreRefs}
 use Rattle.rv_meaning.specs.Codes.{code}
 use Rattle.rv_types.specs.Variables.{bits_for}
 use Rattle.rv_bits.specs.Bits.{bit, bit_of, is_same, are_same, count_true, Spells, AreCounted}

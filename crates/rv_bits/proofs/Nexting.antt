@@ -10,14 +10,15 @@ use Rattle.rv_types.specs.declared.typed.Kind.TheVariants as kind
 use Rattle.rv_types.specs.Lists as lists
 use Rattle.rv_diagram.specs.{declared.Triple.Triple, Nodes.Valuation, Nodes.Diagrams, Nodes.IsRef, Nodes.value_of, Several.ref_at}
 use Rattle.rv_diagram.proofs.Calls.{value_of-false}
+use Rattle.rv_diagram.specs.Growing.{Extends}
+use Rattle.rv_diagram.proofs.Growing.{extends_trans}
 use Rattle.rv_agreement.specs.Valuations.{Reading, Truth, Name, Linear, reads_at, found_at, updated, IsSymbolic}
 use Rattle.rv_agreement.specs.{Evaluation.after, Trees.Item, Trees.Kept, Trees.no_item, Trees.nth_item, Trees.memory_items, Trees.memory_kinds, Trees.kind_at}
 use Rattle.rv_control.specs.{Control.bit_of, Control.state_bits, Control.tick_index, Control.next_truth, Named.named, Named.same_variable}
 use Rattle.rv_flat.specs.Lists.{variable_of, tick_places}
 use Rattle.rv_flat.specs.{declared.flat.Flat.Flat, declared.parts.Bit.Bit, declared.parts.FlatMemory.FlatMemory, Systems.kept_of, FlatInstants.system_of}
 use Rattle.rv_flat.specs.declared.parts.Bit.TheVariants as variant
-use Rattle.rv_symbolic.specs.{Growing.Extends, Linked.AreRefs}
-use Rattle.rv_symbolic.proofs.Extending.{extends_trans}
+use Rattle.rv_symbolic.specs.Linked.{AreRefs}
 use Rattle.rv_bits.specs.Following.{copies_in, kept_ref, variable_at, IsNextRead, AreNextRead}
 use Rattle.rv_bits.specs.{Flows.AreAfters, Shown.Shows, Shown.IsAfter, Shown.refs_at, Tables.ticks_in}
 use Rattle.rv_bits.proofs.{Keeping.one_after_kept, Making.any_ref, Making.ref_before, Making.ref_last, Showing.shows_truth}

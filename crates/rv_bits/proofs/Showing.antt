@@ -10,6 +10,8 @@ use Rattle.rv_types.specs.{declared.typed.Kind.Kind, Lists.Variable, Lists.Test,
 use Rattle.rv_types.specs.declared.typed.Kind.TheVariants as kind
 use Rattle.rv_diagram.specs.{declared.Triple.Triple, Nodes.Valuation, Nodes.Diagrams, Nodes.IsRef, Nodes.value_of, Several.ref_at}
 use Rattle.rv_diagram.proofs.Calls.{value_of-false}
+use Rattle.rv_diagram.specs.Growing.{Extends}
+use Rattle.rv_diagram.proofs.Growing.{extends_refl, extends_trans}
 use Rattle.rv_agreement.specs.Agreement.{Fits, HasKind, IsRule, IsPlaced, IsNamed, IsWell}
 use Rattle.rv_agreement.specs.Evaluation.{is_on, nth}
 use Rattle.rv_agreement.specs.Trees.{FlatTree, Node, FlatTrees, Constant, Memory, Ticked, Not, Binary, If, AtMostOne, When, Item, nth_item, memory_items}
@@ -18,8 +20,7 @@ use Rattle.rv_agreement.specs.Valuations.{Reading, Truth, Name, Linear, holds_tr
 use Rattle.rv_agreement.specs.Valuations.{read, updated, IsSymbolic}
 use Rattle.rv_flat.specs.{declared.flat.Flat.Flat, FlatInstants.system_of}
 use Rattle.rv_control.specs.Named.{named, variables_of, truth_at}
-use Rattle.rv_symbolic.specs.{Growing.Extends, Growing.Makes, Linked.AreRefs}
-use Rattle.rv_symbolic.proofs.Extending.{extends_refl, extends_trans}
+use Rattle.rv_symbolic.specs.{Growing.Makes, Linked.AreRefs}
 use Rattle.rv_bits.specs.Shown.{IsNumber, as_number, Shows, refs_at, found, is_there_at, AreTables, AreFlowRefs, ReadsTo, clock_bit}
 use Rattle.rv_bits.specs.{declared.around.Tables.Tables, declared.around.FlowRefs.FlowRefs, Bits.bit, Bits.bit_of, Bits.are_same, Bits.count_true, Bits.Spells}
 use Rattle.rv_bits.specs.{Bits.IsSingle, Constants.constant_bit, Operators.same_by, Operators.operated_by, Reads.AreCountedIn, Reads.ShowsTo, Reads.true_at}

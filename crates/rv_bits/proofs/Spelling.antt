@@ -9,13 +9,15 @@ use Rattle.rv_types.specs.Lists as lists
 use Rattle.rv_meaning.specs.Codes.{code}
 use Rattle.rv_rows.specs.declared.linear.Form.{Form}
 use Rattle.rv_diagram.specs.{declared.Triple.Triple, Nodes.Valuation, Nodes.Diagrams, Several.ref_at}
+use Rattle.rv_diagram.specs.Growing.{Extends}
+use Rattle.rv_diagram.proofs.Growing.{extends_trans}
 use Rattle.rv_agreement.specs.{Agreement.bit_count, Trees.Kept, Trees.kind_at, Valuations.spelled}
 use Rattle.rv_agreement.specs.Trees as trees
 use Rattle.rv_control.specs.Named.{variables_of, truth_at}
 use Rattle.rv_flat.specs.{declared.flat.Flat.Flat, declared.parts.FlatMemory.FlatMemory, declared.parts.FlatInput.FlatInput, FlatInstants.system_of}
 use Rattle.rv_flat.specs.{FlatInstants.memory_places, Steps.label_counts, Steps.memory_kinds, Steps.input_kinds, Systems.kept_of, Systems.tick_flows_of}
-use Rattle.rv_symbolic.specs.{Growing.Extends, Linked.AreRefs}
-use Rattle.rv_symbolic.proofs.Extending.{extends_trans, refs_after}
+use Rattle.rv_symbolic.specs.Linked.{AreRefs}
+use Rattle.rv_symbolic.proofs.Extending.{refs_after}
 use Rattle.rv_bits.specs.Tables.{AreTickRefs, AreBits, AreBitLists, AreAllBits, memory_bit}
 use Rattle.rv_bits.specs.{Shown.IsNumber, Shown.as_number, Shown.Shows, Shown.refs_at, Whole.AreTablesRead, declared.around.Tables.Tables}
 use Rattle.rv_bits.proofs.{Codes.bit_of_code, Codes.bit_past, Making.any_ref, Making.bit_none, Nexting.places_same, Listing.are_bits_kept, Showing.truth_bit}

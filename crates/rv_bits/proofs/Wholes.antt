@@ -1,13 +1,14 @@
 -- What is read of a whole flat system.
 use Rattle.std.proofs.Common.{◌≡◌, ℕ, Bool, ◌&&◌, List, refl, ◌∙◌, Option}
 use Rattle.rv_diagram.specs.{Nodes.Valuation as Numbered, Nodes.Diagrams, Nodes.Answers, Nodes.IsRef, Nodes.value_of, Several.ref_at}
+use Rattle.rv_diagram.specs.Growing.{Extends}
+use Rattle.rv_diagram.proofs.Growing.{extends_trans, grows_extends}
 use Rattle.rv_agreement.specs.{Trees.System, Valuations.Valuation, Valuations.Reading}
 use Rattle.rv_control.specs.Control.{all_met, inputs_named, is_allowed, is_initial, memories_named, none_ticked}
 use Rattle.rv_flat.specs.declared.flat.Flat.{Flat}
 use Rattle.rv_bits.specs.Following.{AreNextRead}
 use Rattle.rv_bits.proofs.Making.{ref_kept}
-use Rattle.rv_symbolic.specs.Growing.{Extends, Makes}
-use Rattle.rv_symbolic.proofs.Extending.{extends_trans, grows_extends}
+use Rattle.rv_symbolic.specs.Growing.{Makes}
 
 -- a conjunction of what was made in turn, the later first
 pub both_swapped : (a b c d : Diagrams) (f g : Numbered → Bool) (p q r : ℕ) → Makes a b f p → Makes b c g q

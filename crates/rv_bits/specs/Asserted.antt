@@ -3,11 +3,11 @@ use Rattle.std.specs.Prelude.{◌≡◌, ℕ, Bool, true, false, List, length, O
 use Rattle.rv_base.specs.declared.value.Value.TheVariants.{Flag}
 use Rattle.rv_types.specs.declared.typed.Kind.TheVariants as kind
 use Rattle.rv_diagram.specs.Nodes.{Valuation, Diagrams, IsRef, value_of}
+use Rattle.rv_diagram.specs.Growing.{Extends}
 use Rattle.rv_agreement.specs.Valuations.{Reading, reads_at, found_at, IsSymbolic}
 use Rattle.rv_agreement.specs.{Agreement.ItemFits, Evaluation.is_met, Trees.Item}
 use Rattle.rv_control.specs.{Control.all_met, Named.named}
 use Rattle.rv_flat.specs.{declared.flat.Flat.Flat, FlatInstants.system_of, RawTree.RawTree, RawTree.Node, RawTree.Constant, RawTree.Flow}
-use Rattle.rv_symbolic.specs.Growing.{Extends}
 use Rattle.rv_bits.specs.declared.assertions.Guard.{Guard}
 use Rattle.rv_bits.specs.declared.assertions.Guard.TheVariants as guard
 

@@ -3,7 +3,8 @@
 use Rattle.std.specs.Prelude.{◌≡◌, ℕ, zero, suc, ◌+◌, Bool, true, not, ◌&&◌, cond, nat_eq, nat_le, List, [], ◌∷◌}
 use Rattle.std.specs.Int.{bit_at}
 use Rattle.rv_diagram.specs.{declared.Triple.Triple, Nodes.Valuation, Nodes.Diagrams, Nodes.IsRef, Nodes.value_of, Several.ref_at}
-use Rattle.rv_symbolic.specs.{Growing.Extends, Growing.Makes, Linked.AreRefs}
+use Rattle.rv_diagram.specs.Growing.{Extends}
+use Rattle.rv_symbolic.specs.{Growing.Makes, Linked.AreRefs}
 
 -- a bit of what some references spell
 abbrev pub bit : List Triple → List ℕ → Valuation → ℕ → Bool

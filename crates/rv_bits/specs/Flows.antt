@@ -3,8 +3,8 @@ use Rattle.std.specs.Prelude.{◌≡◌, ℕ, ◌<◌, Bool, false, ◌&&◌, Li
 use Rattle.rv_types.specs.declared.typed.Kind.{Kind}
 use Rattle.rv_types.specs.declared.typed.Kind.TheVariants as kind
 use Rattle.rv_diagram.specs.{declared.Triple.Triple, Nodes.Valuation, Nodes.Diagrams, Nodes.IsRef, Nodes.value_of}
+use Rattle.rv_diagram.specs.Growing.{Extends}
 use Rattle.rv_flat.specs.{declared.flat.Flat.Flat, declared.parts.FlatFlow.FlatFlow}
-use Rattle.rv_symbolic.specs.Growing.{Extends}
 use Rattle.rv_bits.specs.Shown.{clock_bit, refs_at, AreFlowRefs, IsAfter, ReadsTo}
 use Rattle.rv_bits.specs.{declared.around.Around.Around, declared.around.FlowRefs.FlowRefs, declared.flows.FlowRef.FlowRef, Bits.bit, Reads.tree_in}
 

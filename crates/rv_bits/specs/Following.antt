@@ -4,11 +4,11 @@ use Rattle.rv_tree.specs.Places.{Sites, index_of}
 use Rattle.rv_types.specs.{declared.typed.Kind.Kind, Lists.Variable, Lists.Next}
 use Rattle.rv_types.specs.declared.typed.Kind.TheVariants as kind
 use Rattle.rv_diagram.specs.{declared.Triple.Triple, Nodes.Valuation, Nodes.Diagrams, Nodes.IsRef, Nodes.value_of, Several.ref_at}
+use Rattle.rv_diagram.specs.Growing.{Extends}
 use Rattle.rv_agreement.specs.Valuations.{Reading, IsSymbolic, next_tick, updated}
 use Rattle.rv_control.specs.{Control.bit_of, Control.next_truth, Named.named, Named.variables_of}
 use Rattle.rv_flat.specs.{declared.flat.Flat.Flat, declared.parts.Bit.Bit, FlatInstants.memory_places, FlatInstants.system_of}
 use Rattle.rv_flat.specs.declared.parts.Bit.TheVariants as variant
-use Rattle.rv_symbolic.specs.Growing.{Extends}
 
 -- the variable with a number
 abbrev pub variable_at : Flat → ℕ → Variable

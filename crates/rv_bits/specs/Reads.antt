@@ -1,12 +1,13 @@
 -- Expressions among the memories of their flat system, and what is read of several of them and of a memory.
 use Rattle.std.specs.Prelude.{◌≡◌, ℕ, true, List, length, map, Option}
 use Rattle.rv_diagram.specs.Nodes.{Valuation, Diagrams}
+use Rattle.rv_diagram.specs.Growing.{Extends}
 use Rattle.rv_agreement.specs.Valuations.{Reading, reads_at, found_at, IsSymbolic}
 use Rattle.rv_agreement.specs.{Agreement.AllFit, Evaluation.trues, Trees.FlatTree, Trees.FlatTrees}
 use Rattle.rv_flat.specs.Inlined.{all_inlined, table_of, tree_among}
 use Rattle.rv_flat.specs.{declared.flat.Flat.Flat, declared.parts.FlatExpr.FlatExpr, FlatInstants.system_of, RawTree.raw_tree, RawTree.raw_trees}
 use Rattle.rv_control.specs.Named.{named}
-use Rattle.rv_symbolic.specs.{Growing.Extends, Linked.AreRefs}
+use Rattle.rv_symbolic.specs.Linked.{AreRefs}
 use Rattle.rv_bits.specs.{declared.around.Around.Around, Bits.bit, Bits.count_true, Shown.IsAfter, Shown.is_there_at}
 
 -- the tree of an expression, and those of several

@@ -3,12 +3,13 @@ use Rattle.std.specs.Prelude.{◌≡◌, ℕ, ◌<◌, ◌≤◌, Bool, true, co
 use Rattle.rv_types.specs.declared.typed.Kind.{Kind}
 use Rattle.rv_types.specs.declared.typed.Kind.TheVariants as kind
 use Rattle.rv_diagram.specs.{declared.Triple.Triple, Nodes.Valuation, Nodes.Diagrams, Nodes.value_of, Several.ref_at}
+use Rattle.rv_diagram.specs.Growing.{Extends}
 use Rattle.rv_agreement.specs.Evaluation.{Found, is_on, is_there, nth}
 use Rattle.rv_agreement.specs.Valuations.{Reading, Truth, Name, is_linear, reads_at, found_at, read, updated, IsSymbolic}
 use Rattle.rv_agreement.specs.{Agreement.Fits, Agreement.IsWell, Trees.FlatTree, Trees.kind_at, Trees.memory_kinds}
 use Rattle.rv_flat.specs.{declared.flat.Flat.Flat, FlatInstants.system_of, Inlined.IsTable}
 use Rattle.rv_control.specs.Named.{named}
-use Rattle.rv_symbolic.specs.{Growing.Extends, Linked.AreRefs}
+use Rattle.rv_symbolic.specs.Linked.{AreRefs}
 use Rattle.rv_bits.specs.{declared.around.Around.Around, declared.around.Tables.Tables, declared.around.FlowRefs.FlowRefs, Bits.bit, Bits.bit_of}
 
 -- the references spell a number

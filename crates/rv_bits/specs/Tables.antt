@@ -3,11 +3,12 @@ use Rattle.std.specs.Prelude.{◌≡◌, ℕ, ◌<◌, List, [], ◌∷◌, leng
 use Rattle.rv_tree.specs.Places.{Sites}
 use Rattle.rv_types.specs.{declared.typed.Kind.Kind, Lists.Variable, Lists.Kept}
 use Rattle.rv_diagram.specs.{declared.Triple.Triple, Nodes.Valuation, Nodes.Diagrams, Nodes.value_of, Several.ref_at}
+use Rattle.rv_diagram.specs.Growing.{Extends}
 use Rattle.rv_agreement.specs.Agreement.{bit_count}
 use Rattle.rv_flat.specs.{declared.flat.Flat.Flat, FlatInstants.memory_places, declared.parts.Bit.Bit}
 use Rattle.rv_flat.specs.declared.parts.Bit.TheVariants as variant
 use Rattle.rv_control.specs.Named.{truth_at, tick_variable}
-use Rattle.rv_symbolic.specs.{Growing.Extends, Linked.AreRefs}
+use Rattle.rv_symbolic.specs.Linked.{AreRefs}
 use Rattle.rv_bits.specs.{Bits.bit, Shown.refs_at}
 
 -- the tick that a variable is, by the place of its clock's flow; the main tick is no such variable

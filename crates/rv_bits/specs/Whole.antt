@@ -2,10 +2,11 @@
 use Rattle.std.specs.Prelude.{◌≡◌, List, length, Option}
 use Rattle.rv_types.specs.Lists.{Input}
 use Rattle.rv_diagram.specs.Nodes.{Valuation, Diagrams, IsRef, value_of}
+use Rattle.rv_diagram.specs.Growing.{Extends}
 use Rattle.rv_agreement.specs.{Trees.kind_at, Valuations.Reading, Valuations.reads_at, Valuations.observed, Valuations.IsSymbolic, Evaluation.is_on}
 use Rattle.rv_control.specs.{Control.all_met, Control.is_allowed, Control.is_initial, Control.state_bits, Named.named, Named.variables_of}
 use Rattle.rv_flat.specs.{declared.flat.Flat.Flat, FlatInstants.system_of, Steps.label_counts, Steps.memory_kinds, Steps.input_kinds}
-use Rattle.rv_symbolic.specs.{Growing.Extends, declared.relation.Parts.Parts}
+use Rattle.rv_symbolic.specs.declared.relation.Parts.{Parts}
 use Rattle.rv_bits.specs.{declared.around.Tables.Tables, declared.whole.Rest.Rest, declared.whole.ReadSystem.ReadSystem, Following.AreNextRead, Shown.AreTables}
 use Rattle.rv_bits.specs.{Shown.AreFlowRefs, Shown.AreAfter, Tables.AreAllBits, Tables.memory_bit}
 

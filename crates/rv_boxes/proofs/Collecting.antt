@@ -1,9 +1,10 @@
 -- Where a claim takes a valuation, collected case by case.
 use Rattle.std.proofs.Common.{◌≡◌, ℕ, ◌+◌, Bool, true, false, ◌||◌, List, length, Some, slice_get, arith, refl, sym, ap, ◌∙◌, ◌⊎◌, inl, inr}
 use Rattle.rv_diagram.specs.{Nodes.Valuation, Nodes.Diagrams, Nodes.Answers, Nodes.IsRef, Nodes.value_of, declared.frozen.Frozen.Frozen}
+use Rattle.rv_diagram.specs.Growing.{Extends}
+use Rattle.rv_diagram.proofs.Growing.{extends_trans, grows_extends}
 use Rattle.rv_proofs.specs.{Systems.System, Scopes.IsIn, Boxes.BoxClaim, Boxes.IsTaken, declared.report.Case.Case}
-use Rattle.rv_symbolic.specs.Growing.{Extends, Makes}
-use Rattle.rv_symbolic.proofs.Extending.{extends_trans, grows_extends}
+use Rattle.rv_symbolic.specs.Growing.{Makes}
 use Rattle.rv_walk.specs.Ends.{has}
 use Rattle.rv_boxes.specs.{Rounds.IsInCases, Layering.IsCollected, Layering.IsTakenAt}
 use Rattle.rv_boxes.proofs.Composing.{more_cases}

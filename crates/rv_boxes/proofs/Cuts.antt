@@ -4,11 +4,12 @@ use Rattle.std.proofs.Common.{subst, inl, inr, None as Nothing}
 use Rattle.std.proofs.{lemmas.Bool.cases_lt, lemmas.Bool.and_from, lemmas.Option.same_Some, lemmas.Option.slice_get_within}
 use Rattle.std.specs.Prelude.{MatchOption, MatchBool}
 use Rattle.rv_diagram.specs.{Nodes.Valuation, Nodes.Diagrams, Nodes.Answers, Nodes.value_of, Nodes.IsOrderedOver, declared.frozen.Frozen.Frozen}
+use Rattle.rv_diagram.specs.Growing.{Extends}
+use Rattle.rv_diagram.proofs.Growing.{extends_trans, grows_extends}
 use Rattle.rv_proofs.specs.Systems.{System, IsSystem, IsSameValuation}
 use Rattle.rv_proofs.specs.{Scopes.IsIn, Ranges.IsControlSet, Ranges.IsCondition, Cases.IsCaseOf, Cases.AreCases, declared.report.Case.Case}
-use Rattle.rv_symbolic.specs.Growing.{Extends}
 use Rattle.rv_symbolic.proofs.Reading.{control-value, condition-value, condition_set, valuation_state}
-use Rattle.rv_symbolic.proofs.{Extending.extends_trans, Extending.grows_extends, Extending.needed_same, Parting.kept-append}
+use Rattle.rv_symbolic.proofs.{Extending.needed_same, Parting.kept-append}
 use Rattle.rv_walk.specs.Ends.{has}
 use Rattle.rv_boxes.specs.Cutting.{both_of, IsFrozenSome, IsMeet, case_with, HasCut, AreCut}
 use Rattle.rv_base.proofs.{Lists.get_push, Lists.push_cases, Truths.both_of as both_true, Truths.clash}

@@ -1,8 +1,9 @@
 -- The relation of the valuations that a claim takes.
 use Rattle.std.proofs.Common.{◌≡◌, ℕ, List, refl, sym, ap, ◌∙◌, subst}
 use Rattle.rv_diagram.specs.{Nodes.Diagrams, Nodes.IsRef, Nodes.value_of, declared.frozen.Frozen.Frozen}
+use Rattle.rv_diagram.specs.Growing.{Extends}
 use Rattle.rv_proofs.specs.{Systems.System, Boxes.BoxClaim}
-use Rattle.rv_symbolic.specs.{declared.relation.Parts.Parts, Growing.Extends, Represented.HaveRefs, Represented.AreParts}
+use Rattle.rv_symbolic.specs.{declared.relation.Parts.Parts, Represented.HaveRefs, Represented.AreParts}
 use Rattle.rv_boxes.specs.{Narrowed.narrowed, Layering.IsOpening, Layering.ArePartsWith, declared.frame.Frame.Frame}
 use Rattle.rv_rows.specs.declared.linear.Row.{Row}
 

@@ -3,12 +3,13 @@
 ghost use Rattle.std.specs.Prelude.{◌≡◌, ◌<◌, ◌^◌, ◌||◌, length, IfOk, IsErrOf};
 ghost use Rattle.rv_diagram.specs.Nodes.{IsRef, IsOrderedOver, value_of};
 ghost use Rattle.rv_diagram.specs.declared.frozen.Frozen.{Frozen as FrozenModel};
+ghost use Rattle.rv_diagram.specs.Growing.{Extends};
 ghost use Rattle.rv_proofs.specs.Systems.{System};
 ghost use Rattle.rv_proofs.specs.Scopes.{IsIn};
 ghost use Rattle.rv_proofs.specs.Boxes.{BoxClaim, IsTaken};
 ghost use Rattle.rv_proofs.specs.Reached.{AreLayers};
 ghost use Rattle.rv_cases.specs.declared.asking.Questions.{Questions as QuestionsModel};
-ghost use Rattle.rv_symbolic.specs.Growing.{Extends, Makes};
+ghost use Rattle.rv_symbolic.specs.Growing.{Makes};
 ghost use Rattle.rv_walk.specs.Ends.{has};
 ghost use Rattle.rv_boxes.specs.declared.claim.Claim.{Claim as ClaimModel};
 ghost use Rattle.rv_boxes.specs.Claiming.{claim_of};

@@ -4,10 +4,10 @@
 ghost use Rattle.std.specs.Prelude.{◌≡◌, ◌<◌, ◌^◌, ℕ, true, false, length, IfOk, IsErrOf, OnOk, MatchBool, Some, slice_index_or};
 ghost use Rattle.std.specs.Prelude.{None as Nothing};
 ghost use Rattle.rv_diagram.specs.Nodes.{Valuation, value_of, IsRef, IsOrderedOver};
+ghost use Rattle.rv_diagram.specs.Growing.{Extends};
 ghost use Rattle.rv_proofs.specs.Systems.{System, IsSystem};
 ghost use Rattle.rv_proofs.specs.Ranges.{IsControlSet};
 ghost use Rattle.rv_proofs.specs.Cases.{IsCaseOf};
-ghost use Rattle.rv_symbolic.specs.Growing.{Extends};
 ghost use Rattle.rv_boxes.specs.declared.opening.Told.{Told as ToldModel};
 ghost use Rattle.rv_boxes.specs.Cutting.{both_of};
 ghost use Rattle.rv_boxes.specs.Opening.{IsFrameOf};

@@ -4,11 +4,12 @@ use Rattle.std.proofs.Common.{⊎_elim, inl, inr, arith, length-append}
 use Rattle.std.proofs.lemmas.Bool.{cases_lt, cases_eq, or_cases, and_from, and_parts, or_left, or_right}
 use Rattle.std.proofs.{lemmas.List.get_or_append_left, Math.Seq.get_or-append_seam}
 use Rattle.rv_diagram.specs.{declared.Triple.Triple, Nodes.Valuation, Nodes.Diagrams, Nodes.IsRef, Nodes.value_of, Several.ref_at}
-use Rattle.rv_terms.specs.Growing.{Extends}
-use Rattle.rv_terms.proofs.{Growths.extends_trans, Combining.and-none, Combining.and-or}
+use Rattle.rv_terms.proofs.{Combining.and-none, Combining.and-or}
 use Rattle.rv_cases.specs.Conditions.{is_in, AreRefs, AreApart, IsParted, AreAnswers, AreMeets, AreWithin, AreJoined, list_at, Gathers, among}
 use Rattle.rv_base.proofs.Truths.{or_assoc, or_false_is}
 use Rattle.rv_diagram.proofs.Several.{same_truth}
+use Rattle.rv_diagram.specs.Growing.{Extends}
+use Rattle.rv_diagram.proofs.Growing.{extends_trans}
 
 -- LATER
 

@@ -2,9 +2,9 @@
 use Rattle.std.proofs.Common.{ℕ, ◌+◌, ◌<◌, ◌≡◌, Bool, List, length, sym, ◌∙◌, subst, arith, slice_get, Some}
 use Rattle.std.proofs.lemmas.Option.{slice_get_within}
 use Rattle.rv_diagram.specs.{declared.Triple.Triple, Nodes.Valuation, Nodes.Diagrams, Nodes.value_of, Nodes.IsMeant, Several.ref_at}
+use Rattle.rv_diagram.specs.Growing.{Extends}
+use Rattle.rv_diagram.proofs.Growing.{extends_trans}
 use Rattle.rv_proofs.specs.{Systems.System, declared.report.Case.Case}
-use Rattle.rv_terms.specs.Growing.{Extends}
-use Rattle.rv_terms.proofs.Growths.{extends_trans}
 use Rattle.rv_cases.specs.Conditions.{is_in, list_at, AreWithin, IsParted, AreJoined}
 use Rattle.rv_cases.specs.Questions.{HaveAnswers, AreQuestions, IsSettledFor, rows_at, forms_at, memory_answers, observer_answers}
 use Rattle.rv_cases.specs.{declared.asking.Questions.Questions, Made.IsMadeFor, Made.AreMadeOf}

@@ -2,8 +2,8 @@
 use Rattle.std.specs.Prelude.{◌≡◌, ℕ, ◌&&◌, Bool, List, length, Some, slice_get}
 use Rattle.rv_diagram.specs.Nodes.{Valuation, Diagrams, value_of, IsOrderedOver}
 use Rattle.rv_diagram.specs.{declared.Triple.Triple, declared.frozen.Frozen.Frozen, Several.ref_at, Several.UsesNeeded}
+use Rattle.rv_diagram.specs.Growing.{Extends}
 use Rattle.rv_proofs.specs.{Systems.System, declared.report.Case.Case}
-use Rattle.rv_terms.specs.Growing.{Extends}
 use Rattle.rv_cases.specs.Telling.{AreTold, AreUpdated, IsObserved}
 use Rattle.rv_cases.specs.{declared.asking.Questions.Questions, Conditions.IsParted, Conditions.AreJoined, Questions.AreQuestions}
 

@@ -3,7 +3,7 @@
 ghost use Rattle.std.specs.Prelude.{◌≡◌, ℕ, ◌<◌, ◌^◌, length, Some, slice_get, IfOk, IsErrOf};
 ghost use Rattle.rv_diagram.specs.Nodes.{IsRef, IsMeant, IsOrderedOver};
 ghost use Rattle.rv_diagram.specs.Several.{ref_at};
-ghost use Rattle.rv_terms.specs.Growing.{Extends};
+ghost use Rattle.rv_diagram.specs.Growing.{Extends};
 ghost use Rattle.rv_proofs.specs.Systems.{System, IsSystem};
 ghost use Rattle.rv_proofs.specs.Ranges.{IsControlSet};
 ghost use Rattle.rv_proofs.specs.Cases.{AreCases};

@@ -2,7 +2,7 @@
 
 ghost use Rattle.std.specs.Prelude.{◌≡◌, ℕ, ◌<◌, ◌^◌, ◌&&◌, Bool, true, false, length, IfOk, OnOk, IsErrOf};
 ghost use Rattle.rv_diagram.specs.Nodes.{Valuation, value_of, valuation_of, IsRef};
-ghost use Rattle.rv_terms.specs.Growing.{Extends};
+ghost use Rattle.rv_diagram.specs.Growing.{Extends};
 ghost use Rattle.rv_cases.specs.Conditions.{is_in, AreRefs, AreApart, IsParted, AreAnswers, HasOneAnswer, IsSampleOf, AreMeets, AreWithin, AreJoined, list_at};
 ghost use Rattle.rv_cases.specs.Conditions.{Gathers};
 

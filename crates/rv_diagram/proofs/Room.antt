@@ -4,7 +4,7 @@ use Rattle.std.proofs.Common.{Result, Ok, Err, OnOk, OnErr, IfOk, IsErrOf, ⊎_e
 use Rattle.std.proofs.lemmas.Nat.{mul-le}
 use Rattle.rv_diagram.specs.Nodes.{Diagrams, Valuation, steps_growth}
 use Rattle.rv_diagram.specs.Counting.{count}
-use Rattle.rv_diagram.specs.Room.{step_room, half, enough, Lacks}
+use Rattle.rv_diagram.specs.Room.{step_room, Lacks}
 use Rattle.rv_diagram.proofs.Counting.{count-most}
 
 pub times_more : (a b x : ℕ) → a ≤ b → a * x ≤ b * x
@@ -24,28 +24,11 @@ one_block m x s h = omega arith
 pub block_fits : (m : ℕ) → 2 ^ (m + 1) ≤ step_room m
 block_fits m = one_block m (2 ^ (m + 1)) (step_room m) (blocks_fit m 1 (squares m))
 
-pub half_more : (e f m : ℕ) → e ≤ f → half e m ≤ half f m
-unfolding half
-half_more e f m le = times_more (e + 64) (f + 64) (step_room m) (omega arith)
-
 doubled_suc : (p : ℕ) → 2 ^ (suc p) ≡ 2 ^ p + 2 ^ p
 doubled_suc p = grind arith
 
 pub doubled : (p : ℕ) → 2 ^ (p + 1) ≡ 2 ^ p + 2 ^ p
 doubled p = let e : p + 1 ≡ suc p = omega arith in ap (λ k. 2 ^ k) e ∙ doubled_suc p
-
-spread : (a b p : ℕ) → a * b * (p + p) ≡ a * (b * p) + a * (b * p)
-spread a b p = grind arith
-
-two_halves : (a b p q : ℕ) → q ≡ p + p → a * b * q ≡ a * (b * p) + a * (b * p)
-two_halves a b p q e = ap (λ k. a * b * k) e ∙ spread a b p
-
-next_power : (m : ℕ) → 2 ^ (m + 2) ≡ 2 ^ (m + 1) + 2 ^ (m + 1)
-next_power m = let e : m + 2 ≡ m + 1 + 1 = omega arith in ap (λ k. 2 ^ k) e ∙ doubled (m + 1)
-
-pub enough_halves : (e m : ℕ) → enough e m ≡ half e m + half e m
-unfolding enough half step_room
-enough_halves e m = two_halves (e + 64) ((m + 2) * (m + 2)) (2 ^ (m + 1)) (2 ^ (m + 2)) (next_power m)
 
 -- so many nodes as the paths of all valuations have
 paths_blocks : (m n : ℕ) → n ≤ 2 ^ m → m * n ≤ m * 2 ^ (m + 1)
@@ -72,15 +55,6 @@ lacks_after old mid k j n le variables limit grown lacks =
     let more : (k + j) * step_room old.variables ≡ k * step_room old.variables + j * step_room old.variables = both_times k j (step_room old.variables) in
     let most : (k + j) * step_room old.variables ≤ n * step_room old.variables = times_more (k + j) n (step_room old.variables) le in
     omega (arith, limit, last, grown, most, more)
-
--- no room for so many steps is no room for half of what is enough
-pub lacks_half : (k e : ℕ) (d : Diagrams) → Lacks k d → k ≤ e + 64 → d.limit < length d.nodes + half e d.variables
-unfolding half
-lacks_half k e d lacks le = lacks_more k (e + 64) d lacks le
-
--- where half of what is enough is held at most, the limit is below what is enough
-pub lacks_enough : (k e : ℕ) (d : Diagrams) → Lacks k d → k ≤ e + 64 → length d.nodes ≤ half e d.variables → d.limit < enough e d.variables
-lacks_enough k e d lacks le few = omega (arith, lacks_half k e d lacks le, few, enough_halves e d.variables)
 
 -- a call that leaves the list as it was after a fault
 pub grown_step : {T E : Type 0} (old new : Diagrams) (o : Result T E) → OnOk o (length new.nodes ≤ length old.nodes + 2 ^ (old.variables + 1))

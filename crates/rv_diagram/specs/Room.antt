@@ -7,14 +7,6 @@ use Rattle.rv_diagram.specs.declared.Triple.{Triple}
 unfoldable pub step_room : ℕ → ℕ
 step_room m = (m + 2) * (m + 2) * 2 ^ (m + 1)
 
--- half of what is enough for a program with e expressions
-unfoldable pub half : ℕ → ℕ → ℕ
-half e m = (e + 64) * step_room m
-
--- what is enough for it
-unfoldable pub enough : ℕ → ℕ → ℕ
-enough e m = (e + 64) * ((m + 2) * (m + 2)) * 2 ^ (m + 2)
-
 -- the limit leaves no room for so many steps
 abbrev pub Lacks : ℕ → Diagrams → Type 0
 Lacks k d = d.limit < length d.nodes + k * step_room d.variables

@@ -8,6 +8,8 @@ use Rattle.rv_types.specs.{declared.typed.Kind.Kind, Variables.is_integer}
 use Rattle.rv_types.specs.declared.typed.Kind.TheVariants as kind
 use Rattle.rv_rows.specs.{declared.linear.Form.Form, Arithmetic.constant_form}
 use Rattle.rv_diagram.specs.{declared.Triple.Triple, Nodes.Valuation, Nodes.Diagrams}
+use Rattle.rv_diagram.specs.Growing.{Extends}
+use Rattle.rv_diagram.proofs.Growing.{extends_refl, extends_trans}
 use Rattle.rv_terms.specs.{declared.parted.Part.Part, declared.parted.Term.Term, Parts.form_at, Parts.IsTermOf}
 use Rattle.rv_agreement.specs.Trees.{FlatTree, Item, no_item, nth_item, memory_kinds, memory_items, kind_at}
 use Rattle.rv_agreement.specs.Valuations.{Reading, Linear, form_of, whole_count, rank, width, reads_at, read, updated, IsSymbolic}
@@ -17,8 +19,6 @@ use Rattle.rv_flat.specs.{FlatInstants.system_of, Inlined.table_of, Inlined.tree
 use Rattle.rv_flat.proofs.{FlowWeights.item_light, FlowWeights.weight_kth, Inlining.memory_at, SystemRuns.kept_items}
 use Rattle.rv_control.specs.{Named.named, Symbolic.symbolic}
 use Rattle.rv_control.proofs.{Bounded.IsBounded, Bounded.zero_bounded, Readings.is_symbolic, Weighed.light_weight}
-use Rattle.rv_symbolic.specs.Growing.{Extends}
-use Rattle.rv_symbolic.proofs.Extending.{extends_refl, extends_trans}
 use Rattle.rv_bits.specs.{declared.around.FlowRefs.FlowRefs, Shown.Shows, Shown.refs_at, Shown.is_there_at, Shown.clock_bit, Shown.AreFlowRefs}
 use Rattle.rv_bits.proofs.{Fitting.fits_more, Listing.element_before, Listing.element_last, Flowing.nothing_some}
 use Rattle.rv_forms.specs.Terms.{columns_of, weights_of, weight_in, form_read, flow_read, parts_at, IsWithin, GivesTerm, ReadsAs, AreWholes, IsAfterAs}

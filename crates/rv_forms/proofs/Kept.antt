@@ -4,12 +4,12 @@ use Rattle.std.proofs.{lemmas.Bool.cases_eq, lemmas.List.get_or-set_same, lemmas
 use Rattle.std.specs.Prelude.{slice_index_or, slice_set}
 use Rattle.rv_rows.specs.Forms.{FormWithin}
 use Rattle.rv_diagram.specs.{declared.Triple.Triple, Nodes.Valuation, Nodes.Diagrams}
+use Rattle.rv_diagram.specs.Growing.{Extends}
 use Rattle.rv_terms.specs.{declared.parted.Part.Part, declared.parted.Term.Term, Parts.form_at, Parts.holds, Parts.term_width, Parts.IsTerm}
 use Rattle.rv_terms.specs.Growing as terms
 use Rattle.rv_terms.proofs.Combining.{form_later, holds_later, term_later}
 use Rattle.rv_agreement.specs.Valuations.{Linear}
 use Rattle.rv_flat.specs.{declared.flat.Flat.Flat, Inlined.table_of}
-use Rattle.rv_symbolic.specs.Growing.{Extends}
 use Rattle.rv_bits.specs.{declared.around.Around.Around, Shown.AreAfter}
 use Rattle.rv_bits.proofs.Keeping.{around_kept, after_kept}
 use Rattle.rv_forms.specs.declared.over.Wholes.{Wholes}

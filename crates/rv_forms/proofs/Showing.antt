@@ -11,6 +11,7 @@ use Rattle.rv_types.specs.declared.typed.Kind.TheVariants as kind
 use Rattle.rv_meaning.specs.Meaning.{number as whole_number}
 use Rattle.rv_rows.specs.{declared.linear.Form.Form, Arithmetic.constant_form, Arithmetic.form_times}
 use Rattle.rv_diagram.specs.{declared.Triple.Triple, Nodes.Valuation, Nodes.Diagrams, Nodes.value_of, Several.ref_at}
+use Rattle.rv_diagram.proofs.Growing.{extends_refl, extends_trans}
 use Rattle.rv_terms.specs.{declared.parted.Part.Part, Parts.form_at, Parts.IsTermOf}
 use Rattle.rv_agreement.specs.Agreement.{Fits, HasKind, IsRule, IsNamed, IsWell}
 use Rattle.rv_agreement.specs.Evaluation.{held, is_on, nth}
@@ -20,7 +21,6 @@ use Rattle.rv_agreement.specs.Valuations.{Reading, Truth, Linear, holds_true, is
 use Rattle.rv_flat.specs.{declared.flat.Flat.Flat, Facts.weight_under, Facts.flat_weight, FlatInstants.system_of, Inlined.table_of}
 use Rattle.rv_control.specs.Named.{named}
 use Rattle.rv_control.proofs.Bounded.{IsBounded, looser, constant_bounded, zero_bounded, sum_bounded, times_bounded, difference_bounded}
-use Rattle.rv_symbolic.proofs.Extending.{extends_refl, extends_trans}
 use Rattle.rv_bits.specs.Shown.{Shows, refs_at, found, is_there_at, clock_bit, AreTables, AreFlowRefs, ReadsTo}
 use Rattle.rv_bits.specs.{declared.around.Tables.Tables, declared.around.FlowRefs.FlowRefs, Bits.bit}
 use Rattle.rv_bits.proofs.Showing.{shows_truth}

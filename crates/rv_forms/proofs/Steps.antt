@@ -7,12 +7,12 @@ use Rattle.rv_tree.specs.declared.tree.Op.TheVariants as op
 use Rattle.rv_meaning.specs.Meaning.{number as whole_number}
 use Rattle.rv_rows.specs.{declared.linear.Form.Form, Arithmetic.constant_form, Arithmetic.form_sum, Arithmetic.form_times}
 use Rattle.rv_diagram.specs.{declared.Triple.Triple, Nodes.Valuation, Nodes.Diagrams, Nodes.Grows}
+use Rattle.rv_diagram.proofs.Growing.{extends_refl, grows_extends}
 use Rattle.rv_terms.specs.{declared.parted.Part.Part, declared.parted.Term.Term, Parts.form_at, Parts.IsTerm, Parts.IsTermOf}
 use Rattle.rv_agreement.specs.Trees.{FlatTree, Node, Binary, Not, AtMostOne, Ticked}
 use Rattle.rv_flat.specs.{declared.parts.FlatExpr.FlatExpr, declared.parts.FlatMemory.FlatMemory, Facts.is_light, Tame.IsOver}
 use Rattle.rv_flat.specs.declared.parts.FlatForm.TheVariants as form
 use Rattle.rv_control.proofs.Weighed.{light_weight}
-use Rattle.rv_symbolic.proofs.Extending.{extends_refl, grows_extends}
 use Rattle.rv_bits.specs.{declared.around.Around.Around, Reads.tree_in, Reads.trees_in}
 use Rattle.rv_bits.proofs.Trees.{tree_constant, tree_memory, tree_ticked, tree_not, tree_most}
 use Rattle.rv_forms.specs.Terms.{columns_of, weights_of, weight_in, parts_at, IsWithin, GivesTerm, ReadsAs, AreWholes, IsReady}

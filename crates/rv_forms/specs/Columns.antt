@@ -6,10 +6,10 @@ use Rattle.rv_types.specs.declared.typed.Kind.{Kind}
 use Rattle.rv_types.specs.declared.typed.Kind.TheVariants as kind
 use Rattle.rv_rows.specs.{declared.linear.Form.Form, Arithmetic.constant_form, Arithmetic.column_form, Arithmetic.form_sum, Arithmetic.form_difference}
 use Rattle.rv_diagram.specs.{declared.Triple.Triple, Nodes.Diagrams}
+use Rattle.rv_diagram.specs.Growing.{Extends}
 use Rattle.rv_terms.specs.{declared.parted.Term.Term, Parts.IsTermOf}
 use Rattle.rv_agreement.specs.{Trees.kind_at, Trees.memory_kinds, Valuations.rank}
 use Rattle.rv_flat.specs.{declared.flat.Flat.Flat, FlatInstants.system_of}
-use Rattle.rv_symbolic.specs.Growing.{Extends}
 use Rattle.rv_forms.specs.Terms.{parts_at, IsAfterAs}
 
 -- the form of what is of a type: a column of an integer, the constant 0 of anything else

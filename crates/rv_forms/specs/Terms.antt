@@ -4,12 +4,12 @@ use Rattle.rv_base.specs.Limits.{heaviest}
 use Rattle.rv_types.specs.declared.typed.Kind.TheVariants as kind
 use Rattle.rv_rows.specs.{declared.linear.Form.Form, Forms.FormWithin}
 use Rattle.rv_diagram.specs.{declared.Triple.Triple, Nodes.Valuation, Nodes.Diagrams}
+use Rattle.rv_diagram.specs.Growing.{Extends}
 use Rattle.rv_terms.specs.{declared.parted.Part.Part, declared.parted.Term.Term, Parts.form_at, Parts.IsTerm, Parts.IsTermOf, Parts.AreFilled}
 use Rattle.rv_agreement.specs.Valuations.{Reading, Linear, form_of, width, reads_at, read, updated, IsSymbolic}
 use Rattle.rv_agreement.specs.{Agreement.Fits, Evaluation.held, Evaluation.nth, Trees.FlatTree, Trees.kind_at, Trees.memory_kinds}
 use Rattle.rv_flat.specs.{declared.flat.Flat.Flat, Facts.flat_weight, Facts.flow_weights, FlatInstants.system_of, Inlined.table_of}
 use Rattle.rv_control.specs.{Control.control_of, Named.named}
-use Rattle.rv_symbolic.specs.Growing.{Extends}
 use Rattle.rv_bits.specs.{declared.around.Around.Around, Shown.found, Shown.is_there_at, Shown.IsAround, Shown.AreAfter}
 use Rattle.rv_forms.specs.declared.over.Wholes.{Wholes}
 

@@ -1,7 +1,7 @@
 //! The updates of the integer memories, and the parts of a term as answers.
 
 ghost use Rattle.std.specs.Prelude.{◌≡◌, ◌<◌, ◌^◌, length, slice_get, Some, IfOk, OnOk, IsErrOf};
-ghost use Rattle.rv_symbolic.specs.Growing.{Extends};
+ghost use Rattle.rv_diagram.specs.Growing.{Extends};
 ghost use Rattle.rv_forms.specs.Choices.{refs_in, forms_in};
 ghost use Rattle.rv_forms.specs.Columns.{IsAdded};
 ghost use Rattle.rv_forms.specs.Terms.{AreUpdatesRead, IsReady};

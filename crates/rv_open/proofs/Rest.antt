@@ -6,10 +6,11 @@ use Rattle.std.proofs.lemmas.{Bool.cases_lt, Bool.cases_Bool, Option.get_or_from
 use Rattle.rv_base.proofs.Truths.{both_of, without_is, of_not_true}
 use Rattle.rv_diagram.specs.{Nodes.Valuation, Nodes.Diagrams, Nodes.Answers, Nodes.IsRef, Nodes.choice, Nodes.value_of, Several.ref_at}
 use Rattle.rv_diagram.proofs.Several.{same_truth}
+use Rattle.rv_diagram.specs.Growing.{Extends}
+use Rattle.rv_diagram.proofs.Growing.{extends_refl, extends_trans, grows_extends}
 use Rattle.rv_rows.specs.{declared.linear.Row.Row, Rows.Holds}
 use Rattle.rv_proofs.specs.Systems.{System, Agrees}
-use Rattle.rv_symbolic.specs.Growing.{Extends, Finds}
-use Rattle.rv_symbolic.proofs.Extending.{extends_refl, extends_trans, grows_extends}
+use Rattle.rv_symbolic.specs.Growing.{Finds}
 use Rattle.rv_cases.specs.{declared.asking.Questions.Questions, Questions.rows_at, Questions.AreQuestions}
 use Rattle.rv_cases.specs.Conditions.{is_in, list_at, AreRefs}
 use Rattle.rv_open.specs.{Columns.HasNoColumns, Columns.is_counted, Given.HoldAmong, Given.HoldOfTests}

@@ -2,9 +2,10 @@
 
 ghost use Rattle.std.specs.Prelude.{◌≡◌, ◌↔◌, ◌+◌, ◌<◌, ◌^◌, ◌≤ℤ◌, [], pos, true, length, IfOk, IsErrOf, IsTrue};
 ghost use Rattle.rv_diagram.specs.Nodes.{IsRef, value_of};
+ghost use Rattle.rv_diagram.specs.Growing.{Extends};
 ghost use Rattle.rv_rows.specs.Rows.{Holds};
 ghost use Rattle.rv_proofs.specs.Systems.{System};
-ghost use Rattle.rv_symbolic.specs.Growing.{Extends, Finds};
+ghost use Rattle.rv_symbolic.specs.Growing.{Finds};
 ghost use Rattle.rv_symbolic.specs.Represented.{IsRelationOf};
 ghost use Rattle.rv_cases.specs.Conditions.{AreRefs};
 ghost use Rattle.rv_cases.specs.Questions.{AreQuestions};

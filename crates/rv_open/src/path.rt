@@ -2,9 +2,9 @@
 
 ghost use Rattle.std.specs.Prelude.{◌≡◌, ◌<◌, ◌^◌, ℕ, ℤ, Bool, List, Ok, Some, None, slice_get, IfOk, IsErrOf};
 ghost use Rattle.rv_diagram.specs.declared.frozen.Frozen.{Frozen as FrozenModel};
+ghost use Rattle.rv_diagram.specs.Growing.{Extends};
 ghost use Rattle.rv_proofs.specs.Systems.{System};
 ghost use Rattle.rv_proofs.specs.Ranges.{IsControlSet};
-ghost use Rattle.rv_symbolic.specs.Growing.{Extends};
 ghost use Rattle.rv_walk.specs.Paths.{IsFalsifyingPath, IsShortestPath};
 ghost use Rattle.rv_open.specs.Columns.{AreLeastBadLayers};
 ghost use Rattle.rv_open.specs.Given.{IsConstant};

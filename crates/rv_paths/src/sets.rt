@@ -2,7 +2,7 @@
 
 ghost use Rattle.std.specs.Prelude.{◌≡◌, ◌<◌, ◌^◌, IsErrOf};
 ghost use Rattle.rv_diagram.specs.Nodes.{IsOrderedOver};
-ghost use Rattle.rv_symbolic.specs.Growing.{Extends};
+ghost use Rattle.rv_diagram.specs.Growing.{Extends};
 
 use rv_diagram::{Frozen, Store, StoreFault};
 

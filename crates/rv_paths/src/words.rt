@@ -3,8 +3,8 @@
 
 ghost use Rattle.std.specs.Prelude.{◌≡◌, ◌<◌, ◌^◌, All, length, reverse, IfOk, IfSome, IsErrOf};
 ghost use Rattle.rv_diagram.specs.Nodes.{IsRef, IsOrderedOver};
+ghost use Rattle.rv_diagram.specs.Growing.{Extends};
 ghost use Rattle.rv_proofs.specs.Systems.{System};
-ghost use Rattle.rv_symbolic.specs.Growing.{Extends};
 ghost use Rattle.rv_symbolic.specs.Linked.{AreRefs};
 ghost use Rattle.rv_paths.specs.Searching.{IsSetting};
 

@@ -2,12 +2,13 @@
 use Rattle.std.proofs.Common.{◌≡◌, ◌∙◌, ◌≤◌, ◌^◌, ℕ, ℤ, All, List, [], length, sym, ap, arith}
 use Rattle.std.proofs.lemmas.List.{length-map, nil_from_length}
 use Rattle.rv_diagram.specs.Nodes.{Diagrams}
+use Rattle.rv_diagram.specs.Growing.{Extends}
 use Rattle.rv_agreement.specs.{Agreement.IsWell, Trees.System, Valuations.Valuation, Valuations.IsSymbolic}
 use Rattle.rv_flat.specs.{declared.flat.Flat.Flat, FlatInstants.system_of, Lists.variable_of}
 use Rattle.rv_proofs.specs.{Systems.IsSystem, Counts.HasFree, Ranges.IsInRange, Reached.HasNoIntegers, declared.certificate.Certificate.Certificate}
 use Rattle.rv_proofs.specs.Systems as proofs
 use Rattle.rv_control.specs.{Control.control_of, Named.named, Symbolic.symbolic}
-use Rattle.rv_symbolic.specs.{Represented.AreParts, Represented.HaveRefs, declared.relation.Parts.Parts, Growing.Extends}
+use Rattle.rv_symbolic.specs.{Represented.AreParts, Represented.HaveRefs, declared.relation.Parts.Parts}
 use Rattle.rv_cases.specs.{declared.asking.Questions.Questions, Questions.AreQuestions}
 use Rattle.rv_cases.proofs.Keeping.{questions_later}
 use Rattle.rv_bits.specs.Whole.{ArePartsRead}

@@ -4,6 +4,7 @@ ghost use Rattle.std.specs.Prelude.{◌≡◌, ◌↔◌, ◌<◌, ◌≤◌, �
 ghost use Rattle.std.specs.Int.RustNames.{unsigned_abs};
 ghost use Rattle.std.specs.Borrow.{sem};
 ghost use Rattle.rv_diagram.specs.declared.frozen.Frozen.{Frozen as FrozenModel};
+ghost use Rattle.rv_diagram.specs.Growing.{Extends};
 ghost use Rattle.rv_tree.specs.Tree.{ProgramTree};
 ghost use Rattle.rv_tree.specs.Places.{Identifier};
 ghost use Rattle.rv_types.specs.Instances.{IsNode};
@@ -23,7 +24,6 @@ ghost use Rattle.rv_proofs.specs.declared.certificate.Certificate.{Certificate a
 ghost use Rattle.rv_control.specs.Control.{control_of};
 ghost use Rattle.rv_cases.specs.Questions.{AreQuestions, AreDistinct};
 ghost use Rattle.rv_cases.specs.Made.{AreDifferent};
-ghost use Rattle.rv_symbolic.specs.Growing.{Extends};
 ghost use Rattle.rv_symbolic.specs.Represented.{AreParts, HaveRefs};
 ghost use Rattle.rv_proofs.specs.declared.report.Layers.{Layers as LayersModel};
 ghost use Rattle.rv_paths.specs.Candidates.{IsCandidateOf, IsInRange as HasTraceNumbers};

@@ -2,9 +2,10 @@
 use Rattle.std.proofs.Common.{ℕ, Bool, ◌≡◌, ◌↔◌, true, IsTrue, ◌||◌, sym, ap, ◌∙◌, subst}
 use Rattle.rv_diagram.specs.Nodes.{Valuation, Diagrams, Answers, IsOrderedOver, value_of}
 use Rattle.rv_diagram.specs.{Several.UsesNeeded, declared.frozen.Frozen.Frozen}
+use Rattle.rv_diagram.specs.Growing.{Extends}
+use Rattle.rv_diagram.proofs.Growing.{extends_trans, grows_extends}
 use Rattle.rv_proofs.specs.{Scopes.IsIn, Systems.System, Ranges.IsControlSet}
-use Rattle.rv_symbolic.specs.Growing.{Extends}
-use Rattle.rv_symbolic.proofs.{Extending.needed_same, Extending.extends_trans, Extending.grows_extends, Reading.control-value, Reading.control_set}
+use Rattle.rv_symbolic.proofs.{Extending.needed_same, Reading.control-value, Reading.control_set}
 use Rattle.rv_state.specs.States.{either, IsUnion}
 
 module _ (s0 s1 s2 : Diagrams) (a b : Frozen) (one other : ℕ) (p : Answers s0 s1 (value_of a.nodes a.root) one)

@@ -1,8 +1,8 @@
 // Sets of control states in a store, which is left as it was.
 ghost use Rattle.std.specs.Prelude.{◌≡◌, ◌↔◌, ◌<◌, ◌^◌, IsTrue, IfOk, IsErrOf};
 ghost use Rattle.rv_diagram.specs.Nodes.{Valuation, IsOrderedOver};
+ghost use Rattle.rv_diagram.specs.Growing.{Extends};
 ghost use Rattle.rv_proofs.specs.Scopes.{IsIn};
-ghost use Rattle.rv_symbolic.specs.Growing.{Extends};
 ghost use Rattle.rv_state.specs.States.{IsUnion};
 
 use rv_diagram::{Frozen, Store, StoreFault};

@@ -8,36 +8,11 @@ use Rattle.rv_diagram.specs.Several.{Gives, Stepped, SameBut, Ignores, UsesNeede
 use Rattle.rv_diagram.specs.{declared.store.several.Part.Part, declared.Triple.Triple, declared.frozen.Frozen.Frozen}
 use Rattle.rv_proofs.specs.Scopes.{IsIn}
 use Rattle.rv_symbolic.specs.Linked.{AreRefs, AreLinkedBetween, AreParted, AreMet, quantified, Meets}
-use Rattle.rv_symbolic.specs.{Growing.Extends, Growing.Makes, Growing.Finds, Represented.IsRelation, Represented.AreLinks}
+use Rattle.rv_symbolic.specs.{Growing.Makes, Growing.Finds, Represented.IsRelation, Represented.AreLinks}
 use Rattle.rv_symbolic.proofs.Reading.{put-other}
 use Rattle.rv_diagram.proofs.Several.{same_truth}
-
-pub extends_refl : (s : Diagrams) → Extends s s
-extends_refl s = record { begins = ([], sym (append-nil s.nodes)); longer = omega arith; kept = λ r h v. refl; variables = refl; limit = refl }
-
-pub extends_trans : (a b c : Diagrams) → Extends a b → Extends b c → Extends a c
-extends_trans a b c p q = record {
-  begins = (p.begins.0 ++ q.begins.0, q.begins.1 ∙ ap (λ l. l ++ q.begins.0) p.begins.1 ∙ append_assoc a.nodes p.begins.0 q.begins.0);
-  longer = omega (arith, p.longer, q.longer);
-  kept = λ r h v. q.kept r (omega (arith, p.longer)) v ∙ p.kept r h v;
-  variables = q.variables ∙ p.variables;
-  limit = q.limit ∙ p.limit;
-}
-
-pub grows_extends : (a b : Diagrams) → Grows a b → Extends a b
-grows_extends a b g = record { begins = g.begins; longer = g.longer; kept = g.kept; variables = g.variables; limit = g.limit }
-
-pub equal_extends : (a b : Diagrams) → b ≡ a → Extends a b
-equal_extends a b e = subst (λ (s : Diagrams). Extends a s) (sym e) (extends_refl a)
-
--- a call of the store, after which nothing has changed or the list has grown
-pub call_extends : {E : Type 0} (a b : Diagrams) (f : Valuation → Bool) (o : Result ℕ E) → IfOk o (λ r. Answers a b f r) → OnErr o (b ≡ a) → Extends a b
-call_extends a b f (Ok r) ok err = grows_extends a b ok.grows
-call_extends a b f (Err e) ok err = equal_extends a b err
-
-pub gives_extends : {E : Type 0} (a b : Diagrams) (f : Valuation → Type 0) (o : Result ℕ E) → IfOk o (λ r. Gives a b f r) → OnErr o (b ≡ a) → Extends a b
-gives_extends a b f (Ok r) ok err = grows_extends a b ok.grows
-gives_extends a b f (Err e) ok err = equal_extends a b err
+use Rattle.rv_diagram.specs.Growing.{Extends}
+use Rattle.rv_diagram.proofs.Growing.{extends_refl, extends_trans, grows_extends}
 
 pub map_ok : {A E : Type 0} (o : Result A E) (P Q : A → Type 0) → ((r : A) → P r → Q r) → IfOk o P → IfOk o Q
 map_ok (Ok r) P Q f h = f r h

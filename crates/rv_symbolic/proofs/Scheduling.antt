@@ -4,10 +4,11 @@ use Rattle.std.proofs.Common.{arith}
 use Rattle.std.proofs.lemmas.Bool.{and_parts, or_cases, not-true, both_ways}
 use Rattle.rv_diagram.specs.{Nodes.Valuation, Nodes.Diagrams, Nodes.IsRef, Nodes.value_of, Nodes.valuation_of, Several.Ignores, Several.IsSchedule}
 use Rattle.rv_diagram.specs.{Several.gone, Several.part_at, Several.ref_at, declared.Triple.Triple, declared.store.several.Part.Part}
+use Rattle.rv_diagram.specs.Growing.{Extends}
 use Rattle.rv_proofs.specs.Systems.{System}
 use Rattle.rv_symbolic.specs.Represented.{HaveRefs, AreParts, IsRelation, AreLinks, IsRelationOf}
 use Rattle.rv_symbolic.specs.Linked.{AreRefs, AreParted, AreScheduled, quantified}
-use Rattle.rv_symbolic.specs.{declared.relation.Parts.Parts, declared.relation.Relation.Relation, Growing.Extends, Variables.AreAllBut}
+use Rattle.rv_symbolic.specs.{declared.relation.Parts.Parts, declared.relation.Relation.Relation, Variables.AreAllBut}
 use Rattle.rv_symbolic.proofs.Extending.{refs_after, links_opened, links_closed, part_refs_after, schedule_after, met_before, met_after}
 use Rattle.rv_base.proofs.Truths.{or_false}
 

@@ -5,10 +5,12 @@ use Rattle.std.proofs.lemmas.Bool.{and_from, and_parts, cases_Bool, cases_lt, bo
 use Rattle.std.specs.Prelude.{MatchOption}
 use Rattle.rv_diagram.specs.Nodes.{Valuation, Diagrams, Answers, IsRef, value_of, choice, valuation_of, IsLeast}
 use Rattle.rv_diagram.specs.{declared.frozen.Frozen.Frozen, declared.store.several.Part.Part, Several.ArePartRefs, Several.part_at}
+use Rattle.rv_diagram.specs.Growing.{Extends}
+use Rattle.rv_diagram.proofs.Growing.{extends_trans, grows_extends}
 use Rattle.rv_proofs.specs.{Systems.System, Systems.IsRead, Systems.IsSameValuation, Scopes.IsIn, Ranges.IsControlSet}
 use Rattle.rv_symbolic.specs.Words.{IsLeastOf, IsFalseIn, LeadsTo, IsFirstOf, AreCopies, AreMetWith, IsFalseAt, LeadsAt}
-use Rattle.rv_symbolic.specs.{declared.relation.Relation.Relation, Growing.Extends, Growing.Makes, Growing.Finds, Variables.is_of, Represented.IsRelationOf}
-use Rattle.rv_symbolic.proofs.{Extending.extends_trans, Extending.grows_extends, Extending.met_before, Extending.met_after, Reading.control-value}
+use Rattle.rv_symbolic.specs.{declared.relation.Relation.Relation, Growing.Makes, Growing.Finds, Variables.is_of, Represented.IsRelationOf}
+use Rattle.rv_symbolic.proofs.{Extending.met_before, Extending.met_after, Reading.control-value}
 use Rattle.rv_symbolic.proofs.{Reading.valuation_state, Reading.is_of-bit, Reading.read_is, Reading.read_off, Projecting.relation_to, Projecting.relation_from}
 
 -- what a store picks of a reference

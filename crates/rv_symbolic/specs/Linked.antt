@@ -3,8 +3,8 @@ use Rattle.std.specs.Prelude.{◌≡◌, ℕ, ◌+◌, ◌*◌, ◌<◌, ◌≤�
 use Rattle.rv_diagram.specs.Nodes.{Valuation, Diagrams, IsRef, value_of, valuation_of}
 use Rattle.rv_diagram.specs.Several.{SameBut, ref_at, part_at, gone, IsSchedule}
 use Rattle.rv_diagram.specs.{declared.Triple.Triple, declared.frozen.Frozen.Frozen, declared.store.several.Part.Part}
+use Rattle.rv_diagram.specs.Growing.{Extends}
 use Rattle.rv_proofs.specs.Scopes.{IsIn}
-use Rattle.rv_symbolic.specs.Growing.{Extends}
 
 abbrev pub AreRefs : List Triple → List ℕ → Type 0
 AreRefs nodes next = (i : ℕ) → i < length next → IsRef nodes (ref_at next i)

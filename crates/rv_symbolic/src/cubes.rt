@@ -2,7 +2,8 @@
 
 ghost use Rattle.std.specs.Prelude.{◌≡◌, ◌*◌, ◌<◌, ◌≤◌, ◌^◌, true, length, IfOk, IsErrOf};
 ghost use Rattle.rv_diagram.specs.Nodes.{value_of, IsRef};
-ghost use Rattle.rv_symbolic.specs.Growing.{Extends, Finds};
+ghost use Rattle.rv_diagram.specs.Growing.{Extends};
+ghost use Rattle.rv_symbolic.specs.Growing.{Finds};
 ghost use Rattle.rv_symbolic.specs.Words.{AreCopies};
 
 use rv_diagram::{Ref, Store, StoreFault};

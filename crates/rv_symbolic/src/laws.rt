@@ -1,10 +1,10 @@
 //! What outlasts the growth of a store, as the contract of a function that does nothing.
 
 ghost use Rattle.rv_diagram.specs.Nodes.{Diagrams};
+ghost use Rattle.rv_diagram.specs.Growing.{Extends};
 ghost use Rattle.rv_proofs.specs.Systems.{System};
 ghost use Rattle.rv_symbolic.specs.declared.relation.Parts.{Parts};
 ghost use Rattle.rv_symbolic.specs.declared.relation.Relation.{Relation};
-ghost use Rattle.rv_symbolic.specs.Growing.{Extends};
 ghost use Rattle.rv_symbolic.specs.Represented.{HaveRefs, AreParts, IsRelationOf};
 
 /// References and relations keep their meanings in a store whose nodes that there were come first, as after calls that build in it.

@@ -2,8 +2,9 @@
 
 ghost use Rattle.std.specs.Prelude.{◌≡◌, ◌+◌, ◌-◌, ◌*◌, ◌<◌, ◌≤◌, ◌^◌, ◌↔◌, true, false, length, IfOk, IfSome, IfNone, IsErrOf};
 ghost use Rattle.rv_diagram.specs.Nodes.{Valuation, value_of, IsRef, IsOrderedOver};
+ghost use Rattle.rv_diagram.specs.Growing.{Extends};
 ghost use Rattle.rv_proofs.specs.Scopes.{IsIn};
-ghost use Rattle.rv_symbolic.specs.Growing.{Extends, Finds};
+ghost use Rattle.rv_symbolic.specs.Growing.{Finds};
 ghost use Rattle.rv_symbolic.specs.Linked.{AreRefs, AreLinkedBetween, AreParted};
 
 use rv_base::Many;

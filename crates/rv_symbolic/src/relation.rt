@@ -3,12 +3,12 @@
 ghost use Rattle.std.specs.Prelude.{◌≡◌, ◌<◌, ◌≤◌, ◌^◌, IfOk, IsErrOf, length};
 ghost use Rattle.rv_diagram.specs.Nodes.{Diagrams, IsOrderedOver};
 ghost use Rattle.rv_diagram.specs.Several.{ArePartRefs, IsSchedule};
+ghost use Rattle.rv_diagram.specs.Growing.{Extends};
 ghost use Rattle.rv_symbolic.specs.Linked.{quantified};
 ghost use Rattle.rv_proofs.specs.Systems.{System, IsSystem};
 ghost use Rattle.rv_proofs.specs.Ranges.{IsControlSet};
 ghost use Rattle.rv_proofs.specs.Reached.{HasNoIntegers};
 ghost use Rattle.rv_proofs.specs.Cases.{IsCase, AreCases, IsImage, IsPreimage, IsInitialSet};
-ghost use Rattle.rv_symbolic.specs.Growing.{Extends};
 ghost use Rattle.rv_symbolic.specs.Represented.{HaveRefs, AreParts, parts_of, IsRelationOf};
 ghost use Rattle.rv_symbolic.specs.Stepped.{IsProjected, IsAStep, IsJudged, AreNextStates};
 ghost use Rattle.rv_symbolic.specs.Parted.{HasSides};

@@ -3,9 +3,10 @@
 ghost use Rattle.std.specs.Prelude.{◌≡◌, ℕ, ◌<◌, ◌^◌, ◌&&◌, not, true, IfOk, IsErrOf};
 ghost use Rattle.rv_diagram.specs.Nodes.{Valuation, value_of, IsRef, IsOrderedOver};
 ghost use Rattle.rv_diagram.specs.Several.{Ignores, UsesNeeded, ArePartRefs, IsSchedule};
+ghost use Rattle.rv_diagram.specs.Growing.{Extends};
 ghost use Rattle.rv_proofs.specs.Scopes.{IsIn};
 ghost use Rattle.rv_symbolic.specs.Stepped.{IsProjected};
-ghost use Rattle.rv_symbolic.specs.Growing.{Extends, Makes, Finds};
+ghost use Rattle.rv_symbolic.specs.Growing.{Makes, Finds};
 ghost use Rattle.rv_symbolic.specs.Linked.{Meets, AreMet, quantified};
 
 use rv_diagram::{Frozen, Part, Ref, Store, StoreFault};

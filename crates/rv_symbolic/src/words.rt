@@ -3,7 +3,8 @@
 ghost use Rattle.std.specs.Prelude.{◌*◌, ◌<◌, ◌≤◌, ◌^◌, length, IfOk, IsErrOf};
 ghost use Rattle.rv_diagram.specs.Nodes.{IsRef, IsOrderedOver};
 ghost use Rattle.rv_diagram.specs.Several.{ArePartRefs};
-ghost use Rattle.rv_symbolic.specs.Growing.{Extends, Finds};
+ghost use Rattle.rv_diagram.specs.Growing.{Extends};
+ghost use Rattle.rv_symbolic.specs.Growing.{Finds};
 ghost use Rattle.rv_symbolic.specs.Words.{IsFirstOf, IsFalseAt, LeadsAt, AreMetWith};
 
 use crate::cubes::cube;

@@ -6,7 +6,8 @@ use Rattle.std.proofs.lemmas.List.{append-nil, length-set, get_or_append_left, g
 use Rattle.std.proofs.Math.Seq.{get_or-append_seam}
 use Rattle.rv_rows.specs.declared.linear.Form.{Form}
 use Rattle.rv_diagram.specs.{declared.Triple.Triple, Nodes.Valuation, Nodes.Diagrams, Nodes.IsRef, Nodes.value_of}
-use Rattle.rv_terms.specs.{declared.parted.Part.Part, Growing.Extends, Parts.no_form, Parts.part_at, Parts.holds, Parts.ArePartsOf, Parts.Adds}
+use Rattle.rv_diagram.specs.Growing.{Extends}
+use Rattle.rv_terms.specs.{declared.parted.Part.Part, Parts.no_form, Parts.part_at, Parts.holds, Parts.ArePartsOf, Parts.Adds}
 use Rattle.rv_base.proofs.Truths.{or_false_is}
 
 -- the same parts, of an equal set

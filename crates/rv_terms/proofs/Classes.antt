@@ -7,11 +7,12 @@ use Rattle.rv_rows.specs.declared.linear.Form.{Form}
 use Rattle.rv_diagram.specs.{declared.Triple.Triple, Nodes.Valuation, Nodes.Diagrams, Nodes.IsRef, Nodes.ReadsBelow, Nodes.value_of, Nodes.choice}
 use Rattle.rv_diagram.proofs.Calls.{value_of-false}
 use Rattle.rv_terms.specs.Parts.{part_at, holds, form_at, AreDifferent, IsTerm, IsTermOf, among, HasForm, AreClasses, chosen_form, held, IsFilledBy, LacksFew}
-use Rattle.rv_terms.specs.{declared.parted.Part.Part, Growing.Extends}
+use Rattle.rv_terms.specs.declared.parted.Part.{Part}
 use Rattle.rv_diagram.specs.Counting.{count, ReadsOnly}
 use Rattle.rv_terms.proofs.Combining.{form_is, form_later, among-more, among_some}
 use Rattle.rv_terms.proofs.{Adding.IsPlaced, Adding.placed_last}
 use Rattle.rv_diagram.proofs.Counting.{count-same, count-join, count-most}
+use Rattle.rv_diagram.specs.Growing.{Extends}
 
 -- WHERE A TERM HAS A FORM
 

@@ -3,8 +3,9 @@ use Rattle.std.proofs.Common.{ℕ, zero, suc, ◌+◌, ◌<◌, ◌≤◌, ◌�
 use Rattle.std.proofs.lemmas.Bool.{cases_eq, cases_Bool, or_cases, and_parts, or_left, or_right}
 use Rattle.rv_rows.specs.declared.linear.Form.{Form}
 use Rattle.rv_diagram.specs.{declared.Triple.Triple, Nodes.Valuation, Nodes.Diagrams, Nodes.value_of}
+use Rattle.rv_diagram.specs.Growing.{Extends}
 use Rattle.rv_terms.specs.Parts.{part_at, holds, form_at, AreRefs, AreDisjoint, Covers, IsTerm, IsTermOf, ArePartsOf, Adds, among}
-use Rattle.rv_terms.specs.{declared.parted.Part.Part, Growing.Extends}
+use Rattle.rv_terms.specs.declared.parted.Part.{Part}
 use Rattle.rv_terms.proofs.Adding.{parts_as, parts_later}
 use Rattle.rv_base.proofs.Truths.{or_assoc}
 

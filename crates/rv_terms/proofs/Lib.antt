@@ -1,4 +1,3 @@
-pub mod Growths
 pub mod Adding
 pub mod Combining
 pub mod Sums

@@ -1,15 +1,7 @@
--- What becomes of a store in calls that may have failed.
-use Rattle.std.specs.Prelude.{◌≡◌, ◌≤◌, ◌<◌, ◌+◌, ◌*◌, ◌^◌, ℕ, Bool, length}
-use Rattle.rv_diagram.specs.Nodes.{Valuation, Diagrams, BeginsWith, IsKept}
+-- How much a store may grow in several calls, and how much room these need.
+use Rattle.std.specs.Prelude.{◌≤◌, ◌<◌, ◌+◌, ◌*◌, ◌^◌, ℕ, Bool, length}
+use Rattle.rv_diagram.specs.Nodes.{Valuation, Diagrams}
 use Rattle.rv_diagram.specs.Counting.{count}
-
--- the nodes that there were come first and keep their meaning
-pub record Extends (old new : Diagrams) : Type 0 where
-  pub begins : BeginsWith new.nodes old.nodes
-  pub longer : length old.nodes ≤ length new.nodes
-  pub kept : IsKept old.nodes new.nodes (length old.nodes)
-  pub variables : new.variables ≡ old.variables
-  pub limit : new.limit ≡ old.limit
 
 -- The limit leaves no room for as many nodes as so many calls of the store may add.
 pub record LacksRoom (calls : ℕ) (s : Diagrams) : Type 0 where

@@ -4,8 +4,8 @@ ghost use Rattle.std.specs.Prelude.{◌≡◌, ℕ, ◌<◌, ◌≤◌, ◌+◌,
 ghost use Rattle.rv_diagram.specs.declared.Triple.{Triple};
 ghost use Rattle.rv_diagram.specs.Nodes.{Diagrams, Grows, Valuation, IsReduced, BeginsWith, Has, IsFewest, NeedsMore};
 ghost use Rattle.rv_diagram.specs.Counting.{count, ReadsOnly};
+ghost use Rattle.rv_diagram.specs.Growing.{Extends};
 ghost use Rattle.rv_terms.specs.declared.parted.Part.{Part};
-ghost use Rattle.rv_terms.specs.Growing.{Extends};
 ghost use Rattle.rv_terms.specs.Parts.{part_at, holds, form_at, IsTerm};
 
 /// A term stays a term while its store grows, with the same form at each valuation.

@@ -3,8 +3,9 @@
 ghost use Rattle.std.specs.Prelude.{◌*◌, ◌≡◌, ◌≢◌, ℕ, ◌+◌, ◌<◌, ◌≤◌, ◌^◌, ◌↔◌, ◌&&◌, ◌||◌, true, false, length, IfOk, OnOk, OnErr, IsErrOf};
 ghost use Rattle.std.specs.Prelude.{IsTrue, MatchOption};
 ghost use Rattle.rv_diagram.specs.Nodes.{value_of, IsRef, Answers};
-ghost use Rattle.rv_terms.specs.Growing.{Extends, LacksRoom};
+ghost use Rattle.rv_terms.specs.Growing.{LacksRoom};
 ghost use Rattle.rv_diagram.specs.Counting.{count};
+ghost use Rattle.rv_diagram.specs.Growing.{Extends};
 ghost use Rattle.rv_terms.specs.Parts.{part_at, AreRefs, Adds};
 
 use rv_base::{Many, Memory};

@@ -5,7 +5,6 @@ use Rattle.std.specs.Prelude.{slice_get}
 use Rattle.rv_rows.specs.{declared.linear.Row.Row, declared.linear.Form.Form, Rows.row_at}
 use Rattle.rv_diagram.specs.{declared.Triple.Triple, Nodes.Valuation, Nodes.Diagrams, Several.ref_at}
 use Rattle.rv_proofs.specs.Systems.{System, IsSystem, IsSameValuation}
-use Rattle.rv_symbolic.specs.Growing.{Extends}
 use Rattle.rv_terms.specs.Parts.{no_form}
 use Rattle.rv_cases.specs.Questions.{rows_at, forms_at, memory_answers, observer_answers, HaveAnswers, AreTestAnswers, AreUpdateAnswers, AreSides, AreQuestions}
 use Rattle.rv_cases.specs.Questions.{AreDistinct}
@@ -13,6 +12,7 @@ use Rattle.rv_cases.specs.{declared.asking.Questions.Questions, Conditions.is_in
 use Rattle.rv_tested.specs.Exact.{AreExact, row_answer, form_answer, side_answer, AreAsked}
 use Rattle.rv_base.proofs.Lists.{within_got}
 use Rattle.rv_diagram.proofs.Several.{same_truth}
+use Rattle.rv_diagram.specs.Growing.{Extends}
 
 module _ (A : Type 0) (nodes : List Triple) (f : Valuation → A) (n : ℕ) (value : ℕ → A) (refs : List ℕ) (is : AreExact A nodes f n value refs) where
   pub exact_answers : AreAnswers nodes refs

@@ -5,11 +5,11 @@ use Rattle.std.proofs.lemmas.List.{get_or_append_left, get_or-append-add, get_or
 use Rattle.std.proofs.{lemmas.Bool.cases_lt, lemmas.Bool.cases_eq, lemmas.Bool.false≢true, Math.Seq.get_or-append_seam}
 use Rattle.rv_rows.specs.{declared.linear.Row.Row, declared.linear.Form.Form}
 use Rattle.rv_diagram.specs.{declared.Triple.Triple, Nodes.Valuation, Nodes.Diagrams, Nodes.IsMeant, Nodes.IsRef, Nodes.value_of, Several.ref_at}
+use Rattle.rv_diagram.specs.Growing.{Extends}
+use Rattle.rv_diagram.proofs.Growing.{extends_trans}
 use Rattle.rv_flat.specs.{declared.flat.Flat.Flat, Lists.variable_of}
 use Rattle.rv_control.specs.Control.{control_of}
 use Rattle.rv_proofs.specs.Systems.{System}
-use Rattle.rv_symbolic.specs.Growing.{Extends}
-use Rattle.rv_symbolic.proofs.Extending.{extends_trans}
 use Rattle.rv_terms.specs.{declared.parted.Part.Part, declared.parted.Term.Term, Parts.no_form, Parts.part_at, Parts.holds, Parts.form_at, Parts.IsTerm}
 use Rattle.rv_terms.proofs.{Combining.form_is, Classes.part_iff}
 use Rattle.rv_cases.specs.{Conditions.is_in, Conditions.list_at, Questions.rows_at, Questions.forms_at}

@@ -8,10 +8,10 @@ use Rattle.rv_types.specs.declared.typed.Kind.TheVariants as kind
 use Rattle.rv_types.specs.Lists.{Variable, MainTick, Tick, Kept, Next, Input, Test}
 use Rattle.rv_rows.specs.declared.linear.Row.{Row}
 use Rattle.rv_diagram.specs.{declared.Triple.Triple, Nodes.Valuation, Nodes.Diagrams}
+use Rattle.rv_diagram.specs.Growing.{Extends}
 use Rattle.rv_agreement.specs.{Agreement.Fits, Agreement.IsNamed, Trees.FlatTree, Valuations.Reading, Valuations.IsSymbolic}
 use Rattle.rv_flat.specs.{declared.flat.Flat.Flat, declared.parts.Bit.Bit, FlatInstants.system_of, Lists.variable_of, Systems.flow_item, Tame.IsOver}
 use Rattle.rv_control.specs.{Control.control_of, Control.order_tests, Named.named, Named.variables_of}
-use Rattle.rv_symbolic.specs.Growing.{Extends}
 use Rattle.rv_bits.specs.{declared.around.FlowRefs.FlowRefs, Shown.AreFlowRefs, Shown.clock_bit, Shown.is_there_at}
 use Rattle.rv_bits.proofs.Fitting.{over_fits}
 use Rattle.rv_cases.specs.{Conditions.list_at, Questions.rows_at}

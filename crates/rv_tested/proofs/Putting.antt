@@ -7,8 +7,8 @@ use Rattle.std.proofs.Math.Seq.{get_or-append_seam}
 use Rattle.std.specs.Prelude.{slice_set}
 use Rattle.rv_rows.specs.{declared.linear.Row.Row, Rows.row_at}
 use Rattle.rv_diagram.specs.{declared.Triple.Triple, Nodes.Valuation, Nodes.Diagrams, Nodes.IsRef, Nodes.value_of, Several.ref_at}
+use Rattle.rv_diagram.specs.Growing.{Extends}
 use Rattle.rv_cases.specs.Conditions.{is_in}
-use Rattle.rv_symbolic.specs.Growing.{Extends}
 use Rattle.rv_tested.specs.{declared.rows.Answered.Answered, Rows.IsLaid, Rows.HasRows, Rows.IsPut, Rows.IsAnswered}
 use Rattle.rv_cases.proofs.Gathering.{before-at}
 use Rattle.rv_base.proofs.{Options.some_same, Truths.or_false, Truths.or_true}

@@ -10,6 +10,7 @@ use Rattle.rv_types.specs.Lists.{Side, Test, sides_of}
 use Rattle.rv_rows.specs.{declared.linear.Row.Row, declared.linear.Form.Form, Rows.row_at, Arithmetic.test_row}
 use Rattle.rv_diagram.specs.{declared.Triple.Triple, Nodes.Valuation as Numbered, Nodes.Diagrams, Nodes.IsRef, Nodes.value_of, Several.ref_at}
 use Rattle.rv_diagram.proofs.Calls.{value_of-true}
+use Rattle.rv_diagram.specs.Growing.{Extends}
 use Rattle.rv_agreement.specs.Valuations.{Valuation, Reading, Linear, Comparison, Tested, is_of_integers, reads_at, read, side_form, tested, tested_form, width}
 use Rattle.rv_agreement.specs.{Agreement.IsWell, Trees.System, Evaluation.is_there, Checks.same_sites}
 use Rattle.rv_agreement.proofs.Chosen.{sites_itself, sites_told}
@@ -17,7 +18,6 @@ use Rattle.rv_flat.specs.{declared.flat.Flat.Flat, FlatInstants.system_of}
 use Rattle.rv_control.specs.{Control.has_side, Control.is_present, Control.row_among, Named.named, Named.truth_at, Named.variables_of, Symbolic.symbolic}
 use Rattle.rv_control.specs.{Tightening.tightened}
 use Rattle.rv_control.proofs.Readings.{is_symbolic}
-use Rattle.rv_symbolic.specs.Growing.{Extends}
 use Rattle.rv_terms.specs.{declared.parted.Part.Part, Parts.form_at}
 use Rattle.rv_cases.specs.Conditions.{is_in}
 use Rattle.rv_tested.specs.Testing.{AreSidesRead, IsTestTerm, row_in, first_comparisons}

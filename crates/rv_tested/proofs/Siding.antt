@@ -8,11 +8,11 @@ use Rattle.rv_types.specs.declared.typed.Kind.TheVariants as kind
 use Rattle.rv_rows.specs.Forms.{number, FormWithin, CanAdd, CanScale}
 use Rattle.rv_rows.specs.{declared.linear.Form.Form, Arithmetic.form_sum, Arithmetic.form_times, Arithmetic.form_difference}
 use Rattle.rv_diagram.specs.{declared.Triple.Triple, Nodes.Valuation, Nodes.Diagrams, Nodes.IsRef, Nodes.value_of}
+use Rattle.rv_diagram.specs.Growing.{Extends}
 use Rattle.rv_agreement.specs.{Agreement.Fits, Trees.FlatTree, Valuations.Reading, Valuations.Linear, Valuations.Comparison, Valuations.IsSymbolic}
 use Rattle.rv_flat.specs.{declared.flat.Flat.Flat, FlatInstants.system_of}
 use Rattle.rv_control.specs.Named.{named}
 use Rattle.rv_control.proofs.Bounded.{IsBounded, times_bounded, difference_bounded}
-use Rattle.rv_symbolic.specs.Growing.{Extends}
 use Rattle.rv_terms.specs.Parts.{part_at, holds, form_at, term_width, AreDisjoint, AreFilled, IsTermOf}
 use Rattle.rv_terms.specs.{declared.parted.Part.Part, declared.parted.Term.Term}
 use Rattle.rv_terms.proofs.Combining.{form_is, form_later, form_width}

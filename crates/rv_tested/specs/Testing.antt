@@ -5,11 +5,11 @@ use Rattle.rv_types.specs.Lists.{Side, Variable}
 use Rattle.rv_tree.specs.Places.{Sites}
 use Rattle.rv_rows.specs.{declared.linear.Row.Row, declared.linear.Form.Form, Arithmetic.form_difference, Forms.FormWithin}
 use Rattle.rv_diagram.specs.{declared.Triple.Triple, Nodes.Valuation, Nodes.Diagrams, Nodes.IsRef, Nodes.value_of}
+use Rattle.rv_diagram.specs.Growing.{Extends}
 use Rattle.rv_agreement.specs.Trees.{FlatTree}
 use Rattle.rv_agreement.specs.Valuations.{Reading, Linear, Comparison, IsSymbolic, read, side_form}
 use Rattle.rv_flat.specs.{declared.flat.Flat.Flat, FlatInstants.system_of}
 use Rattle.rv_control.specs.{Control.control_of, Control.row_among, Control.row_of, Named.named, Symbolic.symbolic}
-use Rattle.rv_symbolic.specs.Growing.{Extends}
 use Rattle.rv_terms.specs.{declared.parted.Part.Part, declared.parted.Term.Term, Parts.form_at, Parts.part_at, Parts.AreRefs, Parts.AreDisjoint, Parts.Covers}
 use Rattle.rv_bits.specs.Shown.{is_there_at}
 use Rattle.rv_cases.specs.{Questions.rows_at, Conditions.list_at}

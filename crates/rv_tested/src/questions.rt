@@ -2,9 +2,9 @@
 
 ghost use Rattle.std.specs.Prelude.{◌≡◌, ◌++◌, ◌<◌, ◌^◌, length, map, IfOk, OnOk, IsErrOf};
 ghost use Rattle.rv_diagram.specs.Nodes.{IsMeant, IsRef};
+ghost use Rattle.rv_diagram.specs.Growing.{Extends};
 ghost use Rattle.rv_control.specs.Control.{control_of};
 ghost use Rattle.rv_proofs.specs.Systems.{IsSystem};
-ghost use Rattle.rv_symbolic.specs.Growing.{Extends};
 ghost use Rattle.rv_bits.specs.Shown.{AreAfter, IsAround};
 ghost use Rattle.rv_cases.specs.Questions.{AreQuestions, AreDistinct};
 ghost use Rattle.rv_forms.specs.Choices.{refs_in, forms_in};

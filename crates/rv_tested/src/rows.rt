@@ -7,9 +7,9 @@ ghost use Rattle.rv_rows.specs.Forms.{FormWithin};
 ghost use Rattle.rv_rows.specs.Rows.{row_at};
 ghost use Rattle.rv_rows.specs.declared.linear.Row.{Row as RowModel};
 ghost use Rattle.rv_diagram.specs.Nodes.{Valuation, IsRef, value_of};
+ghost use Rattle.rv_diagram.specs.Growing.{Extends};
 ghost use Rattle.rv_control.specs.Tightening.{tightened};
 ghost use Rattle.rv_terms.specs.Parts.{AreDisjoint, AreRefs as ArePartRefs, Covers, form_at, part_at};
-ghost use Rattle.rv_symbolic.specs.Growing.{Extends};
 ghost use Rattle.rv_tested.specs.Rows.{IsLaid, IsPut, IsAnswered, first_of};
 
 use rv_base::{Many, Memory};

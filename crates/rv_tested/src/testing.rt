@@ -3,6 +3,7 @@
 ghost use Rattle.std.specs.Prelude.{◌≡◌, ◌++◌, ◌∷◌, [], ℕ, ◌<◌, ◌≤◌, ◌^◌, true, false, List, None, length, map, IfOk, OnOk, IsErrOf};
 ghost use Rattle.rv_diagram.specs.declared.Triple.{Triple as TripleModel};
 ghost use Rattle.rv_diagram.specs.Nodes.{Valuation, value_of, IsRef};
+ghost use Rattle.rv_diagram.specs.Growing.{Extends};
 ghost use Rattle.rv_agreement.specs.Agreement.{IsWell};
 ghost use Rattle.rv_agreement.specs.Valuations.{all_comparisons, Comparison};
 ghost use Rattle.rv_flat.specs.FlatInstants.{system_of};
@@ -10,7 +11,6 @@ ghost use Rattle.rv_flat.specs.Lists.{side_of, variable_of};
 ghost use Rattle.rv_types.specs.Lists.{sides_of, Test};
 ghost use Rattle.rv_control.specs.Control.{control_of, has_side as has_side_among, order_tests};
 ghost use Rattle.rv_control.specs.Named.{truth_at, variables_of};
-ghost use Rattle.rv_symbolic.specs.Growing.{Extends};
 ghost use Rattle.rv_bits.specs.Shown.{clock_bit};
 ghost use Rattle.rv_cases.specs.Conditions.{AreRefs};
 ghost use Rattle.rv_forms.specs.Terms.{IsReady, IsWithin};

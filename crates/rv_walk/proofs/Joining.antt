@@ -3,9 +3,11 @@ use Rattle.std.proofs.Common.{ℕ, ◌≡◌, false, not, ◌&&◌, ◌||◌, sy
 use Rattle.std.specs.Prelude.{MatchOption}
 use Rattle.rv_diagram.specs.Nodes.{Valuation, Diagrams, Answers, IsRef, IsOrderedOver, value_of}
 use Rattle.rv_diagram.specs.{Several.UsesNeeded, declared.frozen.Frozen.Frozen}
+use Rattle.rv_diagram.specs.Growing.{Extends}
+use Rattle.rv_diagram.proofs.Growing.{extends_trans, grows_extends}
 use Rattle.rv_proofs.specs.{Systems.System, Systems.HasSameState, Ranges.IsControlSet}
-use Rattle.rv_symbolic.specs.Growing.{Extends, Makes}
-use Rattle.rv_symbolic.proofs.{Extending.extends_trans, Extending.grows_extends, Extending.needed_same, Reading.control-value, Reading.control_set}
+use Rattle.rv_symbolic.specs.Growing.{Makes}
+use Rattle.rv_symbolic.proofs.{Extending.needed_same, Reading.control-value, Reading.control_set}
 use Rattle.rv_walk.specs.Extended.{fresh_of, either_of, fresh_in, either_in, IsTaken, IsExtended, IsWithout, IsGrown, IsLifted}
 use Rattle.rv_walk.specs.{declared.sets.Extended.Extended, declared.sets.Grown.Grown, Ends.has}
 

@@ -3,9 +3,11 @@ use Rattle.std.proofs.Common.{ℕ, ◌+◌, ◌<◌, ◌≡◌, Bool, true, fals
 use Rattle.std.proofs.Math.Path.{fun_ext}
 use Rattle.rv_diagram.specs.Nodes.{Valuation, Diagrams, IsRef, IsOrderedOver, value_of}
 use Rattle.rv_diagram.specs.{Several.UsesNeeded, declared.frozen.Frozen.Frozen}
+use Rattle.rv_diagram.specs.Growing.{Extends}
+use Rattle.rv_diagram.proofs.Growing.{extends_trans}
 use Rattle.rv_proofs.specs.Systems.{System}
-use Rattle.rv_symbolic.specs.{declared.relation.NextStates.NextStates, Growing.Extends, Stepped.AreNextStates}
-use Rattle.rv_symbolic.proofs.{Extending.extends_trans, Reading.control_set}
+use Rattle.rv_symbolic.specs.{declared.relation.NextStates.NextStates, Stepped.AreNextStates}
+use Rattle.rv_symbolic.proofs.Reading.{control_set}
 use Rattle.rv_walk.specs.Walks.{IsWalk, IsDone, IsExplored, missing, last_of}
 use Rattle.rv_walk.specs.{declared.sets.Grown.Grown, Ends.has, Extended.fresh_in, Extended.either_in, Extended.IsFresh, Extended.IsGrown}
 use Rattle.rv_walk.proofs.Stages.{walk_more, walk_less, walk_done}

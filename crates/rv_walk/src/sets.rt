@@ -2,9 +2,10 @@
 
 ghost use Rattle.std.specs.Prelude.{◌≡◌, ◌<◌, ◌≤◌, ◌^◌, ◌&&◌, not, false, length, Some, IfOk, IsErrOf, MatchOption};
 ghost use Rattle.rv_diagram.specs.Nodes.{Valuation, Diagrams, value_of, IsRef, IsOrderedOver};
+ghost use Rattle.rv_diagram.specs.Growing.{Extends};
 ghost use Rattle.rv_proofs.specs.Systems.{System};
 ghost use Rattle.rv_proofs.specs.Ranges.{IsControlSet};
-ghost use Rattle.rv_symbolic.specs.Growing.{Extends, Makes};
+ghost use Rattle.rv_symbolic.specs.Growing.{Makes};
 ghost use Rattle.rv_walk.specs.declared.sets.Extended.{Extended as ExtendedModel};
 ghost use Rattle.rv_walk.specs.Extended.{fresh_of, either_of, fresh_in, either_in, IsTaken, IsExtended, IsWithout, IsGrown, IsLifted};
 

@@ -2,6 +2,7 @@
 
 ghost use Rattle.std.specs.Prelude.{◌≡◌, ◌↔◌, ◌&&◌, ◌<◌, ◌^◌, ℤ, List, Ok, false, length, IfOk, IsErrOf, IsTrue};
 ghost use Rattle.rv_diagram.specs.Nodes.{Valuation, value_of, IsRef};
+ghost use Rattle.rv_diagram.specs.Growing.{Extends};
 ghost use Rattle.rv_proofs.specs.Systems.{System};
 ghost use Rattle.rv_proofs.specs.Ranges.{IsControlSet};
 ghost use Rattle.rv_proofs.specs.Runs.{IsSafeSystem};
@@ -9,7 +10,6 @@ ghost use Rattle.rv_proofs.specs.Boxes.{HasGoodBox};
 ghost use Rattle.rv_proofs.specs.Reached.{HasNoIntegers};
 ghost use Rattle.rv_proofs.specs.declared.certificate.Certificate.{Certificate};
 ghost use Rattle.rv_proofs.specs.declared.report.Layers.{Layers};
-ghost use Rattle.rv_symbolic.specs.Growing.{Extends};
 ghost use Rattle.rv_symbolic.specs.Represented.{parts_of, IsRelationOf};
 ghost use Rattle.rv_symbolic.specs.Stepped.{AreNextStates};
 ghost use Rattle.rv_walk.specs.Ends.{IsGoodCertificate, AreBadLayers, IsEnd, IsGoodEnd};

@@ -1,6 +1,6 @@
 use Rattle.std.proofs.Common.{◌≡◌, ℕ, List, sym, subst, Some, slice_get, Option, MatchOption}
 use Rattle.rv_proofs.specs.{Systems.System, Accepted.IsInitial, Verdicts.IsFirst, declared.certificate.Location.Location, declared.verdict.Reason.Reason}
-use Rattle.rv_terms.proofs.Growths.{extends_trans, equal_extends}
+use Rattle.rv_diagram.proofs.Growing.{extends_trans, equal_extends}
 use Rattle.rv_symbolic.proofs.Extending.{map_ok}
 use Rattle.rv_accept.specs.{Held.AreLedInto, Passing.IsGiven, Passing.AllPass}
 use Rattle.rv_accept.proofs.Later.{given_later}

@@ -1,7 +1,7 @@
 use Rattle.std.proofs.{Common.◌∙◌, Common.sym, Common.subst, lemmas.Option.same_Some}
 use Rattle.rv_proofs.specs.{Scopes.IsInScope, Accepted.IsEntry, declared.certificate.Entry.Entry}
 use Rattle.rv_accept.specs.{Held.IsScope, Held.AreLedInto, Passing.IsGiven, Passing.Passes}
-use Rattle.rv_terms.proofs.Growths.{extends_trans, equal_extends}
+use Rattle.rv_diagram.proofs.Growing.{extends_trans, equal_extends}
 use Rattle.rv_accept.proofs.Later.{given_later, led_later, true_later, scope_made, condition_ordered}
 use Rattle.rv_accept.proofs.Firsts.{first_unsettled, first_observer, first_target, first_multipliers}
 use Rattle.rv_accept.proofs.entry.entry_fault_in.Goals as goal

@@ -1,7 +1,7 @@
 use Rattle.std.proofs.{Common.ℕ, Common.sym, Common.subst, Common.length, Common.◌<◌, Common.arith, lemmas.Option.slice_get_within}
 use Rattle.rv_diagram.specs.Nodes.{value_of, IsOrderedOver}
+use Rattle.rv_diagram.proofs.Growing.{extends_refl, extends_trans}
 use Rattle.rv_accept.specs.Steps.{has}
-use Rattle.rv_terms.proofs.Growths.{extends_refl, extends_trans}
 use Rattle.rv_accept.proofs.Growing.{Met, some_none, some_more, met_here}
 use Rattle.rv_accept.proofs.sets.conditions.Goals as goal
 

@@ -1,6 +1,6 @@
 use Rattle.std.proofs.Common.{◌≡◌, ◌↔◌, true}
 use Rattle.rv_diagram.specs.Nodes.{value_of, Valuation, IsRef}
-use Rattle.rv_terms.specs.Growing.{Extends}
+use Rattle.rv_diagram.specs.Growing.{Extends}
 use Rattle.rv_accept.proofs.Growing.{Some-below, Met}
 use Rattle.rv_accept.proofs.sets.conditions.Given as goal
 

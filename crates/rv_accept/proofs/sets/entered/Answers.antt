@@ -1,6 +1,6 @@
 use Rattle.std.proofs.{Common.length, Common.◌<◌, Common.arith, lemmas.Option.slice_get_within}
 use Rattle.rv_diagram.specs.Nodes.{value_of}
-use Rattle.rv_terms.proofs.Growths.{extends_trans}
+use Rattle.rv_diagram.proofs.Growing.{extends_trans}
 use Rattle.rv_accept.proofs.Growing.{entered_more}
 use Rattle.rv_accept.proofs.sets.entered.Goals as goal
 

@@ -1,4 +1,4 @@
-use Rattle.rv_terms.proofs.Growths.{call_extends}
+use Rattle.rv_diagram.proofs.Growing.{call_extends}
 use Rattle.rv_accept.proofs.Growing.{cut_means}
 use Rattle.rv_accept.proofs.sets.without.Goals as goal
 

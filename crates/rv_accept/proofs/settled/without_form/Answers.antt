@@ -1,8 +1,8 @@
 use Rattle.std.proofs.{Common.ℕ, Common.[], Common.pos, Common.arith, lemmas.Option.get_or_from_slice_get}
 use Rattle.rv_diagram.specs.Several.{ref_at}
+use Rattle.rv_diagram.proofs.Growing.{extends_refl, extends_trans}
 use Rattle.rv_rows.specs.declared.linear.Form.{Form}
 use Rattle.rv_proofs.specs.Implied.{form_at}
-use Rattle.rv_terms.proofs.Growths.{extends_refl, extends_trans}
 use Rattle.rv_accept.proofs.{Growing.found_later, Stays.narrow_none, Stays.narrow_more}
 use Rattle.rv_accept.proofs.settled.without_form.Goals as goal
 

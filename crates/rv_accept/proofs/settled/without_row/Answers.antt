@@ -1,7 +1,7 @@
 use Rattle.std.proofs.{Common.◌+◌, Common.ℕ, Common.[], Common.pos, Common.arith, lemmas.Option.get_or_from_slice_get}
 use Rattle.rv_diagram.specs.Several.{ref_at}
+use Rattle.rv_diagram.proofs.Growing.{extends_refl, extends_trans}
 use Rattle.rv_rows.specs.{declared.linear.Row.Row, Rows.row_at}
-use Rattle.rv_terms.proofs.Growths.{extends_refl, extends_trans}
 use Rattle.rv_accept.proofs.{Growing.found_later, Stays.narrow_none, Stays.narrow_more}
 use Rattle.rv_accept.proofs.settled.without_row.Goals as goal
 

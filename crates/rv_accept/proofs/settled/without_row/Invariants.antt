@@ -1,7 +1,7 @@
 use Rattle.std.proofs.Common.{◌≡◌, ℕ, ◌+◌, ◌<◌, true, false}
 use Rattle.rv_diagram.specs.Nodes.{value_of}
+use Rattle.rv_diagram.specs.Growing.{Extends}
 use Rattle.rv_rows.specs.Rows.{row_at}
-use Rattle.rv_terms.specs.Growing.{Extends}
 use Rattle.rv_cases.specs.Conditions.{is_in}
 use Rattle.rv_accept.specs.Steps.{IsTrueOf}
 use Rattle.rv_accept.proofs.settled.without_row.Given as goal

@@ -1,6 +1,6 @@
 use Rattle.std.proofs.Common.{sym, subst}
 use Rattle.rv_diagram.specs.Nodes.{Diagrams, IsOrderedOver}
-use Rattle.rv_terms.proofs.Growths.{extends_trans, equal_extends, call_extends}
+use Rattle.rv_diagram.proofs.Growing.{extends_trans, equal_extends, call_extends}
 use Rattle.rv_accept.specs.{Steps.has, Held.follow}
 use Rattle.rv_accept.proofs.Moving.{thawed_means}
 use Rattle.rv_accept.proofs.words.led_alone.Goals as goal

@@ -1,7 +1,7 @@
 use Rattle.std.proofs.Common.{◌≡◌, ◌∙◌, ◌+◌, ◌<◌, sym, ap, subst, ℕ, List, [], ◌∷◌, ◌++◌, length, length-append, arith}
 use Rattle.std.proofs.lemmas.Option.{slice_get_within}
 use Rattle.rv_diagram.specs.{Nodes.value_of, Nodes.IsRef, Nodes.IsOrderedOver, Several.ref_at}
-use Rattle.rv_terms.proofs.Growths.{extends_refl, extends_trans}
+use Rattle.rv_diagram.proofs.Growing.{extends_refl, extends_trans}
 use Rattle.rv_accept.specs.{Steps.AreRefs, Steps.has, Held.follow, Held.ReadsNext}
 use Rattle.rv_accept.proofs.{Moving.refs_later, Moving.refs_more, Moving.led_more, Later.reads_next, Failing.follow_next}
 use Rattle.rv_accept.proofs.words.led_into_each.Goals as goal

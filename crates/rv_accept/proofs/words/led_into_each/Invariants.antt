@@ -1,6 +1,6 @@
 use Rattle.std.proofs.Common.{◌≡◌, ℕ, length, ◌<◌, Some, slice_get}
-use Rattle.rv_terms.specs.Growing.{Extends}
 use Rattle.rv_diagram.specs.{Nodes.value_of, Nodes.Valuation, Several.ref_at}
+use Rattle.rv_diagram.specs.Growing.{Extends}
 use Rattle.rv_proofs.specs.declared.certificate.Location.{Location}
 use Rattle.rv_accept.specs.{Steps.AreRefs, Steps.has, Held.follow}
 use Rattle.rv_accept.proofs.words.led_into_each.Given as goal

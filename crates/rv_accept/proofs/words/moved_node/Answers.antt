@@ -1,4 +1,4 @@
-use Rattle.rv_terms.proofs.Growths.{call_extends}
+use Rattle.rv_diagram.proofs.Growing.{call_extends}
 use Rattle.rv_accept.proofs.Moving.{child_found, chosen_means}
 use Rattle.rv_accept.proofs.words.moved_node.Goals as goal
 

@@ -1,7 +1,7 @@
 use Rattle.std.proofs.Common.{◌≡◌, ◌∙◌, ◌+◌, sym, ap, refl, subst, ℕ, List, [], ◌∷◌, ◌++◌, length, length-append, arith}
 use Rattle.rv_diagram.specs.{Nodes.value_of, Nodes.IsRef, Several.ref_at}
+use Rattle.rv_diagram.proofs.Growing.{extends_refl, extends_trans}
 use Rattle.rv_accept.specs.Held.{AreMoved}
-use Rattle.rv_terms.proofs.Growths.{extends_refl, extends_trans}
 use Rattle.rv_accept.proofs.Moving.{refs_more, moved_more}
 use Rattle.rv_accept.proofs.words.moved_nodes.Goals as goal
 

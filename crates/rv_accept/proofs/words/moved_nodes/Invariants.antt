@@ -1,8 +1,8 @@
 use Rattle.std.proofs.Common.{◌≡◌, ℕ, length, ◌<◌, ◌+◌}
-use Rattle.rv_terms.specs.Growing.{Extends}
 use Rattle.rv_accept.specs.{Steps.AreRefs, Held.follow}
 use Rattle.rv_accept.proofs.words.moved_nodes.Given as goal
 use Rattle.rv_diagram.specs.{Nodes.value_of, Nodes.Valuation, Several.ref_at}
+use Rattle.rv_diagram.specs.Growing.{Extends}
 
 abbrev pub invariant-loop-i : goal.invariant-loop-i
 invariant-loop-i l = record {

@@ -1,7 +1,8 @@
 use Rattle.std.proofs.Common.{◌∙◌, true, cond, ℕ, Option, ap, sym, refl}
 use Rattle.rv_diagram.specs.Nodes.{Answers, choice, value_of}
 use Rattle.rv_diagram.proofs.Calls.{value_of-true}
-use Rattle.rv_symbolic.proofs.Extending.{map_ok, extends_refl}
+use Rattle.rv_diagram.proofs.Growing.{extends_refl}
+use Rattle.rv_symbolic.proofs.Extending.{map_ok}
 use Rattle.rv_bits.specs.{Bits.bit, Shown.clock_bit}
 use Rattle.rv_bits.proofs.Making.{choice_made, makes_to}
 use Rattle.rv_bits.proofs.assertions.met_ref.Goals as goal

@@ -3,8 +3,8 @@ use Rattle.std.proofs.{lemmas.List.length-map, Math.Seq.drop-cons}
 use Rattle.rv_types.specs.declared.typed.Kind.TheVariants as kind
 use Rattle.rv_agreement.specs.{Agreement.ItemFits, Agreement.IsNamed, Trees.no_item, Trees.nth_item}
 use Rattle.rv_flat.specs.{declared.parts.FlatExpr.FlatExpr, FlatInstants.system_of, Systems.assertion_item, Systems.flow_item, Tame.IsOver}
-use Rattle.rv_symbolic.specs.Growing.{Extends}
-use Rattle.rv_symbolic.proofs.Extending.{extends_trans, grows_extends}
+use Rattle.rv_diagram.specs.Growing.{Extends}
+use Rattle.rv_diagram.proofs.Growing.{extends_trans, grows_extends}
 use Rattle.rv_bits.proofs.{Keeping.around_kept, Keeping.after_kept, Fitting.over_fits, Listing.item_in, Asserting.met_more, Asserting.met_all}
 use Rattle.rv_bits.proofs.assertions.read_assertions.Goals as goal
 

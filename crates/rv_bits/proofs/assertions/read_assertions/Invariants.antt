@@ -1,9 +1,9 @@
 use Rattle.std.proofs.Common.{◌≡◌, ◌&&◌, List, Option, drop}
 use Rattle.rv_diagram.specs.Nodes.{Valuation, IsRef, value_of}
+use Rattle.rv_diagram.specs.Growing.{Extends}
 use Rattle.rv_agreement.specs.Valuations.{Reading, IsSymbolic}
 use Rattle.rv_control.specs.{Control.all_met, Named.named}
 use Rattle.rv_flat.specs.FlatInstants.{system_of}
-use Rattle.rv_symbolic.specs.Growing.{Extends}
 use Rattle.rv_bits.specs.Shown.{AreAfter, IsAround}
 use Rattle.rv_bits.proofs.assertions.read_assertions.Given as goal
 

@@ -1,7 +1,7 @@
 use Rattle.std.proofs.Common.{◌≡◌, ◌∙◌, ◌+◌, ◌/◌, ◌^◌, ℕ, List, ◌++◌, ◌∷◌, [], length, ap, subst, sym, refl, arith, length-append, inl, inr}
 use Rattle.std.proofs.lemmas.Bool.{cases_lt}
 use Rattle.rv_symbolic.specs.Linked.{AreRefs}
-use Rattle.rv_symbolic.proofs.Extending.{extends_refl}
+use Rattle.rv_diagram.proofs.Growing.{extends_refl}
 use Rattle.rv_bits.specs.Bits.{bit, bit_of}
 use Rattle.rv_bits.proofs.Making.{refs_more, means_more, next_bit, next_rest, no_bit, bit_none}
 use Rattle.rv_bits.proofs.bits.bits_of.Goals as goal

@@ -1,7 +1,9 @@
 use Rattle.std.proofs.Common.{◌≡◌, ◌∙◌, ◌+◌, ℕ, Bool, cond, List, ◌++◌, ◌∷◌, [], length, ap, subst, sym, length-append}
 use Rattle.rv_diagram.specs.Nodes.{Valuation, value_of}
-use Rattle.rv_symbolic.specs.{Growing.Extends, Linked.AreRefs}
-use Rattle.rv_symbolic.proofs.Extending.{extends_trans, grows_extends, refs_after}
+use Rattle.rv_diagram.specs.Growing.{Extends}
+use Rattle.rv_diagram.proofs.Growing.{extends_trans, grows_extends}
+use Rattle.rv_symbolic.specs.Linked.{AreRefs}
+use Rattle.rv_symbolic.proofs.Extending.{refs_after}
 use Rattle.rv_bits.specs.Bits.{bit}
 use Rattle.rv_bits.proofs.Making.{refs_more, means_more, bits_kept}
 use Rattle.rv_bits.proofs.bits.chosen.Goals as goal

@@ -1,6 +1,7 @@
 use Rattle.std.proofs.Common.{◌≡◌, ℕ, ◌<◌, cond, length}
 use Rattle.rv_diagram.specs.Nodes.{Valuation, value_of}
-use Rattle.rv_symbolic.specs.{Growing.Extends, Linked.AreRefs}
+use Rattle.rv_diagram.specs.Growing.{Extends}
+use Rattle.rv_symbolic.specs.Linked.{AreRefs}
 use Rattle.rv_bits.specs.Bits.{bit}
 use Rattle.rv_bits.proofs.bits.chosen.Given as goal
 

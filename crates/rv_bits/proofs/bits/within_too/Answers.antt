@@ -1,7 +1,8 @@
 use Rattle.std.proofs.Common.{◌&&◌, ◌||◌, Bool, true, false, cond, subst, sym, refl}
 use Rattle.rv_diagram.specs.Nodes.{Answers, choice, value_of}
 use Rattle.rv_diagram.proofs.Calls.{value_of-false, value_of-true}
-use Rattle.rv_symbolic.proofs.Extending.{map_ok, extends_refl}
+use Rattle.rv_diagram.proofs.Growing.{extends_refl}
+use Rattle.rv_symbolic.proofs.Extending.{map_ok}
 use Rattle.rv_symbolic.specs.Growing.{Makes}
 use Rattle.rv_bits.proofs.Making.{choice_made}
 use Rattle.rv_bits.proofs.bits.within_too.Goals as goal

@@ -3,10 +3,10 @@ use Rattle.std.proofs.{Math.Seq.drop-cons, lemmas.List.length-map}
 use Rattle.rv_types.specs.declared.typed.Kind.{Kind}
 use Rattle.rv_types.specs.declared.typed.Kind.TheVariants as kind
 use Rattle.rv_diagram.specs.Nodes.{Valuation, value_of}
+use Rattle.rv_diagram.proofs.Growing.{extends_refl, extends_trans, grows_extends}
 use Rattle.rv_agreement.specs.{Agreement.bit_count, Trees.kind_at}
 use Rattle.rv_control.specs.{Control.names_label, Control.inputs_named, Named.named}
 use Rattle.rv_flat.specs.{declared.parts.FlatInput.FlatInput, FlatInstants.system_of, Steps.label_counts}
-use Rattle.rv_symbolic.proofs.Extending.{extends_refl, extends_trans, grows_extends}
 use Rattle.rv_bits.specs.{Bits.bit, Shown.refs_at}
 use Rattle.rv_bits.proofs.Labels.{label_same, and_more, and_all, inputs_split, inputs_done}
 use Rattle.rv_bits.proofs.{Listing.item_in, Making.bits_kept, Making.makes_to}

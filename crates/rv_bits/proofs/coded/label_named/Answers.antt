@@ -5,7 +5,8 @@ use Rattle.rv_types.specs.{declared.typed.Kind.Kind, Variables.bits_for}
 use Rattle.rv_meaning.specs.Codes.{code}
 use Rattle.rv_control.specs.Control.{names_label}
 use Rattle.rv_symbolic.specs.Growing.{Makes}
-use Rattle.rv_symbolic.proofs.Extending.{map_ok, extends_refl}
+use Rattle.rv_diagram.proofs.Growing.{extends_refl}
+use Rattle.rv_symbolic.proofs.Extending.{map_ok}
 use Rattle.rv_bits.specs.Bits.{bit}
 use Rattle.rv_bits.proofs.{Making.makes_to, Naming.few_at, Naming.mapped_at, Naming.mapped_past, Labels.constant_made}
 use Rattle.rv_bits.proofs.coded.label_named.Goals as goal

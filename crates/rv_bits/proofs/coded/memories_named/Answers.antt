@@ -5,12 +5,12 @@ use Rattle.rv_tree.specs.Places.{Sites}
 use Rattle.rv_types.specs.{declared.typed.Kind.Kind, Lists.Kept}
 use Rattle.rv_types.specs.declared.typed.Kind.TheVariants as kind
 use Rattle.rv_diagram.specs.Nodes.{Valuation, value_of}
+use Rattle.rv_diagram.proofs.Growing.{extends_trans, grows_extends, extends_refl}
 use Rattle.rv_agreement.specs.{Agreement.bit_count, Trees.kind_at}
 use Rattle.rv_agreement.specs.Trees as trees
 use Rattle.rv_control.specs.{Control.names_label, Control.memories_named, Named.named, Named.variables_of, Named.truth_at}
 use Rattle.rv_flat.specs.{declared.parts.FlatMemory.FlatMemory, FlatInstants.memory_places, FlatInstants.system_of, Steps.label_counts, Steps.memory_kinds}
 use Rattle.rv_flat.specs.{Systems.kept_of}
-use Rattle.rv_symbolic.proofs.Extending.{extends_trans, grows_extends, extends_refl}
 use Rattle.rv_bits.specs.{Bits.bit, Shown.refs_at}
 use Rattle.rv_bits.proofs.Labels.{label_same, and_more, and_all, memories_split, memories_done}
 use Rattle.rv_bits.proofs.{Listing.item_in, Making.bits_kept, Making.makes_to}

@@ -1,8 +1,8 @@
 use Rattle.std.proofs.Common.{◌≡◌, ◌&&◌, drop}
 use Rattle.rv_diagram.specs.Nodes.{Valuation, IsRef, value_of}
+use Rattle.rv_diagram.specs.Growing.{Extends}
 use Rattle.rv_control.specs.{Control.memories_named, Named.named}
 use Rattle.rv_flat.specs.{FlatInstants.system_of, Steps.label_counts}
-use Rattle.rv_symbolic.specs.Growing.{Extends}
 use Rattle.rv_bits.proofs.coded.memories_named.Given as goal
 
 abbrev pub invariant-loop-number : goal.invariant-loop-number

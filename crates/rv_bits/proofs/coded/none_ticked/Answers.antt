@@ -2,9 +2,9 @@ use Rattle.std.proofs.Common.{◌≡◌, ◌∙◌, ◌+◌, ◌∷◌, ◌<◌,
 use Rattle.std.proofs.Math.Seq.{drop-cons}
 use Rattle.std.specs.Prelude.{slice_index_or}
 use Rattle.rv_diagram.specs.{Nodes.Valuation, Nodes.value_of, Several.ref_at}
+use Rattle.rv_diagram.proofs.Growing.{extends_trans}
 use Rattle.rv_control.specs.{Control.none_ticked, Named.named}
 use Rattle.rv_flat.specs.FlatInstants.{system_of}
-use Rattle.rv_symbolic.proofs.Extending.{extends_trans}
 use Rattle.rv_bits.proofs.{Labels.and_step, Labels.and_all, Labels.ticks_split, Labels.ticks_done, Making.any_ref}
 use Rattle.rv_bits.proofs.coded.none_ticked.Goals as goal
 

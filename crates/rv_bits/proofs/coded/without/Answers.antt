@@ -1,6 +1,7 @@
 use Rattle.std.proofs.Common.{◌&&◌, not}
 use Rattle.rv_diagram.specs.Nodes.{Answers, value_of}
-use Rattle.rv_symbolic.proofs.Extending.{map_ok, grows_extends}
+use Rattle.rv_diagram.proofs.Growing.{grows_extends}
+use Rattle.rv_symbolic.proofs.Extending.{map_ok}
 use Rattle.rv_bits.proofs.Making.{and_made}
 use Rattle.rv_bits.proofs.coded.without.Goals as goal
 

@@ -4,7 +4,7 @@ use Rattle.rv_types.specs.declared.typed.Kind.TheVariants as kind
 use Rattle.rv_agreement.specs.{Agreement.Fits, Trees.Item, Trees.no_item, Trees.nth_item, Trees.kind_at}
 use Rattle.rv_flat.specs.{declared.parts.FlatFlow.FlatFlow, FlatInstants.system_of, Inlined.tree_among, Systems.flow_item, Tame.IsOver}
 use Rattle.rv_flat.proofs.Inlining.{is_table}
-use Rattle.rv_symbolic.proofs.Extending.{extends_trans}
+use Rattle.rv_diagram.proofs.Growing.{extends_trans}
 use Rattle.rv_bits.specs.Shown.{AreFlowRefs}
 use Rattle.rv_bits.proofs.{Keeping.tables_kept, Listing.item_in, Fitting.over_fits, Flowing.flow_pushed}
 use Rattle.rv_bits.proofs.flows.read_flows.Goals as goal

@@ -1,7 +1,7 @@
 use Rattle.std.proofs.Common.{◌≡◌, subst, sym}
 use Rattle.rv_types.specs.Lists.{Variable, Next}
 use Rattle.rv_flat.specs.Lists.{variable_of}
-use Rattle.rv_symbolic.proofs.Extending.{extends_refl}
+use Rattle.rv_diagram.proofs.Growing.{extends_refl}
 use Rattle.rv_bits.specs.Following.{IsNextRead, variable_at}
 use Rattle.rv_bits.proofs.Naming.{mapped_past}
 use Rattle.rv_bits.proofs.following.next_at.Goals as goal

@@ -5,7 +5,8 @@ use Rattle.rv_agreement.specs.Valuations.{next_tick, updated}
 use Rattle.rv_control.specs.{Control.bit_of, Named.named}
 use Rattle.rv_flat.specs.declared.parts.Bit.TheVariants as variant
 use Rattle.rv_flat.specs.{FlatInstants.system_of, Lists.variable_of}
-use Rattle.rv_symbolic.proofs.Extending.{map_ok, extends_refl}
+use Rattle.rv_diagram.proofs.Growing.{extends_refl}
+use Rattle.rv_symbolic.proofs.Extending.{map_ok}
 use Rattle.rv_bits.specs.Following.{IsNextRead, IsTickRead, IsKeptBit}
 use Rattle.rv_bits.proofs.Nexting.{places_same, tick_main}
 use Rattle.rv_bits.proofs.following.next_of.Goals as goal

@@ -2,10 +2,11 @@ use Rattle.std.proofs.Common.{◌≡◌, ◌∙◌, ◌<◌, ◌||◌, ℕ, List
 use Rattle.std.proofs.lemmas.List.{length-map}
 use Rattle.std.specs.Prelude.{slice_index_or}
 use Rattle.rv_diagram.specs.{Nodes.Valuation, Nodes.Answers, Nodes.value_of, Several.ref_at}
+use Rattle.rv_diagram.proofs.Growing.{grows_extends}
 use Rattle.rv_agreement.specs.{Agreement.IsNamed, Valuations.Reading, Valuations.IsSymbolic}
 use Rattle.rv_control.specs.Named.{named}
 use Rattle.rv_flat.specs.{FlatInstants.system_of, Systems.flow_item}
-use Rattle.rv_symbolic.proofs.Extending.{map_ok, grows_extends}
+use Rattle.rv_symbolic.proofs.Extending.{map_ok}
 use Rattle.rv_bits.specs.Shown.{is_there_at}
 use Rattle.rv_bits.proofs.Nexting.{some_within}
 use Rattle.rv_bits.proofs.following.tick_after.Goals as goal

@@ -1,8 +1,9 @@
 use Rattle.std.proofs.Common.{◌≡◌, ℕ, ◌<◌, length, map}
 use Rattle.rv_diagram.specs.Nodes.{Valuation}
+use Rattle.rv_diagram.specs.Growing.{Extends}
 use Rattle.rv_flat.specs.Lists.{variable_of}
 use Rattle.rv_control.specs.Named.{truth_at}
-use Rattle.rv_symbolic.specs.{Growing.Extends, Linked.AreRefs}
+use Rattle.rv_symbolic.specs.Linked.{AreRefs}
 use Rattle.rv_bits.specs.{Bits.bit, Names.owned}
 use Rattle.rv_bits.proofs.names.owned_bits.Given as goal
 

@@ -1,6 +1,7 @@
 use Rattle.std.proofs.Common.{◌∙◌, sym}
 use Rattle.rv_diagram.specs.Nodes.{Answers}
-use Rattle.rv_symbolic.proofs.Extending.{map_ok, grows_extends, extends_refl}
+use Rattle.rv_diagram.proofs.Growing.{grows_extends, extends_refl}
+use Rattle.rv_symbolic.proofs.Extending.{map_ok}
 use Rattle.rv_bits.proofs.names.truth.Goals as goal
 
 pub returns-in-Some-clause-ok : goal.returns-in-Some-clause-ok

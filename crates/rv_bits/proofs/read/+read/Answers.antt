@@ -2,11 +2,12 @@ use Rattle.std.proofs.Common.{◌≡◌, ◌∙◌, ◌+◌, ◌<◌, ℕ, suc, 
 use Rattle.std.proofs.{Math.Seq.drop-cons, lemmas.Option.slice_get_within}
 use Rattle.rv_tree.specs.Places.{Sites}
 use Rattle.rv_diagram.specs.{Nodes.value_of, Several.ref_at}
+use Rattle.rv_diagram.proofs.Growing.{extends_refl, extends_trans}
 use Rattle.rv_agreement.specs.Trees.{FlatTree, Node, Memory, Ticked, Not, Binary, If, AtMostOne, When, More}
 use Rattle.rv_flat.specs.{declared.parts.FlatExpr.FlatExpr, FlatInstants.system_of, Inlined.size_of, Tame.AreOver}
 use Rattle.rv_control.specs.Named.{variables_of}
 use Rattle.rv_symbolic.specs.{Growing.Makes, Linked.AreRefs}
-use Rattle.rv_symbolic.proofs.Extending.{map_ok, extends_refl, extends_trans, refs_after}
+use Rattle.rv_symbolic.proofs.Extending.{map_ok, refs_after}
 use Rattle.rv_bits.specs.{Bits.bit, Bits.count_true, Bits.Spells, Bits.IsSingle, Operators.operated_by, Shown.refs_at, Shown.clock_bit, Shown.IsAfter}
 use Rattle.rv_bits.specs.{Shown.AreAfter, Shown.ReadsTo, Reads.tree_in, Reads.trees_in, Reads.true_at, Reads.ShowsTo}
 use Rattle.rv_bits.proofs.Making.{any_ref, refs_more}

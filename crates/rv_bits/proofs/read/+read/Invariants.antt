@@ -1,9 +1,10 @@
 use Rattle.std.proofs.Common.{◌≡◌, ◌+◌, ◌*◌, ◌≤◌, ℕ, true, drop, length, List, Option}
 use Rattle.rv_flat.specs.{Inlined.size, Inlined.size_of, Inlined.table_of, FlatInstants.system_of, Tame.AreOver}
 use Rattle.rv_diagram.specs.Nodes.{Valuation}
+use Rattle.rv_diagram.specs.Growing.{Extends}
 use Rattle.rv_agreement.specs.{Agreement.AllFit, Valuations.Reading, Valuations.IsSymbolic}
 use Rattle.rv_control.specs.Named.{named}
-use Rattle.rv_symbolic.specs.{Growing.Extends, Linked.AreRefs}
+use Rattle.rv_symbolic.specs.Linked.{AreRefs}
 use Rattle.rv_bits.specs.{Bits.bit, Bits.count_true, Shown.AreAfter, Shown.IsAround, Shown.is_there_at, Reads.tree_in, Reads.trees_in, Reads.true_at}
 use Rattle.rv_bits.proofs.read.+read.Given as goal
 

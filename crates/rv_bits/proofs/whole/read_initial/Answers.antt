@@ -1,8 +1,9 @@
 use Rattle.std.proofs.Common.{◌&&◌}
 use Rattle.rv_diagram.specs.Nodes.{Answers, value_of}
+use Rattle.rv_diagram.proofs.Growing.{extends_refl}
 use Rattle.rv_control.specs.{Control.is_initial, Control.memories_named, Control.none_ticked, Named.named}
 use Rattle.rv_flat.specs.{FlatInstants.system_of, Steps.label_counts}
-use Rattle.rv_symbolic.proofs.Extending.{map_ok, extends_refl}
+use Rattle.rv_symbolic.proofs.Extending.{map_ok}
 use Rattle.rv_bits.proofs.{Keeping.tables_kept, Making.makes_to, Wholes.both_swapped, Wholes.initial_is}
 use Rattle.rv_bits.proofs.whole.read_initial.Goals as goal
 

@@ -1,11 +1,11 @@
 use Rattle.std.proofs.Common.{◌≡◌, ◌∙◌, ◌<◌, ◌≤◌, ℕ, List, length, ap, subst, sym, arith}
 use Rattle.std.proofs.lemmas.List.{length-map}
 use Rattle.rv_diagram.specs.{Nodes.value_of, Nodes.IsRef, Several.ref_at}
+use Rattle.rv_diagram.specs.Growing.{Extends}
+use Rattle.rv_diagram.proofs.Growing.{extends_refl, extends_trans}
 use Rattle.rv_flat.specs.Systems.{flow_item}
 use Rattle.rv_flat.proofs.Inlining.{is_table}
 use Rattle.rv_control.specs.{Control.state_bits, Named.variables_of}
-use Rattle.rv_symbolic.specs.Growing.{Extends}
-use Rattle.rv_symbolic.proofs.Extending.{extends_refl, extends_trans}
 use Rattle.rv_bits.proofs.{Keeping.tables_kept, Keeping.flows_kept, Keeping.after_kept, Making.any_ref, Making.ref_kept, Wholes.next_between}
 use Rattle.rv_bits.proofs.whole.read_rest.Goals as goal
 

@@ -1,8 +1,8 @@
 use Rattle.std.proofs.Common.{◌∙◌, ◌&&◌}
 use Rattle.rv_control.specs.{Control.state_bits, Control.memories_named, Control.inputs_named, Named.named, Named.variables_of}
 use Rattle.rv_flat.specs.{FlatInstants.system_of, Steps.label_counts}
-use Rattle.rv_symbolic.specs.Growing.{Extends}
-use Rattle.rv_symbolic.proofs.Extending.{extends_trans}
+use Rattle.rv_diagram.specs.Growing.{Extends}
+use Rattle.rv_diagram.proofs.Growing.{extends_trans}
 use Rattle.rv_bits.proofs.{Keeping.tables_kept, Keeping.flows_kept, Keeping.after_kept, Making.ref_kept, Wholes.allowed_is, Wholes.next_between}
 use Rattle.rv_bits.proofs.whole.read_system.Goals as goal
 

@@ -1,7 +1,8 @@
 use Rattle.std.proofs.Common.{subst}
 use Rattle.rv_diagram.specs.Nodes.{value_of}
+use Rattle.rv_diagram.proofs.Growing.{extends_trans}
 use Rattle.rv_symbolic.specs.{declared.relation.Parts.Parts, Represented.IsRelationOf}
-use Rattle.rv_symbolic.proofs.Extending.{extends_trans, map_ok}
+use Rattle.rv_symbolic.proofs.Extending.{map_ok}
 use Rattle.rv_boxes.specs.{Claiming.claim_of, Layering.IsNarrowedTo, Layering.ArePartsWith, Narrowed.narrowed}
 use Rattle.rv_boxes.proofs.{Narrowing.narrowed_system, Relating.parts_refs, Relating.parts_narrowed}
 use Rattle.rv_boxes.proofs.layers.relation_in.Goals as goal

@@ -1,7 +1,8 @@
 use Rattle.std.proofs.Common.{◌∙◌, List, sym, subst, length}
 use Rattle.rv_rows.specs.declared.linear.Row.{Row}
 use Rattle.rv_proofs.specs.Boxes.{IsTaken}
-use Rattle.rv_symbolic.proofs.Extending.{extends_trans, map_ok}
+use Rattle.rv_diagram.proofs.Growing.{extends_trans}
+use Rattle.rv_symbolic.proofs.Extending.{map_ok}
 use Rattle.rv_boxes.specs.{Claiming.claim_of, Rounds.IsSetting, Rounds.IsInCases, Layering.IsCollected, Layering.IsTakenAt}
 use Rattle.rv_boxes.proofs.{Entering.cases_in, Assembling.first_setting, Assembling.others_setting, Assembling.covered, Collecting.collected_all}
 use Rattle.rv_boxes.proofs.layers.taken_in.Goals as goal

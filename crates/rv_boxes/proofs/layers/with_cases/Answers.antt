@@ -1,6 +1,6 @@
 use Rattle.std.proofs.Common.{◌≡◌, ℕ, subst, arith, length}
 use Rattle.rv_proofs.specs.Boxes.{IsTaken}
-use Rattle.rv_symbolic.proofs.Extending.{extends_refl, extends_trans}
+use Rattle.rv_diagram.proofs.Growing.{extends_refl, extends_trans}
 use Rattle.rv_boxes.specs.{Rounds.IsInCases, Layering.IsCollected}
 use Rattle.rv_boxes.proofs.{Relating.opening_there, Collecting.collected_start, Collecting.collected_more}
 use Rattle.rv_boxes.proofs.layers.with_cases.Goals as goal

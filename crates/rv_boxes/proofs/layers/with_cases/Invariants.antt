@@ -1,6 +1,6 @@
 use Rattle.rv_diagram.specs.{Nodes.IsRef, declared.frozen.Frozen.Frozen}
+use Rattle.rv_diagram.specs.Growing.{Extends}
 use Rattle.rv_proofs.specs.{Systems.System, Boxes.BoxClaim, Boxes.IsTaken}
-use Rattle.rv_symbolic.specs.Growing.{Extends}
 use Rattle.rv_boxes.specs.{Rounds.IsInCases, Certifying.AreCasesIn, Layering.IsOpening, Layering.IsCollected}
 use Rattle.rv_boxes.proofs.layers.with_cases.Given as goal
 

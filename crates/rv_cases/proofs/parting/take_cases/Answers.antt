@@ -1,6 +1,6 @@
 use Rattle.std.proofs.Common.{◌<◌, ℕ, sym, subst, length, List}
 use Rattle.rv_diagram.specs.Several.{ref_at}
-use Rattle.rv_terms.proofs.Growths.{extends_trans}
+use Rattle.rv_diagram.proofs.Growing.{extends_trans}
 use Rattle.rv_cases.specs.Conditions.{AreRefs, AreAnswers, AreWithin, list_at}
 use Rattle.rv_cases.specs.{Questions.HaveAnswers, Questions.IsSettledFor, Made.is_allowed_in}
 use Rattle.rv_cases.proofs.Keeping.{have_later, settled_from, taken}

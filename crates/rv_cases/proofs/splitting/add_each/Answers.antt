@@ -1,5 +1,5 @@
 use Rattle.std.proofs.Common.{◌+◌, ◌<◌, ◌∙◌, ◌&&◌, ap, sym, length, arith}
-use Rattle.rv_terms.proofs.Growths.{extends_refl, extends_trans}
+use Rattle.rv_diagram.proofs.Growing.{extends_refl, extends_trans}
 use Rattle.rv_cases.specs.Conditions.{is_in}
 use Rattle.rv_cases.proofs.Gathering.{in_later, answers_first, answers_more, answers_all, answers_whole}
 use Rattle.rv_cases.proofs.splitting.add_each.Goals as goal

@@ -1,5 +1,5 @@
 use Rattle.std.proofs.Common.{◌&&◌}
-use Rattle.rv_terms.specs.Growing.{Extends}
+use Rattle.rv_diagram.specs.Growing.{Extends}
 use Rattle.rv_cases.specs.Conditions.{is_in, among, AreRefs, Gathers, AreMeets}
 use Rattle.rv_cases.proofs.splitting.add_each.Given as goal
 

@@ -1,6 +1,7 @@
 use Rattle.std.proofs.{Common.◌∙◌, Common.◌&&◌, Common.ap, Common.sym, Common.subst, Common.List, Common.ℕ, lemmas.Bool.false≢true}
-use Rattle.rv_terms.specs.Growing.{Extends}
-use Rattle.rv_terms.proofs.{Growths.grows_extends, Finding.some_from}
+use Rattle.rv_diagram.specs.Growing.{Extends}
+use Rattle.rv_diagram.proofs.Growing.{grows_extends}
+use Rattle.rv_terms.proofs.Finding.{some_from}
 use Rattle.rv_cases.specs.Conditions.{is_in, Gathers, AreMeets}
 use Rattle.rv_cases.proofs.Gathering.{in_later, gathers_none, gathers_one, meets_later, meets_one}
 use Rattle.rv_cases.proofs.splitting.add_meet.Goals as goal

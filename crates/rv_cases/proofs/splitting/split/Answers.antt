@@ -1,5 +1,5 @@
 use Rattle.std.proofs.Common.{◌<◌, ap, sym, subst, length, ℕ, arith, List, []}
-use Rattle.rv_terms.proofs.Growths.{extends_refl, extends_trans}
+use Rattle.rv_diagram.proofs.Growing.{extends_refl, extends_trans}
 use Rattle.rv_cases.specs.Conditions.{is_in, among, Gathers}
 use Rattle.rv_cases.proofs.Gathering.{in_later, answers_later, conditions_first, conditions_more, split_made}
 use Rattle.rv_cases.proofs.splitting.split.Goals as goal

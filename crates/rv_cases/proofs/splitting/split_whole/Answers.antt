@@ -1,8 +1,8 @@
 use Rattle.std.proofs.Common.{◌≡◌, ◌<◌, ◌∙◌, sym, subst, length, ℕ, arith, List, [], ⊎_elim}
 use Rattle.std.proofs.{lemmas.Bool.cases_lt, lemmas.List.get_or_read}
 use Rattle.rv_diagram.specs.Nodes.{value_of}
-use Rattle.rv_terms.specs.Growing.{Extends}
-use Rattle.rv_terms.proofs.Growths.{extends_trans}
+use Rattle.rv_diagram.specs.Growing.{Extends}
+use Rattle.rv_diagram.proofs.Growing.{extends_trans}
 use Rattle.rv_cases.specs.Conditions.{AreRefs, AreAnswers, IsParted, AreWithin, AreMeets, list_at}
 use Rattle.rv_cases.proofs.Gathering.{answers_later, within_trans, meets_finer, meets_answered, joined_more}
 use Rattle.rv_cases.proofs.splitting.split_whole.Goals as goal

@@ -1,6 +1,6 @@
 use Rattle.std.proofs.Common.{ℕ, ◌<◌}
 use Rattle.rv_diagram.specs.Nodes.{value_of}
-use Rattle.rv_terms.specs.Growing.{Extends}
+use Rattle.rv_diagram.specs.Growing.{Extends}
 use Rattle.rv_cases.specs.Conditions.{IsParted, AreWithin, AreJoined, list_at}
 use Rattle.rv_cases.proofs.splitting.split_whole.Given as goal
 

@@ -4,12 +4,13 @@ use Rattle.std.specs.{Prelude.nat_abs, Prelude.nat_le, Int.w128}
 use Rattle.rv_base.specs.Limits.{heaviest}
 use Rattle.rv_rows.specs.Forms.{CanScale}
 use Rattle.rv_diagram.specs.{Nodes.Diagrams, Nodes.value_of, Several.ref_at}
+use Rattle.rv_diagram.specs.Growing.{Extends}
+use Rattle.rv_diagram.proofs.Growing.{extends_refl, extends_trans, grows_extends}
 use Rattle.rv_terms.specs.{declared.parted.Part.Part, Parts.form_at, Parts.IsTerm}
 use Rattle.rv_agreement.specs.{Agreement.IsNamed, Trees.FlatTree, Trees.Node, Trees.Binary, Trees.Scale, Trees.If, Trees.When, Trees.Item}
 use Rattle.rv_flat.specs.{declared.parts.FlatExpr.FlatExpr, Facts.is_light, Inlined.size, Inlined.table_of, Systems.kept_of, Tame.IsOver}
 use Rattle.rv_control.proofs.Weighed.{light_weight}
-use Rattle.rv_symbolic.specs.Growing.{Extends}
-use Rattle.rv_symbolic.proofs.Extending.{extends_refl, extends_trans, grows_extends, map_ok}
+use Rattle.rv_symbolic.proofs.Extending.{map_ok}
 use Rattle.rv_bits.specs.{Reads.tree_in, Shown.clock_bit}
 use Rattle.rv_bits.proofs.{Keeping.memory_item_at, Keeping.both_ok, Keeping.on_ok, Making.any_ref, Trees.tree_if, Trees.tree_when, Fitting.named_more}
 use Rattle.rv_forms.specs.Terms.{columns_of, weights_of, weight_in, parts_at, IsWithin, GivesTerm, ReadsAs, IsAfterAs, AreKnown, IsAfterRead}

@@ -1,7 +1,7 @@
 use Rattle.std.proofs.Common.{◌∙◌, ◌+◌, List, [], ◌∷◌, length, length-append, ap, sym, subst, arith}
 use Rattle.rv_terms.specs.declared.parted.Term.{Term}
 use Rattle.rv_flat.specs.declared.parts.FlatFlow.{FlatFlow}
-use Rattle.rv_symbolic.proofs.Extending.{extends_refl, extends_trans}
+use Rattle.rv_diagram.proofs.Growing.{extends_refl, extends_trans}
 use Rattle.rv_forms.specs.Terms.{AreWholes}
 use Rattle.rv_forms.proofs.Flowing.{item_at, wholes_pushed}
 use Rattle.rv_forms.proofs.flows.read_wholes.Goals as goal

@@ -1,5 +1,5 @@
 use Rattle.std.proofs.Common.{◌≡◌, length}
-use Rattle.rv_symbolic.specs.Growing.{Extends}
+use Rattle.rv_diagram.specs.Growing.{Extends}
 use Rattle.rv_forms.specs.Terms.{IsReady}
 use Rattle.rv_forms.proofs.flows.read_wholes.Given as goal
 

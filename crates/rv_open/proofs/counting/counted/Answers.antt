@@ -1,7 +1,7 @@
 use Rattle.std.proofs.Common.{◌≡◌, true, length, sym, subst}
 use Rattle.rv_diagram.specs.Nodes.{IsRef, value_of}
+use Rattle.rv_diagram.proofs.Growing.{extends_trans}
 use Rattle.rv_symbolic.specs.{declared.relation.Parts.Parts, Growing.Finds}
-use Rattle.rv_symbolic.proofs.Extending.{extends_trans}
 use Rattle.rv_boxes.specs.{Layering.ArePartsWith, Narrowed.narrowed}
 use Rattle.rv_boxes.proofs.Relating.{parts_refs, parts_narrowed}
 use Rattle.rv_open.specs.{Columns.is_counted, Given.HoldOfTests}

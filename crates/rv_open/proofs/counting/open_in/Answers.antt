@@ -1,9 +1,9 @@
 use Rattle.std.proofs.Common.{◌≡◌, ℕ, ◌+◌, ◌<◌, true, [], List, length, arith, subst, sym}
 use Rattle.std.proofs.lemmas.Option.{get_or_from_slice_get}
 use Rattle.rv_diagram.specs.Nodes.{value_of}
+use Rattle.rv_diagram.proofs.Growing.{extends_refl, extends_trans}
 use Rattle.rv_rows.specs.declared.linear.Row.{Row}
 use Rattle.rv_symbolic.specs.Growing.{Finds}
-use Rattle.rv_symbolic.proofs.Extending.{extends_refl, extends_trans}
 use Rattle.rv_cases.specs.{Conditions.AreRefs, Conditions.list_at, Questions.rows_at}
 use Rattle.rv_open.specs.Given.{HoldAmong, HoldOfTests}
 use Rattle.rv_open.proofs.Rest.{tests_start, tests_more, refs_there, test_refs, test_many}

@@ -1,7 +1,7 @@
 use Rattle.std.proofs.Common.{◌≡◌, ℕ, ◌+◌, true, length, arith, subst, sym}
 use Rattle.rv_diagram.specs.Nodes.{IsRef, value_of}
+use Rattle.rv_diagram.proofs.Growing.{extends_refl, extends_trans}
 use Rattle.rv_symbolic.specs.Growing.{Finds}
-use Rattle.rv_symbolic.proofs.Extending.{extends_refl, extends_trans}
 use Rattle.rv_open.specs.Given.{HoldAmong}
 use Rattle.rv_open.proofs.Rest.{left_start, left_more, answer_is}
 use Rattle.rv_open.proofs.counting.without_rows.Goals as goal

@@ -1,6 +1,7 @@
 use Rattle.std.proofs.Common.{◌≡◌, true}
 use Rattle.rv_diagram.specs.Nodes.{value_of}
-use Rattle.rv_symbolic.specs.Growing.{Extends, Finds}
+use Rattle.rv_diagram.specs.Growing.{Extends}
+use Rattle.rv_symbolic.specs.Growing.{Finds}
 use Rattle.rv_open.specs.Given.{HoldAmong}
 use Rattle.rv_open.proofs.counting.without_rows.Given as goal
 

@@ -1,5 +1,5 @@
 use Rattle.std.proofs.Common.{◌≡◌, length, ap, ◌∙◌, sym}
-use Rattle.rv_symbolic.proofs.Extending.{equal_extends, extends_trans}
+use Rattle.rv_diagram.proofs.Growing.{equal_extends, extends_trans}
 use Rattle.rv_boxes.specs.Narrowed.{narrowed}
 use Rattle.rv_open.specs.Columns.{is_counted}
 use Rattle.rv_open.proofs.Carried.{counted_plain, relation_untested, sets_counted, path_back, shortest_back, found_back}

@@ -1,5 +1,6 @@
 use Rattle.rv_diagram.specs.Nodes.{IsRef}
-use Rattle.rv_symbolic.specs.{Growing.Extends, Linked.AreRefs}
+use Rattle.rv_diagram.specs.Growing.{Extends}
+use Rattle.rv_symbolic.specs.Linked.{AreRefs}
 use Rattle.rv_paths.proofs.words.with_bits.Given as goal
 
 abbrev pub invariant-loop-bit : goal.invariant-loop-bit

@@ -3,7 +3,7 @@ use Rattle.rv_flat.proofs.Inlining.{is_table}
 use Rattle.rv_control.specs.Control.{control_of}
 use Rattle.rv_proofs.specs.Systems.{IsSystem}
 use Rattle.rv_symbolic.specs.Represented.{AreParts, HaveRefs}
-use Rattle.rv_symbolic.proofs.Extending.{extends_trans}
+use Rattle.rv_diagram.proofs.Growing.{extends_trans}
 use Rattle.rv_reading.proofs.Representing.{parts_are, refs_are}
 use Rattle.rv_reading.proofs.reading.read_control.Goals as goal
 

@@ -1,6 +1,7 @@
 use Rattle.std.proofs.Common.{◌+◌, ◌*◌, ◌&&◌}
 use Rattle.rv_diagram.specs.Nodes.{Answers, value_of}
-use Rattle.rv_symbolic.proofs.Extending.{extends_trans, grows_extends, call_extends, map_ok, link_found}
+use Rattle.rv_diagram.proofs.Growing.{extends_trans, grows_extends, call_extends}
+use Rattle.rv_symbolic.proofs.Extending.{map_ok, link_found}
 use Rattle.rv_symbolic.proofs.links.link.Goals as goal
 
 pub returns-clause-extends : goal.returns-clause-extends

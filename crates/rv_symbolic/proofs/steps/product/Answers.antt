@@ -1,6 +1,7 @@
 use Rattle.rv_diagram.specs.{Nodes.value_of, Several.Gives, Several.Stepped}
+use Rattle.rv_diagram.proofs.Growing.{extends_trans, gives_extends}
 use Rattle.std.proofs.Common.{length}
-use Rattle.rv_symbolic.proofs.Extending.{extends_trans, gives_extends, map_ok, product_extends, product_found, image_forgets}
+use Rattle.rv_symbolic.proofs.Extending.{map_ok, product_extends, product_found, image_forgets}
 use Rattle.rv_symbolic.proofs.steps.product.Goals as goal
 
 pub returns-clause-extends : goal.returns-clause-extends

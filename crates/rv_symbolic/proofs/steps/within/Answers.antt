@@ -1,6 +1,7 @@
 use Rattle.std.proofs.Common.{◌&&◌}
 use Rattle.rv_diagram.specs.Nodes.{Answers, value_of}
-use Rattle.rv_symbolic.proofs.Extending.{grows_extends, map_ok, both_made}
+use Rattle.rv_diagram.proofs.Growing.{grows_extends}
+use Rattle.rv_symbolic.proofs.Extending.{map_ok, both_made}
 use Rattle.rv_symbolic.proofs.steps.within.Goals as goal
 
 pub returns-clause-ok : goal.returns-clause-ok

@@ -1,5 +1,7 @@
-use Rattle.rv_symbolic.specs.{Growing.Extends, Words.LeadsAt}
-use Rattle.rv_symbolic.proofs.{Extending.extends_trans, Extending.grows_extends, Wording.picked_first, Wording.leading_found}
+use Rattle.rv_diagram.specs.Growing.{Extends}
+use Rattle.rv_diagram.proofs.Growing.{extends_trans, grows_extends}
+use Rattle.rv_symbolic.specs.Words.{LeadsAt}
+use Rattle.rv_symbolic.proofs.{Wording.picked_first, Wording.leading_found}
 use Rattle.rv_symbolic.proofs.words.first_leading.Goals as goal
 
 pub returns-in_err-leading-clause-extends : goal.returns-in_err-leading-clause-extends

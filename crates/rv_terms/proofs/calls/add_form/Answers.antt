@@ -7,8 +7,8 @@ use Rattle.rv_terms.specs.declared.parted.Part.{Part}
 use Rattle.rv_terms.specs.Parts.{part_at, form_at, held, chosen_form, AreClasses, HasForm, IsFilledBy}
 use Rattle.rv_terms.proofs.Classes.{chosen_iff, fresh_from, apart, classes_later, classes_put, form_put, form_stays, filled_put, filled_later, lacks_put}
 use Rattle.rv_terms.proofs.Classes.{err_moved}
-use Rattle.rv_terms.proofs.Growths.{grows_extends}
 use Rattle.rv_diagram.proofs.Counting.{none_few}
+use Rattle.rv_diagram.proofs.Growing.{grows_extends}
 use Rattle.rv_terms.proofs.calls.add_form.Goals as goal
 
 pub returns-in-Err-clause-room : goal.returns-in-Err-clause-room

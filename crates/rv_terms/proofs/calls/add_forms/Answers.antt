@@ -3,8 +3,9 @@ use Rattle.std.proofs.{lemmas.List.get_or_read, lemmas.Bool.cases_lt}
 use Rattle.rv_terms.specs.declared.parted.Part.{Part}
 use Rattle.rv_terms.specs.Parts.{no_form, part_at, chosen_form, AreClasses, HasForm, IsTerm, term_width}
 use Rattle.rv_terms.proofs.Classes.{classes_as, filled_trans, lacks_before, chosen_later, has_as, err_moved}
-use Rattle.rv_terms.proofs.{Growths.extends_trans, Combining.term_later}
+use Rattle.rv_terms.proofs.Combining.{term_later}
 use Rattle.rv_diagram.specs.declared.store.StoreFault.{StoreFault}
+use Rattle.rv_diagram.proofs.Growing.{extends_trans}
 use Rattle.rv_terms.proofs.calls.add_forms.Goals as goal
 
 pub add_form-requires-clause-yes : goal.add_form-requires-clause-yes

@@ -1,6 +1,7 @@
 use Rattle.std.proofs.Common.{length, ℕ, ◌<◌, ◌≡◌}
 use Rattle.rv_diagram.specs.Nodes.{Valuation}
-use Rattle.rv_terms.specs.{Growing.Extends, Parts.part_at, Parts.term_width, Parts.HasForm, Parts.AreClasses, Parts.chosen_form, Parts.IsFilledBy}
+use Rattle.rv_diagram.specs.Growing.{Extends}
+use Rattle.rv_terms.specs.{Parts.part_at, Parts.term_width, Parts.HasForm, Parts.AreClasses, Parts.chosen_form, Parts.IsFilledBy}
 use Rattle.rv_terms.proofs.calls.add_forms.Given as goal
 
 abbrev pub invariant-loop-part : goal.invariant-loop-part

@@ -1,8 +1,9 @@
 use Rattle.std.proofs.Common.{◌≡◌, ◌∙◌, ◌&&◌, sym, arith, true}
 use Rattle.std.proofs.{lemmas.Bool.false≢true, lemmas.Bool.and_parts, lemmas.Result.on_ok_weaker}
 use Rattle.rv_diagram.specs.{Nodes.value_of, declared.store.StoreFault.StoreFault}
+use Rattle.rv_diagram.proofs.Growing.{grows_extends}
 use Rattle.rv_rows.specs.Arithmetic.{form_sum}
-use Rattle.rv_terms.proofs.{Growths.grows_extends, Adding.adds_none, Combining.adds_as, Combining.adds_later, Sums.sum_is, Sums.can_add_from, Classes.err_moved}
+use Rattle.rv_terms.proofs.{Adding.adds_none, Combining.adds_as, Combining.adds_later, Sums.sum_is, Sums.can_add_from, Classes.err_moved}
 use Rattle.rv_terms.proofs.{Summing.two_steps, Summing.two_lacks}
 use Rattle.rv_terms.proofs.calls.add_sum.Goals as goal
 

@@ -2,10 +2,11 @@ use Rattle.std.proofs.Common.{◌≡◌, ◌+◌, ◌<◌, ◌∙◌, ◌&&◌, 
 use Rattle.std.proofs.lemmas.List.{get_or_read}
 use Rattle.rv_rows.specs.{declared.linear.Form.Form, Forms.CanAdd, Arithmetic.form_sum}
 use Rattle.rv_diagram.specs.{Nodes.value_of, Nodes.IsRef, declared.store.StoreFault.StoreFault}
+use Rattle.rv_diagram.proofs.Growing.{extends_refl, extends_trans}
 use Rattle.rv_terms.specs.{declared.parted.Part.Part, Parts.no_form, Parts.part_at, Parts.holds, Parts.form_at, Parts.among}
 use Rattle.rv_terms.proofs.Combining.{adds_more, adds_first, adds_all, form_is}
 use Rattle.rv_terms.proofs.Summing.{grown_none, grown_step, lacks_step, grown_within, step_apart, step_more, step_within}
-use Rattle.rv_terms.proofs.{Growths.extends_refl, Growths.extends_trans, Classes.err_moved}
+use Rattle.rv_terms.proofs.Classes.{err_moved}
 use Rattle.rv_terms.proofs.calls.add_sums.Goals as goal
 
 pub add_sum-requires-clause-room : goal.add_sum-requires-clause-room

@@ -1,6 +1,7 @@
 use Rattle.std.proofs.Common.{◌&&◌}
 use Rattle.rv_diagram.specs.Nodes.{value_of}
-use Rattle.rv_terms.specs.{Growing.Extends, Growing.GrownFor, Parts.form_at, Parts.among, Parts.AreRefs, Parts.Adds}
+use Rattle.rv_diagram.specs.Growing.{Extends}
+use Rattle.rv_terms.specs.{Growing.GrownFor, Parts.form_at, Parts.among, Parts.AreRefs, Parts.Adds}
 use Rattle.rv_rows.specs.Arithmetic.{form_sum}
 use Rattle.rv_terms.proofs.calls.add_sums.Given as goal
 

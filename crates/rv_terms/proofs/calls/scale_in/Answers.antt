@@ -4,9 +4,10 @@ use mir.Val.{to_z, of_z}
 use mir.Syntax.{w128}
 use Rattle.rv_rows.specs.{declared.linear.Form.Form, Forms.CanScale, Arithmetic.form_times}
 use Rattle.rv_diagram.specs.Nodes.{Valuation, value_of}
+use Rattle.rv_diagram.proofs.Growing.{extends_refl}
 use Rattle.rv_terms.specs.{declared.parted.Part.Part, Parts.no_form, Parts.part_at, Parts.holds, Parts.form_at, Parts.among, Parts.Adds, Parts.term_width}
 use Rattle.rv_terms.proofs.Combining.{adds_more, adds_all, form_is, term_made, form_width}
-use Rattle.rv_terms.proofs.{Growths.extends_refl, Multiples.multiples_differ, Sums.length-multiple}
+use Rattle.rv_terms.proofs.{Multiples.multiples_differ, Sums.length-multiple}
 use Rattle.rv_terms.proofs.calls.scale_in.Goals as goal
 
 pub add_multiple-requires-clause-room : goal.add_multiple-requires-clause-room

@@ -1,8 +1,9 @@
 use Rattle.std.proofs.Common.{◌≡◌, ◌≢◌, ◌<◌, ◌∙◌, ◌||◌, ap, sym, subst, length, ℕ, List}
 use Rattle.std.proofs.{lemmas.Bool.false≢true, lemmas.Option.get_or_from_slice_get}
 use Rattle.rv_diagram.specs.Nodes.{value_of}
+use Rattle.rv_diagram.proofs.Growing.{grows_extends}
 use Rattle.rv_terms.specs.{declared.parted.Part.Part, Parts.no_form, Parts.part_at, Parts.Adds}
-use Rattle.rv_terms.proofs.{Growths.grows_extends, Adding.adds_fresh, Adding.adds_merged}
+use Rattle.rv_terms.proofs.{Adding.adds_fresh, Adding.adds_merged}
 use Rattle.rv_terms.proofs.parted.add_part.Goals as goal
 
 pub returns-in-Ok-clause-added : goal.returns-in-Ok-clause-added

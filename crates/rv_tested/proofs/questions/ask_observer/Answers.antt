@@ -1,5 +1,5 @@
 use Rattle.std.proofs.Common.{◌∙◌, ◌++◌, ◌∷◌, ℕ, List, [], ap}
-use Rattle.rv_symbolic.proofs.Extending.{grows_extends}
+use Rattle.rv_diagram.proofs.Growing.{grows_extends}
 use Rattle.rv_tested.proofs.questions.ask_observer.Goals as goal
 
 pub returns-clause-asked : goal.returns-clause-asked

@@ -1,5 +1,5 @@
-use Rattle.rv_symbolic.specs.Growing.{Extends}
-use Rattle.rv_symbolic.proofs.Extending.{extends_trans}
+use Rattle.rv_diagram.specs.Growing.{Extends}
+use Rattle.rv_diagram.proofs.Growing.{extends_trans}
 use Rattle.rv_forms.proofs.Steps.{on_map}
 use Rattle.rv_tested.proofs.questions.ask_system.Goals as goal
 

@@ -1,8 +1,8 @@
 use Rattle.std.proofs.Common.{◌∙◌, arith}
 use Rattle.rv_control.specs.Control.{control_of}
 use Rattle.rv_cases.specs.declared.asking.Questions.{Questions}
-use Rattle.rv_symbolic.specs.Growing.{Extends}
-use Rattle.rv_symbolic.proofs.Extending.{extends_trans}
+use Rattle.rv_diagram.specs.Growing.{Extends}
+use Rattle.rv_diagram.proofs.Growing.{extends_trans}
 use Rattle.rv_tested.specs.Exact.{AreAsked}
 use Rattle.rv_tested.proofs.{Asking.are_distinct, Asking.are_questions, Assembling.all_asked}
 use Rattle.rv_tested.proofs.questions.read_questions.Goals as goal

@@ -1,10 +1,10 @@
 use Rattle.std.proofs.{Common.◌≡◌, Common.◌∙◌, Common.false, Common.cond, Common.sym, Common.subst, Common.arith, lemmas.Option.get_or_from_slice_get}
 use Rattle.rv_diagram.specs.{Nodes.IsRef, Nodes.value_of, Several.ref_at}
 use Rattle.rv_diagram.proofs.Calls.{value_of-false}
+use Rattle.rv_diagram.specs.Growing.{Extends}
+use Rattle.rv_diagram.proofs.Growing.{extends_trans, grows_extends}
 use Rattle.rv_rows.specs.Arithmetic.{test_row}
 use Rattle.rv_control.specs.Tightening.{tightened}
-use Rattle.rv_symbolic.specs.Growing.{Extends}
-use Rattle.rv_symbolic.proofs.Extending.{extends_trans, grows_extends}
 use Rattle.rv_terms.specs.Parts.{form_at}
 use Rattle.rv_terms.proofs.Combining.{covers_later, disjoint_later, form_later}
 use Rattle.rv_tested.proofs.{Putting.laid_later, Putting.put_as, Comparing.compared_put}

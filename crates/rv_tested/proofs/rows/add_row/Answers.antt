@@ -2,7 +2,7 @@ use Rattle.std.proofs.Common.{◌≡◌, ◌≢◌, ◌<◌, ◌+◌, ◌∙◌,
 use Rattle.std.proofs.lemmas.Option.{get_or_from_slice_get}
 use Rattle.rv_rows.specs.{declared.linear.Row.Row, Rows.row_at}
 use Rattle.rv_diagram.specs.{Nodes.value_of, Several.ref_at}
-use Rattle.rv_symbolic.proofs.Extending.{grows_extends}
+use Rattle.rv_diagram.proofs.Growing.{grows_extends}
 use Rattle.rv_tested.proofs.Putting.{put_joined, put_new}
 use Rattle.rv_tested.proofs.rows.add_row.Goals as goal
 

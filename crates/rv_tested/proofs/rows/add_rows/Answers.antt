@@ -1,7 +1,7 @@
 use Rattle.std.proofs.{Common.◌≡◌, Common.◌<◌, Common.◌^◌, Common.length, Common.sym, Common.subst, Common.arith, lemmas.List.get_or_read}
 use Rattle.rv_rows.specs.Forms.{FormWithin}
 use Rattle.rv_diagram.specs.Nodes.{IsRef}
-use Rattle.rv_symbolic.proofs.Extending.{extends_refl, extends_trans}
+use Rattle.rv_diagram.proofs.Growing.{extends_refl, extends_trans}
 use Rattle.rv_terms.specs.{declared.parted.Part.Part, Parts.no_form, Parts.part_at}
 use Rattle.rv_tested.proofs.Comparing.{rows_first, rows_more, rows_all}
 use Rattle.rv_tested.proofs.rows.add_rows.Goals as goal

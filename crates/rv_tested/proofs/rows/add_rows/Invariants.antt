@@ -1,8 +1,8 @@
 use Rattle.std.proofs.Common.{◌&&◌}
 use Rattle.rv_rows.specs.Arithmetic.{test_row}
 use Rattle.rv_diagram.specs.Nodes.{value_of}
+use Rattle.rv_diagram.specs.Growing.{Extends}
 use Rattle.rv_control.specs.Tightening.{tightened}
-use Rattle.rv_symbolic.specs.Growing.{Extends}
 use Rattle.rv_terms.specs.Parts.{form_at, among}
 use Rattle.rv_tested.specs.Rows.{IsPut}
 use Rattle.rv_tested.proofs.rows.add_rows.Given as goal

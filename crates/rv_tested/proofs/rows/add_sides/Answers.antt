@@ -1,8 +1,8 @@
 use Rattle.std.proofs.{Common.◌≡◌, Common.◌∙◌, Common.◌&&◌, Common.false, Common.cond, lemmas.Result.on_ok_weaker}
 use Rattle.rv_diagram.specs.Nodes.{Valuation, value_of}
 use Rattle.rv_diagram.proofs.Calls.{value_of-false}
-use Rattle.rv_symbolic.specs.Growing.{Extends}
-use Rattle.rv_symbolic.proofs.Extending.{extends_trans, grows_extends}
+use Rattle.rv_diagram.specs.Growing.{Extends}
+use Rattle.rv_diagram.proofs.Growing.{extends_trans, grows_extends}
 use Rattle.rv_tested.proofs.Comparing.{sides_put}
 use Rattle.rv_tested.proofs.rows.add_sides.Goals as goal
 

@@ -2,10 +2,10 @@ use Rattle.std.proofs.Common.{◌++◌, ◌∷◌, ◌<◌, ◌^◌, ℕ, List, 
 use Rattle.std.proofs.lemmas.Result.{on_ok_weaker}
 use Rattle.rv_rows.specs.{Arithmetic.test_row, Forms.FormWithin}
 use Rattle.rv_diagram.specs.Nodes.{value_of}
+use Rattle.rv_diagram.specs.Growing.{Extends}
+use Rattle.rv_diagram.proofs.Growing.{extends_trans}
 use Rattle.rv_flat.specs.Lists.{side_of}
 use Rattle.rv_control.specs.Tightening.{tightened}
-use Rattle.rv_symbolic.specs.Growing.{Extends}
-use Rattle.rv_symbolic.proofs.Extending.{extends_trans}
 use Rattle.rv_terms.specs.{declared.parted.Part.Part, Parts.form_at, Parts.part_at, Parts.AreRefs, Parts.AreDisjoint, Parts.Covers}
 use Rattle.rv_forms.specs.Terms.{columns_of}
 use Rattle.rv_tested.specs.{Compared.comparison_in, Rows.first_of, Testing.IsTestTerm, Testing.row_in}

@@ -1,6 +1,6 @@
 use Rattle.std.proofs.Common.{◌≡◌, ◌∙◌, ◌++◌, ◌∷◌, ◌+◌, ℕ, List, [], length, length-append, ap, sym, subst, arith, Some}
 use Rattle.std.specs.Prelude.{slice_get}
-use Rattle.rv_symbolic.proofs.Extending.{extends_refl, extends_trans}
+use Rattle.rv_diagram.proofs.Growing.{extends_refl, extends_trans}
 use Rattle.rv_tested.specs.{declared.compared.Compared.Compared, declared.testing.Sides.Sides, Compared.comparison_in, Testing.AreSidesRead}
 use Rattle.rv_tested.proofs.Following.{read_more}
 use Rattle.rv_base.proofs.Lists.{none_at}

@@ -1,6 +1,6 @@
 use Rattle.std.proofs.Common.{◌≡◌, ℕ, length, Some}
 use Rattle.std.specs.Prelude.{slice_get}
-use Rattle.rv_symbolic.specs.Growing.{Extends}
+use Rattle.rv_diagram.specs.Growing.{Extends}
 use Rattle.rv_forms.specs.Terms.{IsReady}
 use Rattle.rv_tested.specs.{declared.compared.Compared.Compared, declared.testing.Sides.Sides, Compared.comparison_in, Testing.AreSidesRead}
 use Rattle.rv_tested.proofs.testing.read_all.Given as goal

@@ -1,6 +1,6 @@
 use Rattle.std.proofs.Common.{◌∙◌, ℕ, List, ap, sym, subst, length}
 use Rattle.rv_control.proofs.Weighed.{light_weight}
-use Rattle.rv_symbolic.proofs.Extending.{extends_refl, extends_trans}
+use Rattle.rv_diagram.proofs.Growing.{extends_refl, extends_trans}
 use Rattle.rv_bits.specs.Shown.{clock_bit}
 use Rattle.rv_flat.specs.Inlined.{tree_among}
 use Rattle.rv_cases.specs.Conditions.{AreRefs}

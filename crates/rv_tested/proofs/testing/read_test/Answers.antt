@@ -2,7 +2,7 @@ use Rattle.std.proofs.{Common.List, Common.[], Common.map, Common.sym, Common.su
 use Rattle.rv_flat.specs.{Lists.side_of, FlatInstants.system_of}
 use Rattle.rv_agreement.specs.Valuations.{Comparison}
 use Rattle.rv_control.specs.{Named.named, Symbolic.symbolic}
-use Rattle.rv_symbolic.proofs.Extending.{extends_refl, extends_trans}
+use Rattle.rv_diagram.proofs.Growing.{extends_refl, extends_trans}
 use Rattle.rv_tested.specs.{declared.compared.Compared.Compared, Compared.comparison_in, Rows.IsAnswered, Testing.row_in, Testing.first_comparisons}
 use Rattle.rv_tested.proofs.{Rowing.among-none, Rowing.answered_as, Rowing.comparisons_more, Siding.sides_later}
 use Rattle.rv_tested.proofs.testing.read_test.Goals as goal

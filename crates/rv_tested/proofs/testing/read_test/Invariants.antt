@@ -1,5 +1,5 @@
 use Rattle.rv_flat.specs.Lists.{side_of}
-use Rattle.rv_symbolic.specs.Growing.{Extends}
+use Rattle.rv_diagram.specs.Growing.{Extends}
 use Rattle.rv_tested.specs.{Rows.IsAnswered, Testing.row_in, Testing.first_comparisons}
 use Rattle.rv_tested.proofs.testing.read_test.Given as goal
 

@@ -4,7 +4,7 @@ use Rattle.rv_rows.specs.declared.linear.Row.{Row}
 use Rattle.rv_flat.specs.{declared.parts.Bit.Bit, Lists.variable_of}
 use Rattle.rv_tested.specs.Testing.{AreTestsRead}
 use Rattle.rv_control.specs.{Control.order_tests, Named.variables_of}
-use Rattle.rv_symbolic.proofs.Extending.{extends_refl, extends_trans}
+use Rattle.rv_diagram.proofs.Growing.{extends_refl, extends_trans}
 use Rattle.rv_tested.proofs.{Following.none_read, Following.one_test_more, Following.test_answered, Following.variable_there, Siding.all_later}
 use Rattle.rv_tested.proofs.testing.read_tests.Goals as goal
 

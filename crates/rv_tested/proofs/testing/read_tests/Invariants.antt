@@ -1,4 +1,4 @@
-use Rattle.rv_symbolic.specs.Growing.{Extends}
+use Rattle.rv_diagram.specs.Growing.{Extends}
 use Rattle.rv_tested.specs.Testing.{AreTestsRead}
 use Rattle.rv_tested.proofs.testing.read_tests.Given as goal
 

@@ -1,6 +1,7 @@
 use Rattle.std.proofs.Common.{◌∙◌}
 use Rattle.rv_diagram.specs.Nodes.{Answers, choice, value_of}
-use Rattle.rv_symbolic.proofs.Extending.{grows_extends, map_ok}
+use Rattle.rv_diagram.proofs.Growing.{grows_extends}
+use Rattle.rv_symbolic.proofs.Extending.{map_ok}
 use Rattle.rv_base.proofs.Truths.{without_is}
 use Rattle.rv_walk.proofs.sets.rest.Goals as goal
 

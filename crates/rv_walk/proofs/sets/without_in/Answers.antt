@@ -1,4 +1,4 @@
-use Rattle.rv_symbolic.proofs.Extending.{extends_trans, grows_extends}
+use Rattle.rv_diagram.proofs.Growing.{extends_trans, grows_extends}
 use Rattle.rv_walk.proofs.Joining.{without_made}
 use Rattle.rv_walk.proofs.sets.without_in.Goals as goal
 

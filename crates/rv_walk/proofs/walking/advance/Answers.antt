@@ -1,8 +1,8 @@
 use Rattle.std.proofs.Common.{◌≡◌, ◌∙◌, ◌-◌, ◌<◌, ◌++◌, ◌∷◌, [], ℕ, Bool, List, length, sym, subst, arith, false}
 use Rattle.rv_diagram.specs.{Nodes.Valuation, Nodes.IsOrderedOver, Nodes.value_of, declared.frozen.Frozen.Frozen}
+use Rattle.rv_diagram.proofs.Growing.{extends_trans}
 use Rattle.rv_proofs.specs.{Systems.System, Ranges.IsControlSet}
 use Rattle.rv_symbolic.specs.Stepped.{AreNextStates}
-use Rattle.rv_symbolic.proofs.Extending.{extends_trans}
 use Rattle.rv_walk.specs.{Extended.fresh_in, Extended.IsGrown, Walks.last_of, Walks.missing, Walks.IsWalk, Walks.IsDone}
 use Rattle.rv_walk.proofs.{Stages.at_last, Rounds.kept_same, Rounds.round_done, Rounds.round_more, Rounds.round_less}
 use Rattle.rv_walk.proofs.walking.advance.Goals as goal

@@ -1,7 +1,8 @@
 use Rattle.std.proofs.Common.{◌≡◌, ◌∙◌, ◌++◌, ◌∷◌, [], ℕ, true, List, ap, sym, subst}
 use Rattle.rv_diagram.specs.{Nodes.IsOrderedOver, Nodes.value_of, declared.frozen.Frozen.Frozen}
+use Rattle.rv_diagram.proofs.Growing.{grows_extends}
 use Rattle.rv_symbolic.specs.Represented.{IsRelationOf}
-use Rattle.rv_symbolic.proofs.{Extending.grows_extends, Scheduling.relation_after}
+use Rattle.rv_symbolic.proofs.Scheduling.{relation_after}
 use Rattle.rv_walk.specs.Walks.{IsWalk}
 use Rattle.rv_walk.proofs.{Rounds.explored_of, Stages.walk_start}
 use Rattle.rv_walk.proofs.walking.explore_in.Goals as goal

@@ -1,6 +1,7 @@
 use Rattle.std.proofs.{Common.Bool, Common.false, Common.length, Common.sym, Common.subst, Math.Path.fun_ext}
 use Rattle.rv_diagram.specs.Nodes.{Valuation, value_of}
-use Rattle.rv_symbolic.proofs.{Extending.extends_refl, Extending.extends_trans, Scheduling.relation_after}
+use Rattle.rv_diagram.proofs.Growing.{extends_refl, extends_trans}
+use Rattle.rv_symbolic.proofs.Scheduling.{relation_after}
 use Rattle.rv_walk.specs.Walks.{IsWalking}
 use Rattle.rv_walk.proofs.Rounds.{fewer_left}
 use Rattle.rv_walk.proofs.walking.rounds.Goals as goal

@@ -1,7 +1,8 @@
 use Rattle.std.proofs.Common.{◌≡◌, ◌+◌, cond, false, length}
 use Rattle.rv_diagram.specs.Nodes.{value_of, IsRef}
+use Rattle.rv_diagram.specs.Growing.{Extends}
 use Rattle.rv_proofs.specs.Systems.{System}
-use Rattle.rv_symbolic.specs.{Growing.Extends, Represented.IsRelationOf}
+use Rattle.rv_symbolic.specs.Represented.{IsRelationOf}
 use Rattle.rv_walk.specs.Walks.{IsWalk, IsWalking, missing}
 use Rattle.rv_walk.proofs.walking.rounds.Given as goal
 

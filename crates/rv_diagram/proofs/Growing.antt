@@ -1,8 +1,8 @@
--- A store that grows.
+-- Calls of a store in turn.
 use Rattle.std.proofs.Common.{ℕ, ◌≡◌, Bool, [], ◌++◌, refl, sym, ap, ◌∙◌, subst, arith, Result, Ok, Err, IfOk, OnErr}
 use Rattle.std.proofs.lemmas.List.{append-nil, append_assoc}
 use Rattle.rv_diagram.specs.Nodes.{Valuation, Diagrams, Grows, Answers}
-use Rattle.rv_terms.specs.Growing.{Extends}
+use Rattle.rv_diagram.specs.{Growing.Extends, Several.Gives}
 
 pub extends_refl : (s : Diagrams) → Extends s s
 extends_refl s = record { begins = ([], sym (append-nil s.nodes)); longer = omega arith; kept = λ r h v. refl; variables = refl; limit = refl }
@@ -26,3 +26,7 @@ equal_extends a b e = subst (λ (s : Diagrams). Extends a s) (sym e) (extends_re
 pub call_extends : {E : Type 0} (a b : Diagrams) (f : Valuation → Bool) (o : Result ℕ E) → IfOk o (λ r. Answers a b f r) → OnErr o (b ≡ a) → Extends a b
 call_extends a b f (Ok r) ok err = grows_extends a b ok.grows
 call_extends a b f (Err e) ok err = equal_extends a b err
+
+pub gives_extends : {E : Type 0} (a b : Diagrams) (f : Valuation → Type 0) (o : Result ℕ E) → IfOk o (λ r. Gives a b f r) → OnErr o (b ≡ a) → Extends a b
+gives_extends a b f (Ok r) ok err = grows_extends a b ok.grows
+gives_extends a b f (Err e) ok err = equal_extends a b err
