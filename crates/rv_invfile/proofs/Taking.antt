@@ -1,13 +1,11 @@
 -- What one read of a record takes of the records that are left.
 use Rattle.std.proofs.Common.{◌≡◌, ◌+◌, ◌<◌, ◌≤◌, ℕ, zero, suc, Bool, true, false, cond, List, [], ◌∷◌, length, get_or, refl, sym, ap, ◌∙◌, arith, inl}
 use Rattle.std.specs.{Prelude.Option, Prelude.Some, Prelude.None, Borrow.Bor}
-use Rattle.csv.specs.Reading.{ExplainsRead, ReadRecord, Reached, default_config, is_flexible, took_first, strip_bom, is_bom}
+use Rattle.csv.specs.Reading.{ReadRecord, Reached, default_config, is_flexible, took_first, strip_bom, is_bom}
 use Rattle.csv.specs.{declared.parser.State.State, Records.Row, Records.fields_of, Records.field_at}
-use Rattle.csv.specs.declared.error.ErrorKind.{ErrorKind}
-use Rattle.csv.specs.declared.error.ErrorKind.TheVariants as kind
 use Rattle.csv.specs.declared.reader.Trim.TheVariants as trim
 use Rattle.csv.proofs.ReadFacts.{rows-more, rows-end}
-use Rattle.rv_invfile.specs.Csv.{ByteReader, known, left, left_in, left_of, standing, most, Holds, IsReading, IsOfMemory, Keeps, records_of}
+use Rattle.rv_invfile.specs.Csv.{ByteReader, known, left, left_in, left_of, standing, most, Holds, IsReading, Keeps, records_of}
 use Rattle.rv_invfile.specs.{Rules.Fields, Readers.Ahead, Ahead.after_one, Ahead.first}
 use Rattle.csv.specs.declared.parser.State.TheVariants as st
 use Rattle.rv_invfile.proofs.Left.{left-some, left-none, few, narrow, no-longer}
@@ -68,23 +66,10 @@ kept true a b y row n ec ex et ef same r got room =
     (reading, omega (arith, t.2, ex.1))
 kept false a b y row n ec ex et ef same r got room = omega (arith, room)
 
--- A reader of records of any number of fields fails for the reader underneath or for memory alone.
-pub of-memory : (a b : ByteReader) (k : ErrorKind) → is_flexible a ≡ true → ExplainsRead rem a b false k → IsOfMemory k
-of-memory a b (kind.Io e) f h = tt
-of-memory a b kind.OutOfMemory f h = tt
-of-memory a b (kind.UnequalLengths pos expected len) f h = let no : true ≡ false = sym f ∙ h.0 in cc
-of-memory a b (kind.Utf8 pos err) f h = let no : false ≡ true = h.0 in cc
-of-memory a b (kind.Serialize text) f h = absurd h
-of-memory a b (kind.Deserialize pos err) f h = absurd h
-
 -- Where a record stands the reader reads.
 pub stands : (here : Bool) (row : Row) (r : ByteReader) (n : ℕ) → 0 < length (standing here row r) → Keeps here row r n → IsReading r n × (here ≡ true)
 stands true row r n h k = (k.0, refl)
 stands false row r n h k = absurd (omega arith)
-
-pub few-fields : (here : Bool) (row : Row) (r : ByteReader) (n : ℕ) → Keeps here row r n → length (first (standing here row r)) ≤ most
-few-fields true row r n k = k.1
-few-fields false row r n k = omega arith
 
 short-cut : (b : Bool) (x y z : ℕ) (rest : List ℕ) → length (cond b rest (x ∷ y ∷ z ∷ rest)) ≤ length (x ∷ y ∷ z ∷ rest)
 short-cut true x y z rest = omega arith

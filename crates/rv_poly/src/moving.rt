@@ -1,4 +1,5 @@
-// Rows moved by the constants of updates, of any size.
+//! Rows moved by the constants of updates, of any size.
+
 ghost use Rattle.std.specs.Prelude.{◌≡◌, ◌<◌, ◌≤◌, ◌^◌, ℕ, ℤ, pos, ◌+ℤ◌, List, length, map, All, MatchOption, MatchBool, IfOk, IfSome, IfNone, OnOk};
 ghost use Rattle.rv_rows.specs.Rows.{dot};
 ghost use Rattle.rv_rows.specs.Forms.{number};

@@ -1,4 +1,5 @@
-// Sums of products that may go beyond 128 bits.
+//! Sums of products that may go beyond 128 bits.
+
 ghost use Rattle.std.specs.Prelude.{◌≡◌, ◌+◌, ◌*◌, ◌<◌, ◌≤◌, ◌^◌, ℤ, pos, ◌+ℤ◌, ◌*ℤ◌, MatchOption};
 ghost use Rattle.std.specs.Int.RustNames.{unsigned_abs};
 ghost use Rattle.rv_poly.specs.Moves.{whole_of, IsNormal};
