@@ -24,7 +24,7 @@ pub enum Named<'a> {
     MainTick,
     Tick(&'a Place),
     Kept(&'a Place, u32),
-    Input(u32, u32),
+    Input(usize, u32),
     Test(&'a Place, Side),
 }
 
@@ -32,7 +32,7 @@ pub enum Named<'a> {
 #[derive(Clone, Copy)]
 pub enum Owner<'a> {
     Memory(&'a Place),
-    Input(u32),
+    Input(usize),
 }
 
 /// Whether two places are the same.
@@ -68,7 +68,7 @@ pub fn is_named(variable: &Bit, name: &Named) -> bool
         },
         Bit::Next => false,
         Bit::Input(own, own_number) => match name {
-            Named::Input(input, number) => *own == *input && *own_number == *number,
+            Named::Input(input, number) => *own as usize == *input && *own_number == *number,
             _ => false,
         },
         Bit::Test(own, own_side) => match name {

@@ -75,7 +75,7 @@ pub fn memory_refs(
     Ok(lists)
 }
 
-/// The references of the bits of each input. As many inputs as no number of theirs counts find no memory.
+/// The references of the bits of each input, however many there are.
 pub fn input_refs(
     alloc: Global,
     store: &mut Store,
@@ -88,11 +88,8 @@ pub fn input_refs(
 {
     let mut lists = Many::new(alloc);
     for (number, input) in flat.inputs.as_slice().iter().enumerate() {
-        if number > 4_294_967_295 {
-            return Err(StoreFault::Memory);
-        }
         let count = bits_of_kind(&flat.labels, input.kind);
-        let owner = Owner::Input(number as u32);
+        let owner = Owner::Input(number);
         lists.push(owned_bits(alloc, store, flat.variables.as_slice(), &owner, count)?)?;
     }
     Ok(lists)
