@@ -1,6 +1,6 @@
 //! Whether a trace falsifies a program: by its replay, which is asked of each trace that is answered for a program with integers.
 
-ghost use Rattle.std.specs.Prelude.{◌≡◌, ◌<◌, ℕ, [], Ok, Some, length, IsTrue, IfOk, slice_index_or};
+ghost use Rattle.std.specs.Prelude.{◌≡◌, ◌<◌, ℕ, [], Ok, Some, None, length, IsTrue, IfOk, slice_index_or};
 ghost use Rattle.rv_base.specs.declared.value.Trace.{Trace as TraceModel};
 ghost use Rattle.rv_tree.specs.Tree.{program_tree};
 ghost use Rattle.rv_types.specs.Instances.{name_at};
@@ -9,6 +9,7 @@ ghost use Rattle.rv_agreement.specs.Checks.{constant_fits};
 ghost use Rattle.rv_flat.specs.FlatOf.{IsFlatOf};
 ghost use Rattle.rv_flat.specs.Steps.{AreValues, IsInRange, label_counts};
 ghost use Rattle.rv_replay.specs.Traces.{IsFlatTrace, IsTrace};
+ghost use Rattle.rv_replay.specs.Replays.{IsFalsifiedAt};
 ghost use Rattle.rv_falsify.specs.Falsifying.{IsFalsifying};
 
 use crate::decoding::{input_kinds, memory_kinds};
@@ -32,7 +33,8 @@ fn label_count(flat: &Flat, declaration: u32) -> usize
 
 /// Whether a type has a label with this number.
 fn is_label(flat: &Flat, kind: Kind, number: u32) -> bool
-    ensures { IsTrue result → IsTrue (constant_fits (label_counts flat.now) kind (Value.Label number)) }
+    ensures fits { IsTrue result → IsTrue (constant_fits (label_counts flat.now) kind (Value.Label number)) }
+    ensures only { IsTrue (constant_fits (label_counts flat.now) kind (Value.Label number)) → IsTrue result }
 {
     match kind {
         Kind::Labels(declaration) => (number as usize) < label_count(flat, declaration),
@@ -42,7 +44,8 @@ fn is_label(flat: &Flat, kind: Kind, number: u32) -> bool
 
 /// Whether a number is one that a trace may have, from -2^63 to 2^63 - 1.
 fn is_within(number: i128) -> bool
-    ensures { IsTrue result → IsInRange (Value.Whole number) }
+    ensures within { IsTrue result → IsInRange (Value.Whole number) }
+    ensures only { IsInRange (Value.Whole number) → IsTrue result }
 {
     -9_223_372_036_854_775_808 <= number && number < 9_223_372_036_854_775_808
 }
@@ -51,6 +54,7 @@ fn is_within(number: i128) -> bool
 fn is_value(flat: &Flat, kind: Kind, value: Value) -> bool
     ensures fits { IsTrue result → IsTrue (constant_fits (label_counts flat.now) kind value) }
     ensures within { IsTrue result → IsInRange value }
+    ensures only { IsTrue (constant_fits (label_counts flat.now) kind value) → IsInRange value → IsTrue result }
 {
     match value {
         Value::Flag(_) => kind == Kind::Bool,
@@ -61,7 +65,8 @@ fn is_value(flat: &Flat, kind: Kind, value: Value) -> bool
 
 /// Whether there is one value of each type, each one that a trace may have.
 fn are_values(flat: &Flat, kinds: &[Kind], values: &[Value]) -> bool
-    ensures { IsTrue result → AreValues flat.now kinds.now values.now }
+    ensures values { IsTrue result → AreValues flat.now kinds.now values.now }
+    ensures only { AreValues flat.now kinds.now values.now → IsTrue result }
 {
     if values.len() != kinds.len() {
         return false;
@@ -76,7 +81,8 @@ fn are_values(flat: &Flat, kinds: &[Kind], values: &[Value]) -> bool
 
 /// Whether that is so at each instant.
 fn are_instants(flat: &Flat, kinds: &[Kind], instants: &Many<Many<Value>>) -> bool
-    ensures { IsTrue result → (k : ℕ) → k < length instants.now → AreValues flat.now kinds.now (slice_index_or instants.now k []) }
+    ensures instants { IsTrue result → (k : ℕ) → k < length instants.now → AreValues flat.now kinds.now (slice_index_or instants.now k []) }
+    ensures only { ((k : ℕ) → k < length instants.now → AreValues flat.now kinds.now (slice_index_or instants.now k [])) → IsTrue result }
 {
     for place in 0..instants.len() {
         if !are_values(flat, kinds, instants.at(place).as_slice()) {
@@ -88,7 +94,8 @@ fn are_instants(flat: &Flat, kinds: &[Kind], instants: &Many<Many<Value>>) -> bo
 
 /// Whether these are the values of a trace of a flat system: one for each memory, and at each instant one for each input.
 fn is_flat_trace(alloc: Global, flat: &Flat, trace: &Trace) -> Result<bool, Memory>
-    ensures { IfOk result (λ is. IsTrue is → IsFlatTrace flat.now trace.now) }
+    ensures trace { IfOk result (λ is. IsTrue is → IsFlatTrace flat.now trace.now) }
+    ensures only { IfOk result (λ is. IsFlatTrace flat.now trace.now → IsTrue is) }
 {
     let memories = memory_kinds(alloc, flat)?;
     let inputs = input_kinds(alloc, flat)?;
@@ -109,6 +116,8 @@ fn cut(
     requires trace { IsTrace (program_tree source.now.program) (name_at (program_tree source.now.program) source.now.typed.main) trace }
     ensures falsifies { (t : TraceModel) → result ≡ Ok (Some t)
         → IsFalsifying (program_tree source.now.program) (name_at (program_tree source.now.program) source.now.typed.main) t }
+    ensures missing { result ≡ Ok None → (k : ℕ)
+        → IsFalsifiedAt (program_tree source.now.program) (name_at (program_tree source.now.program) source.now.typed.main) trace k → ⊥ }
 {
     match falsified_at(alloc, source, flat, &trace)? {
         Some(last) => {
@@ -121,7 +130,8 @@ fn cut(
 
 /// A trace, cut after the instant at which it falsifies the program. None where its values are not those of a trace of the program, or where its
 /// replay does not end at an instant with a false observer: an assertion fails first, a value leaves the range first, or the observer is
-/// true throughout. The only error is want of memory.
+/// true throughout. So None of a trace means that it falsifies after none of its instants, cut there, with all values in the range up to it.
+/// The only error is want of memory.
 pub fn confirmed(
     alloc: Global,
     source: &Source,
@@ -132,6 +142,8 @@ pub fn confirmed(
     requires flat { IsFlatOf (program_tree source.now.program) (name_at (program_tree source.now.program) source.now.typed.main) flat.now }
     ensures falsifies { (t : TraceModel) → result ≡ Ok (Some t)
         → IsFalsifying (program_tree source.now.program) (name_at (program_tree source.now.program) source.now.typed.main) t }
+    ensures missing { result ≡ Ok None → IsTrace (program_tree source.now.program) (name_at (program_tree source.now.program) source.now.typed.main) trace
+        → (k : ℕ) → IsFalsifiedAt (program_tree source.now.program) (name_at (program_tree source.now.program) source.now.typed.main) trace k → ⊥ }
 {
     well_formed_programs();
     flat_traces();

@@ -1,15 +1,15 @@
 -- What an answer says of the probes.
-use Rattle.std.proofs.Common.{◌≡◌, ℕ, ◌+◌, ◌≤◌, ◌^◌, Bool, true, List, length, take, refl, sym, ◌∙◌, ap, subst, arith, inl, inr, Option, Some, None as Nothing}
-use Rattle.std.specs.{Prelude.◌↔◌, Prelude.ℤ, Prelude.pos, Prelude.unsigned_abs, Prelude.Result, Prelude.Ok, Prelude.Err, Prelude.IfOk, List.Contains}
+use Rattle.std.proofs.Common.{◌≡◌, ℕ, ◌+◌, ◌≤◌, Bool, true, List, length, take, refl, sym, ◌∙◌, ap, subst, arith, inl, inr, Option, Some, None as Nothing}
+use Rattle.std.specs.{Prelude.◌↔◌, Prelude.ℤ, Prelude.pos, Prelude.Result, Prelude.Ok, Prelude.Err, Prelude.IfOk, List.Contains}
 use Rattle.rv_base.specs.{declared.memory.Memory.Memory, declared.value.Trace.Trace, declared.value.Value.Value}
 use Rattle.rv_tree.specs.{Tree.ProgramTree, Places.Identifier, SourceTrees.IsSourceTree}
 use Rattle.rv_types.specs.{declared.typed.Typed.Typed, Instances.name_at, Instances.IsNode, Settled.IsSettled, WellFormed.AreWell}
 use Rattle.rv_instances.specs.{declared.answer.Order.Order, Fitting.Fits}
-use Rattle.rv_flat.specs.{declared.flat.Flat.Flat, FlatOf.IsFlatOf}
+use Rattle.rv_flat.specs.{declared.flat.Flat.Flat, FlatOf.IsFlatOf, Steps.IsWithin}
 use Rattle.rv_replay.specs.{Replays.IsFalsifiedAt, Traces.IsFlatTrace, Traces.IsTrace}
 use Rattle.rv_replay.proofs.{FlatTraces.InputsOfFlat, FlatTraces.StatesOfFlat, Sources.observed}
 use Rattle.rv_probe.specs.Probes.{FalsifiesAt, HasFalsifyingProbe, IsCutProbe, IsProbeNumber, NeverFalsifies, cut, have_values, probe_of}
-use Rattle.rv_probe.proofs.{Cuts.cut_count, Cuts.cut_falsified, Cuts.cut_trace, Typed.flat_probe, Typed.have_of, Typed.number_within}
+use Rattle.rv_probe.proofs.{Cuts.cut_count, Cuts.cut_falsified, Cuts.cut_trace, Typed.flat_probe, Typed.have_of}
 
 -- the law by which a trace of a flat system is one of its program
 abbrev pub TracesOfProgram : Type 0
@@ -19,10 +19,10 @@ TracesOfProgram = (program : ProgramTree) (main : Identifier) (f : Flat) (t : Tr
 -- A source, and its flat system.
 module _ (p : ProgramTree) (t : Typed) (o : Order) (fits : Fits p t o) (well_formed : (main : Identifier) → IsSourceTree p → IsSettled p main t → AreWell p)
     (f : Flat) (flat : IsFlatOf p (name_at p t.main) f) where
-  pub whole_trace : TracesOfProgram → (b : Bool) (c : ℤ) → have_values f ≡ true → unsigned_abs c ≤ 2 ^ 41 → IsTrace p (name_at p t.main) (probe_of f b c)
-  whole_trace back b c have le =
+  pub whole_trace : TracesOfProgram → (b : Bool) (c : ℤ) → have_values f ≡ true → IsWithin c → IsTrace p (name_at p t.main) (probe_of f b c)
+  whole_trace back b c have within =
       let of = observed p t o fits well_formed f flat in
-      back p (name_at p t.main) f (probe_of f b c) of.well of.named of.flat (flat_probe b c f (number_within c le) have 16 (omega arith))
+      back p (name_at p t.main) f (probe_of f b c) of.well of.named of.flat (flat_probe b c f within have 16 (omega arith))
 
   pub some_values : StatesOfFlat → InputsOfFlat → HasFalsifyingProbe p (name_at p t.main) f → have_values f ≡ true
   some_values states inputs (b, c, k, at) =
@@ -68,10 +68,11 @@ module _ (program : ProgramTree) (main : Identifier) (f : Flat) where
 
   -- where none is answered, none falsifies
   pub none_falsifies : ((b : Bool) → NeverFalsifies program main f b (pos 0))
-      → ((b : Bool) (c : ℤ) → length f.thresholds ≤ 256 → Contains f.thresholds c → NeverFalsifies program main f b c) → HasFalsifyingProbe program main f → ⊥
+      → ((b : Bool) (c : ℤ) → length f.thresholds ≤ 256 → Contains f.thresholds c → IsWithin c → NeverFalsifies program main f b c)
+      → HasFalsifyingProbe program main f → ⊥
   none_falsifies zero others (b, c, k, at) = elim at.number [
     | inl e ↦ zero b k (subst (λ z. IsFalsifiedAt program main (probe_of f b z) k) e at.falsified)
-    | inr w ↦ others b c w.0 w.1 k at.falsified
+    | inr w ↦ others b c w.0 w.1 w.2 k at.falsified
   ]
 
   -- both, as one clause

@@ -6,7 +6,7 @@ use Rattle.rv_base.specs.{declared.value.Trace.Trace, declared.value.Value.Value
 use Rattle.rv_tree.specs.{Tree.ProgramTree, Places.Identifier}
 use Rattle.rv_types.specs.declared.typed.Kind.{Kind}
 use Rattle.rv_types.specs.declared.typed.Kind.TheVariants as kind
-use Rattle.rv_flat.specs.{declared.flat.Flat.Flat, Steps.input_kinds, Steps.label_counts, Steps.memory_kinds}
+use Rattle.rv_flat.specs.{declared.flat.Flat.Flat, Steps.IsWithin, Steps.input_kinds, Steps.label_counts, Steps.memory_kinds}
 use Rattle.rv_replay.specs.{Replays.IsFalsifiedAt, Traces.IsTrace}
 
 -- what a probe has of a type: this truth value, this number, or the first label
@@ -26,9 +26,9 @@ probe_within n f b c = record {
 abbrev pub probe_of : Flat → Bool → ℤ → Trace
 probe_of = probe_within 16
 
--- 0, or one of the thresholds, where these are 256 at most
+-- 0, or one of the thresholds, where these are 256 at most; a number outside the range of traces is that of no probe
 abbrev pub IsProbeNumber : Flat → ℤ → Type 0
-IsProbeNumber f c = (c ≡ pos 0) ⊎ ((length f.thresholds ≤ 256) × Contains f.thresholds c)
+IsProbeNumber f c = (c ≡ pos 0) ⊎ ((length f.thresholds ≤ 256) × Contains f.thresholds c × IsWithin c)
 
 -- the first k + 1 instants of a trace
 abbrev pub cut : ℕ → Trace → Trace

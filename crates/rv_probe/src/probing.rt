@@ -1,12 +1,13 @@
 //! The probes of a source, one after the other, and the first that falsifies.
 
-ghost use Rattle.std.specs.Prelude.{◌≡◌, ◌↔◌, ℕ, ℤ, ◌+◌, ◌^◌, ◌≤◌, Bool, true, Ok, None, Some, length, unsigned_abs, IfOk};
-ghost use Rattle.std.specs.List.{All, Contains};
+ghost use Rattle.std.specs.Prelude.{◌≡◌, ◌↔◌, ℕ, ℤ, ◌+◌, Bool, true, Ok, None, Some, length, IfOk, IsTrue};
+ghost use Rattle.std.specs.List.{Contains};
 ghost use Rattle.rv_base.specs.declared.value.Trace.{Trace as TraceModel};
 ghost use Rattle.rv_tree.specs.Tree.{program_tree};
 ghost use Rattle.rv_types.specs.Instances.{name_at};
 ghost use Rattle.rv_instances.specs.Fitting.{Fits};
 ghost use Rattle.rv_flat.specs.FlatOf.{IsFlatOf};
+ghost use Rattle.rv_flat.specs.Steps.{IsWithin};
 ghost use Rattle.rv_replay.specs.Replays.{IsFalsifiedAt};
 ghost use Rattle.rv_replay.specs.Traces.{IsTrace};
 ghost use Rattle.rv_probe.specs.Probes.{FalsifiesAt, HasFalsifyingProbe, IsCutProbe, NeverFalsifies, cut, probe_of};
@@ -56,7 +57,7 @@ fn try_probe(
     requires fits { Fits (program_tree source.now.program) source.now.typed source.now.order }
     requires flat { IsFlatOf (program_tree source.now.program) (name_at (program_tree source.now.program) source.now.typed.main) flat.now }
     requires values { types_have_values flat.now ≡ true }
-    requires number { unsigned_abs number ≤ 2 ^ 41 }
+    requires number { IsWithin number }
     ensures found { (t : TraceModel) → result ≡ Ok (Some t)
         → IsCutProbe (program_tree source.now.program) (name_at (program_tree source.now.program) source.now.typed.main) flat.now truth number t }
     ensures never { result ≡ Ok None
@@ -84,7 +85,7 @@ fn try_number(
     requires fits { Fits (program_tree source.now.program) source.now.typed source.now.order }
     requires flat { IsFlatOf (program_tree source.now.program) (name_at (program_tree source.now.program) source.now.typed.main) flat.now }
     requires values { types_have_values flat.now ≡ true }
-    requires number { unsigned_abs number ≤ 2 ^ 41 }
+    requires number { IsWithin number }
     ensures found { (t : TraceModel) → result ≡ Ok (Some t)
         → (b : Bool) × IsCutProbe (program_tree source.now.program) (name_at (program_tree source.now.program) source.now.typed.main) flat.now b number t }
     ensures never { (b : Bool) → result ≡ Ok None
@@ -96,20 +97,49 @@ fn try_number(
     }
 }
 
+/// Whether a number is within the range of traces.
+fn is_within(number: i128) -> bool
+    ensures { IsTrue result ↔ IsWithin number }
+{
+    -9_223_372_036_854_775_808 <= number && number < 9_223_372_036_854_775_808
+}
+
+/// The first of the two probes of a threshold that falsifies. No probe has a number outside the range of traces.
+fn try_threshold(
+    alloc: Global,
+    source: &Source,
+    flat: &Flat,
+    number: i128,
+) -> Result<Option<Trace>, Memory>
+    requires fits { Fits (program_tree source.now.program) source.now.typed source.now.order }
+    requires flat { IsFlatOf (program_tree source.now.program) (name_at (program_tree source.now.program) source.now.typed.main) flat.now }
+    requires values { types_have_values flat.now ≡ true }
+    ensures found { (t : TraceModel) → result ≡ Ok (Some t)
+        → (b : Bool) × IsWithin number
+        × IsCutProbe (program_tree source.now.program) (name_at (program_tree source.now.program) source.now.typed.main) flat.now b number t }
+    ensures never { (b : Bool) → result ≡ Ok None → IsWithin number
+        → NeverFalsifies (program_tree source.now.program) (name_at (program_tree source.now.program) source.now.typed.main) flat.now b number }
+{
+    if is_within(number) {
+        try_number(alloc, source, flat, number)
+    } else {
+        Ok(None)
+    }
+}
+
 /// The first probe of a threshold that falsifies, in their order.
 fn try_thresholds(alloc: Global, source: &Source, flat: &Flat) -> Result<Option<Trace>, Memory>
     requires fits { Fits (program_tree source.now.program) source.now.typed source.now.order }
     requires flat { IsFlatOf (program_tree source.now.program) (name_at (program_tree source.now.program) source.now.typed.main) flat.now }
     requires values { types_have_values flat.now ≡ true }
-    requires thresholds { All (λ t. unsigned_abs t ≤ 2 ^ 41) flat.now.thresholds }
     ensures found { (t : TraceModel) → result ≡ Ok (Some t)
-        → (b : Bool) × (c : ℤ) × Contains flat.now.thresholds c
+        → (b : Bool) × (c : ℤ) × Contains flat.now.thresholds c × IsWithin c
         × IsCutProbe (program_tree source.now.program) (name_at (program_tree source.now.program) source.now.typed.main) flat.now b c t }
-    ensures never { (b : Bool) (c : ℤ) → result ≡ Ok None → Contains flat.now.thresholds c
+    ensures never { (b : Bool) (c : ℤ) → result ≡ Ok None → Contains flat.now.thresholds c → IsWithin c
         → NeverFalsifies (program_tree source.now.program) (name_at (program_tree source.now.program) source.now.typed.main) flat.now b c }
 {
     for number in flat.thresholds.as_slice() {
-        match try_number(alloc, source, flat, *number)? {
+        match try_threshold(alloc, source, flat, *number)? {
             Some(trace) => return Ok(Some(trace)),
             None => {}
         }
@@ -120,12 +150,11 @@ fn try_thresholds(alloc: Global, source: &Source, flat: &Flat) -> Result<Option<
 /// The first probe of a source that falsifies, cut after the instant at which its replay says so, and none where no probe does. A
 /// probe is a trace of 16 instants in which each Boolean start value and input is one truth value, each integer one is one number,
 /// and each other one is the first label of its type. The numbers are 0 and then, where there are at most 256, the thresholds in
-/// rising order; each is tried with false and then with true. `flat` is the flat system of the source, and its thresholds are at
-/// most 2^41 by magnitude. `Memory` comes where memory runs out. Time grows with the probes times the flat system.
+/// rising order, but for one outside -2^63 to 2^63 - 1, which no trace has; each is tried with false and then with true. `flat` is the
+/// flat system of the source. `Memory` comes where memory runs out. Time grows with the probes times the flat system.
 pub fn probe(alloc: Global, source: &Source, flat: &Flat) -> Result<Option<Trace>, Memory>
     requires fits { Fits (program_tree source.now.program) source.now.typed source.now.order }
     requires flat { IsFlatOf (program_tree source.now.program) (name_at (program_tree source.now.program) source.now.typed.main) flat.now }
-    requires thresholds { All (λ t. unsigned_abs t ≤ 2 ^ 41) flat.now.thresholds }
     ensures found { (t : TraceModel) → result ≡ Ok (Some t)
         → (b : Bool) × (c : ℤ) × (k : ℕ)
         × FalsifiesAt (program_tree source.now.program) (name_at (program_tree source.now.program) source.now.typed.main) flat.now b c k
