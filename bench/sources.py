@@ -1,7 +1,7 @@
 #!/usr/bin/env python3
 """Prints a Lustre program to time the search through its control states by: `sources.py FAMILY N`.
 
-Each program has a node `main`, and no integers but in the last three families. FAMILY is one of
+Each program has a node `main`, and no integers before `counters`. FAMILY is one of
 
     links       N latches in a row, each a step after the one before; the observer is true
     links-bad   the same, whose observer is false once an input has come through all of them
@@ -13,6 +13,12 @@ Each program has a node `main`, and no integers but in the last three families. 
     counters    N counters, of which an input of N labels chooses the one that steps
     memories    N counters up to ten: the one that is chosen is compared with ten, and steps where it is less
     chasing     N counters: the one that is chosen steps where it is less than a number and not five ahead of the next one
+    unread      a counter up to ten beside N comparisons of inputs of their own, that nothing reads
+    unread-one  the same with N comparisons of one input
+    clamps      an input that N clamps after one another take into narrower ranges
+    stepping    N counters up to ten, of which an input of N labels chooses the one that steps; each is observed
+    conjuncts   N timers, each within three bounds of its own: an observer of N conjuncts over 3 N comparisons
+    plant       N valves, each an instance with a level, a timer and seven comparisons
 """
 import sys
 
@@ -65,6 +71,61 @@ def modes(n, shared=False):
     return program(inputs, ["m", "mode"] + names("p", n) + names("l", n), held + ["mode = m xor toggle"] + after + [ok])
 
 
+def unread(n, shared=False):
+    """A counter up to ten, and n comparisons that nothing reads."""
+    inputs = "a" if shared else ", ".join(names("a", n))
+    flags = [f"  b{i} = {'a' if shared else f'a{i}'} <= {3 * i};\n" for i in range(n)]
+    local = f"var c: int; {', '.join(names('b', n))}: bool;\n"
+    body = "  c = 0 -> if pre c < 10 then pre c + 1 else 0;\n" + "".join(flags) + "  ok = c <= 10;\n"
+    return f"node main({inputs}: int) returns (ok: bool);\n{local}let\n{body}tel\n"
+
+
+def clamps(n):
+    """An input, taken into ranges that grow narrower."""
+    steps = []
+    for i in range(n):
+        before, high, low = "a" if i == 0 else f"y{i - 1}", 200 - i, i
+        steps.append(f"  y{i} = if {before} > {high} then {high} else if {before} < {low} then {low} else {before};\n")
+    body = "".join(steps) + f"  held = 50 -> pre y{n - 1};\n  ok = {n - 1} <= held and held <= {201 - n};\n"
+    return f"node main(a: int) returns (ok: bool);\nvar held, {', '.join(names('y', n))}: int;\nlet\n{body}tel\n"
+
+
+def stepping(n):
+    """n counters up to ten, of which one steps."""
+    steps = [f"x{i} = 0 -> if at = P{i} and pre x{i} < 10 then pre x{i} + 1 else pre x{i}" for i in range(n)]
+    return integers(n, "", steps + [f"ok = {' and '.join(f'x{i} <= 10' for i in range(n))}"])
+
+
+def conjuncts(n):
+    """n timers within bounds of their own."""
+    steps, parts = [], []
+    for i in range(n):
+        steps.append(f"  t{i} = 0 -> if go{i} and pre t{i} < {20 + i} then pre t{i} + 1 else 0;\n")
+        parts.append(f"(0 <= t{i} and t{i} <= {20 + i} and (t{i} = 0 or t{i} <= {25 + i}))")
+    body = "".join(steps) + f"  ok = {' and '.join(parts)};\n"
+    return f"node main({', '.join(names('go', n))}: bool) returns (ok: bool);\nvar {', '.join(names('t', n))}: int;\nlet\n{body}tel\n"
+
+
+def plant(n):
+    """n valves: an instance each of a node with a level and a timer."""
+    valve = """node valve(go, stop: bool; flow: int) returns (ok: bool);
+var level, wait: int; full, empty, busy: bool;
+let
+  assert 0 <= flow and flow <= 4;
+  busy = false -> if go and not pre full then true else if stop or pre full then false else pre busy;
+  wait = 0 -> if busy and pre wait < 15 then pre wait + 1 else 0;
+  level = 10 -> if busy and pre level + flow <= 90 then pre level + flow else if pre level > 4 then pre level - 3 else pre level;
+  full = level >= 80;
+  empty = level < 5;
+  ok = 0 <= level and level <= 90 and wait <= 15 and not (full and empty);
+tel
+"""
+    calls = "".join(f"  ok{i} = valve(go{i}, stop, flow{i});\n" for i in range(n))
+    inputs = f"{', '.join(names('go', n))}, stop: bool; {', '.join(names('flow', n))}: int"
+    body = calls + f"  ok = {' and '.join(names('ok', n))};\n"
+    return f"{valve}node main({inputs}) returns (ok: bool);\nvar {', '.join(names('ok', n))}: bool;\nlet\n{body}tel\n"
+
+
 def choice(n):
     """A type of n labels."""
     return f"type place = enum {{ {', '.join(names('P', n))} }};\n"
@@ -114,6 +175,12 @@ FAMILIES = {
     "counters": counters,
     "memories": memories,
     "chasing": chasing,
+    "unread": unread,
+    "unread-one": lambda n: unread(n, shared=True),
+    "clamps": clamps,
+    "stepping": stepping,
+    "conjuncts": conjuncts,
+    "plant": plant,
 }
 
 

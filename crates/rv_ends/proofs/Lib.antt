@@ -1,0 +1,11 @@
+pub mod Rising
+pub mod Sided
+pub mod Stays
+pub mod Points
+pub mod Highest
+pub mod Summed
+pub mod Tightening
+pub mod Within
+pub mod Alone
+pub mod Taking
+pub mod Limiting

@@ -1,0 +1,7 @@
+pub mod Thresholds
+pub mod Claiming
+pub mod Intervals
+pub mod Sides
+pub mod Columns
+pub mod Cuts
+pub mod Tops
