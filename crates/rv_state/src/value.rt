@@ -1,5 +1,6 @@
 ghost use Rattle.std.specs.Prelude.{◌≡◌, ◌↔◌, ◌⊎◌, ℕ, ◌+◌, ◌<◌, ◌≤◌, ◌^◌, ℤ, List, ◌++◌, length, All, IsTrue, IfOk, IsErrOf, slice_index_or};
 ghost use Rattle.rv_diagram.specs.Nodes.{Valuation, IsOrderedOver};
+ghost use Rattle.rv_diagram.specs.Room.{Lacks};
 ghost use Rattle.rv_rows.specs.declared.linear.Row.{Row};
 ghost use Rattle.rv_rows.specs.Forms.{forms_width};
 ghost use Rattle.rv_rows.specs.Multipliers.{ShowsAtOnce};
@@ -61,7 +62,8 @@ impl Abstract {
 
     /// Whether every state of the other is one of its own. It is found wherever the control set of the other is within the own one, and
     /// none, one or two rows of the other show each own row at once; elsewhere false promises nothing. Both control sets are ordered for the
-    /// store, which is left as it was. Memory comes for want of memory, and Nodes where the store has no room.
+    /// store, which is left as it was. Memory comes for want of memory, and Nodes only where the store, over m variables, has no room for
+    /// `(m + 2)^2 * 2^(m + 1)` more nodes.
     pub fn includes(
         &self,
         alloc: Global,
@@ -77,6 +79,7 @@ impl Abstract {
             → All (ShowsAtOnce other.now.poly.rows) self.now.poly.rows → IsTrue yes) }
         ensures same { store.new ≡ store.old }
         ensures roomy { IsErrOf result StoreFault.Nodes → store.old.limit < 2 ^ (2 ^ store.old.variables) }
+        ensures room { IsErrOf result StoreFault.Nodes → Lacks 1 store.old }
     {
         if !is_within(store, &other.control, &self.control)? {
             return Ok(false);
@@ -87,7 +90,8 @@ impl Abstract {
 
     /// A value with the states of both. Its control set is exactly the union; its polyhedron has the points of both, over as many columns.
     /// Where the two have at most 1,024 rows together, its points meet each row of one that the other shows at once. Both control sets are
-    /// ordered for the store, which is left as it was. Memory comes for want of memory, and Nodes where the store has no room.
+    /// ordered for the store, which is left as it was. Memory comes for want of memory, and Nodes only where the store, over m variables, has no
+    /// room for `(m + 2)^2 * 2^(m + 1)` more nodes.
     pub fn join(
         &self,
         alloc: Global,
@@ -114,6 +118,7 @@ impl Abstract {
             → ShowsAtOnce self.now.poly.rows (slice_index_or other.now.poly.rows i d) → Covers a.poly.rows (slice_index_or other.now.poly.rows i d)) }
         ensures same { store.new ≡ store.old }
         ensures roomy { IsErrOf result StoreFault.Nodes → store.old.limit < 2 ^ (2 ^ store.old.variables) }
+        ensures room { IsErrOf result StoreFault.Nodes → Lacks 1 store.old }
     {
         let control = union_of(store, &self.control, &other.control)?;
         let poly = joined(alloc, &self.poly, &other.poly)?;
