@@ -2,7 +2,6 @@
 use Rattle.std.proofs.Common.{Bool, true, false, ◌||◌, cond, List, [], ◌∷◌, map, refl, Some, IsTrue, IsSome}
 use Rattle.rv_tree.specs.{Tree.NodeTree, Tree.ProgramTree, Places.Identifier, Places.is_among, Places.is_same}
 use Rattle.rv_types.specs.{Kinds.node_among, Kinds.node_named, Instances.IsNode}
-use Rattle.rv_sequence.proofs.NeedsGraph.{all_from}
 
 -- the main node has a name
 pub named_some : (p : ProgramTree) (main : Identifier) → IsNode p main → IsSome (node_named p main)

@@ -143,6 +143,8 @@ module _ (nodes : ℕ) (bytes : List ℕ) (p : ProgramTree) (main : Identifier) 
       pub verdict_tells : (j : Result Verdict StoreFault) → IfOk j (λ v. IsVerdict (control_of f) c v) → (x : Report) → SaysOfInvariant x bytes p main
           → IsUnlessLimit Check x (accepted_report nodes j)
       verdict_tells (Ok v) right x says = sure_of v right x (sure bytes p main systems rules x says)
+      verdict_tells (Err store.Nodes) right (BadFile e) says = absurd (no_fault e (sure bytes p main systems rules (BadFile e) says f flat))
+      verdict_tells (Err store.Memory) right (BadFile e) says = inr refl
       verdict_tells (Err store.Nodes) right x says = inr tt
       verdict_tells (Err store.Memory) right x says = inr tt
 
@@ -174,6 +176,7 @@ module _ (nodes : ℕ) (bytes : List ℕ) (p : ProgramTree) (main : Identifier) 
     reported (Ends n) first = refl
 
     none_left : e ≡ NoMemory → (x : Report) → IsUnlessLimit Check x (file_report e)
+    none_left none (BadFile fault) = inr (ap file_report none)
     none_left none x = inr (subst (λ (y : FileFault). IsLimit Check (file_report y)) (sym none) tt)
 
     module _ (only : (d : Certificate) → IsDocument (certificate_rule f) (records_of bytes) d → e ≡ NoMemory)

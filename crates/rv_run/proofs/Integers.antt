@@ -1,5 +1,5 @@
 -- A flat system without integers is that of a program without integers, and the other way round.
-use Rattle.std.proofs.Common.{◌≡◌, ℕ, ◌<◌, Bool, true, false, List, [], map, length, get_or, refl, sym, ◌∙◌, ap, arith, Some, slice_get}
+use Rattle.std.proofs.Common.{◌≡◌, ℕ, ◌<◌, true, false, List, [], map, length, get_or, refl, sym, ◌∙◌, ap, arith, Some, slice_get}
 use Rattle.std.proofs.lemmas.List.{length-map, get_or-map, get_or_default}
 use Rattle.std.proofs.{lemmas.List.Elements.All-contains, lemmas.Bool.false_from_ne_true, lemmas.Option.slice_get-get_or}
 use Rattle.std.specs.List.{Contains}

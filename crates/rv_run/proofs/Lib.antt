@@ -14,6 +14,7 @@ mod Faults
 mod Attached
 mod Claimed
 mod Cut
+mod Loading
 pub mod Thresholds
 mod Inspected
 mod Judged

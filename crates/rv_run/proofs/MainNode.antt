@@ -1,5 +1,5 @@
 -- The main node of a program that keeps every rule.
-use Rattle.std.proofs.Common.{◌≡◌, ◌<◌, Bool, true, false, cond, List, [], ◌∷◌, map, length, refl, sym, ◌∙◌, ap, subst, arith, Option, Some, IsTrue, IsSome}
+use Rattle.std.proofs.Common.{◌≡◌, ◌<◌, Bool, true, false, cond, List, [], ◌∷◌, length, refl, sym, ◌∙◌, ap, subst, arith, Option, Some, IsTrue, IsSome}
 use Rattle.std.proofs.Common.{unwrap_or, None as Nothing}
 use Rattle.std.proofs.lemmas.List.{length-map}
 use Rattle.rv_tree.specs.{declared.tree.Decl.Decl, declared.tree.Name.Name, Tree.NodeTree, Tree.ProgramTree, Places.Identifier, Places.is_among}

@@ -13,7 +13,8 @@ use Rattle.rv_source.specs.Sources.{IsSource, IsSourceOf, HasSourceCause, AreSam
 use Rattle.rv_run.specs.Checked.{IsAnswerOf, IsDocumentAnswer, IsDocumentReport, IsLimit, IsReportOf, IsUnlessCut, IsUnlessLimit}
 use Rattle.rv_run.specs.declared.report.Report.TheVariants.{Safe, Violated, Unknown, Nodes, Accepted, Rejected, Falsified, AssertionFails, NeverFalse, Outgrown}
 use Rattle.rv_run.specs.declared.report.Report.TheVariants.{Made, Toured, Refused, BadFile, TooLong, ReadFault, Usage, Memory}
-use Rattle.rv_run.specs.{Answers.IsOnSource, Answers.IsRefusalUnlessCutOff, Answers.IsVerdict, declared.words.Task.Task, declared.words.Task.TheVariants.Replay}
+use Rattle.rv_run.specs.Answers.{IsOnSource, IsRefusalUnlessCutOff, IsUnlessCutOff, IsUnlessLimited, IsVerdict}
+use Rattle.rv_run.specs.{declared.words.Task.Task, declared.words.Task.TheVariants.Replay}
 use Rattle.rv_run.specs.{declared.words.Task.TheVariants.Check, Programs.OnProgram, Programs.IsRefusedFor, Refusals.refusal_of, declared.report.Report.Report}
 use Rattle.rv_run.specs.{Traced.IsTraceAnswer, Traced.IsTraceReport, Traced.IsUnlessNoMemory}
 use Rattle.rv_fixpoint.specs.declared.end.Left.{Left}
@@ -219,20 +220,32 @@ document-not_verdict x is (inl (c, h)) = document-not_safe x c is h
 document-not_verdict x is (inr (inl (t, h))) = document-not_violated x t is h
 document-not_verdict x is (inr (inr (l, h))) = document-not_unknown x l is h
 
+replay_limit : (expected x : Report) → IsLimit Replay x → IsUnlessCutOff expected x
+replay_limit expected Memory limit = inr (inr refl)
+replay_limit expected x limit = absurd limit
+
+check_limit : (expected x : Report) → IsLimit Check x → IsUnlessLimited expected x
+check_limit expected Memory limit = inr (inr (inr refl))
+check_limit expected (Nodes n) limit = inr (inl (n, refl))
+check_limit expected x limit = absurd limit
+
 pub cut_off : (task : Task) (expected x : Report) → IsUnlessLimit task expected x → IsUnlessCut task expected x
 cut_off Replay expected x (inl is) = inl is
+cut_off Replay (BadFile fault) x (inr none) = inr (inr none)
+cut_off Replay expected x (inr limit) = replay_limit expected x limit
+cut_off Check (BadFile fault) x (inl is) = inl is
+cut_off Check (BadFile fault) x (inr none) = inr (inr none)
 cut_off Check expected x (inl is) = inl is
-cut_off Replay expected Memory (inr limit) = inr (inr refl)
-cut_off Check expected Memory (inr limit) = inr (inr (inr refl))
-cut_off Check expected (Nodes n) (inr limit) = inr (inl (n, refl))
-cut_off task expected x (inr limit) = absurd limit
+cut_off Check expected x (inr limit) = check_limit expected x limit
 
 pub cut_memory : (task : Task) (expected x : Report) → x ≡ Memory → IsUnlessCut task expected x
 cut_memory Replay expected x none = inr (inr none)
+cut_memory Check (BadFile fault) x none = inr (inr none)
 cut_memory Check expected x none = inr (inr (inr none))
 
 pub cut_read_fault : (task : Task) (expected : Report) → IsUnlessCut task expected ReadFault
 cut_read_fault Replay expected = inr (inl refl)
+cut_read_fault Check (BadFile fault) = inr (inl refl)
 cut_read_fault Check expected = inr (inr (inl refl))
 
 -- a report on a file that is too long is no other
@@ -269,6 +282,7 @@ trace-not_nodes x n (inr none) h = memory-not_nodes (sym none ∙ h)
 
 pub trace-unless : (expected x : Report) → IsUnlessNoMemory expected x → IsUnlessLimit Replay expected x
 trace-unless expected x (inl is) = inl is
+trace-unless (BadFile fault) x (inr none) = inr none
 trace-unless expected x (inr none) = inr (subst (IsLimit Replay) (sym none) tt)
 
 inner : (f g : SourceFault) → Refused f ≡ Refused g → f ≡ g

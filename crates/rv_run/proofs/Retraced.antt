@@ -16,7 +16,7 @@ use Rattle.rv_replay.specs.Replays.{FailsAt, IsFalsifiedAt, IsReplay, IsUnlessMe
 use Rattle.rv_replay.specs.{declared.replayed.Replayed.Replayed, declared.replayed.ReplayFault.ReplayFault, Traces.IsFlatTrace}
 use Rattle.rv_replay.specs.declared.replayed.Replayed.TheVariants as replayed
 use Rattle.rv_replay.specs.declared.replayed.ReplayFault.TheVariants as replay_fault
-use Rattle.rv_run.specs.declared.report.Report.TheVariants.{Falsified, AssertionFails, NeverFalse, Outgrown, BadFile, Memory}
+use Rattle.rv_run.specs.declared.report.Report.TheVariants.{Falsified, AssertionFails, NeverFalse, Outgrown, BadFile}
 use Rattle.rv_run.specs.Traced.{IsTraceAnswer, IsTraceDocument, IsTraceReport, IsUnlessNoMemory, SaysOfTrace}
 use Rattle.rv_run.specs.{declared.report.Report.Report, Loaded.file_report, Loaded.replay_report}
 

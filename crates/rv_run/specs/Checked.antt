@@ -62,9 +62,14 @@ IsLimit task report = ⊥
 abbrev pub IsAnswerOf : Task → Report → Type 0
 IsAnswerOf task report = IsReportOf task report ⊎ IsLimit task report
 
+-- The same in place of an expected report. A file that is no document is told before any diagram is made, so no limit stands in its place.
+abbrev pub IsLimitFor : Task → Report → Report → Type 0
+IsLimitFor task (BadFile fault) report = report ≡ Memory
+IsLimitFor task expected report = IsLimit task report
+
 -- It is this one, unless the same.
 abbrev pub IsUnlessLimit : Task → Report → Report → Type 0
-IsUnlessLimit task expected report = (report ≡ expected) ⊎ IsLimit task report
+IsUnlessLimit task expected report = (report ≡ expected) ⊎ IsLimitFor task expected report
 
 -- The report is one that a command with a document can give once its words and its source have been read.
 abbrev pub IsDocumentReport : Report → Type 0
@@ -87,7 +92,8 @@ IsDocumentAnswer (Outgrown at place) = Unit {0}
 IsDocumentAnswer (BadFile fault) = Unit {0}
 IsDocumentAnswer report = ⊥
 
--- The report is this one, unless a file could not be read, there was no memory, or a check grew past the limit of diagrams.
+-- The report is this one, unless a file could not be read, there was no memory, or a check of a certificate grew past the limit of diagrams.
 abbrev pub IsUnlessCut : Task → Report → Report → Type 0
-IsUnlessCut Replay = IsUnlessCutOff
-IsUnlessCut Check = IsUnlessLimited
+IsUnlessCut Replay expected = IsUnlessCutOff expected
+IsUnlessCut Check (BadFile fault) = IsUnlessCutOff (BadFile fault)
+IsUnlessCut Check expected = IsUnlessLimited expected

@@ -9,3 +9,4 @@ pub mod Loaded
 pub mod Traced
 pub mod Checked
 pub mod Replies
+pub mod Loading

@@ -1,7 +1,7 @@
 //! Loading a file that must not be longer than a limit.
 
-ghost use Rattle.std.specs.Prelude.{◌≡◌, ◌+◌, ◌<◌, ◌≤◌, ℕ, IsTrue, IfOk, IsErrOf, length};
-ghost use Rattle.rv_base.specs.Causes.{Rose};
+ghost use Rattle.std.specs.Prelude.{◌≡◌, ◌+◌, ◌<◌, ◌≤◌, ℕ, IsTrue, IfOk, IsErrOf, OnOk, length};
+ghost use Rattle.rv_base.specs.Causes.{Rose, raised};
 ghost use Rattle.rv_base.specs.Shelf.{HoldsUnder};
 
 use rv_base::{Files, LoadFault};
@@ -23,7 +23,8 @@ pub enum WholeFault {
 }
 
 /// All bytes of a file, where there are no more than the limit. `TooLong` exactly where the load gave one byte more
-/// than the limit; `Failed` only where the files count one more fault, and they never count fewer.
+/// than the limit; `Failed` only where the files count one more fault, and they never count fewer. The files count one load,
+/// and none where there was no memory.
 pub fn load_whole<F: Files>(
     alloc: Global,
     files: &mut F,
@@ -37,6 +38,10 @@ pub fn load_whole<F: Files>(
         → (n ≡ limit + 1) × HoldsUnder (F.held files.old) name.now (λ bytes. limit < length bytes) }
     ensures failed { IsErrOf result WholeFault.Failed → Rose (F.faults files.old) (F.faults files.new) }
     ensures later { F.faults files.old ≤ F.faults files.new }
+    ensures counted { OnOk result (F.loads files.new ≡ raised (F.loads files.old)) }
+    ensures too_long_counted { (n : ℕ) → IsErrOf result (WholeFault.TooLong n) → F.loads files.new ≡ raised (F.loads files.old) }
+    ensures failed_counted { IsErrOf result WholeFault.Failed → F.loads files.new ≡ raised (F.loads files.old) }
+    ensures memory_not_counted { IsErrOf result WholeFault.Memory → F.loads files.new ≡ F.loads files.old }
     ensures same_held { F.held files.new ≡ F.held files.old }
     ensures same_serves { F.serves files.new ≡ F.serves files.old }
 {

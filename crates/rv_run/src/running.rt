@@ -15,6 +15,7 @@ ghost use Rattle.rv_run.specs.declared.report.Report.{Report as ReportModel};
 ghost use Rattle.rv_words.specs.Words.{texts, command};
 ghost use Rattle.rv_run.specs.Words.{IsNamed, wanted, wanted_on_file};
 ghost use Rattle.rv_run.specs.Replies.{Replies};
+ghost use Rattle.rv_run.specs.Loading.{IsBehind, IsBehindSource, IsOneAtMost, IsRefusedSource, LoadsInOrder};
 ghost use Rattle.rv_make.specs.Made.{made_text};
 ghost use Rattle.rv_run.specs.Answers.{OnFile, OnDocument, OnSource, Tells, IsTold, IsToldDocument, IsVerdict, IsNodesReport, IsTouredReport, IsShown};
 ghost use Rattle.rv_run.specs.Answers.{IsUnlessCutOff, IsJudgedUnlessLimited, IsUnlessLimited, IsSafeUnlessCutOff, IsViolatedUnlessCutOff};
@@ -75,6 +76,9 @@ fn report_on_document<F: Files>(
     ensures too_long { (n : ℕ) → result ≡ Report.TooLong n
         → (n ≡ FILE_LIMIT + 1) × HoldsUnder (F.held files.old) other.entry.file.now (IsLongDocument bytes.now node.now) }
     ensures read_fault { result ≡ Report.ReadFault → Rose (F.faults files.old) (F.faults files.new) }
+    ensures behind { (F.loads files.new ≡ F.loads files.old) ⊎ IsBehind bytes.now node.now (F.loads files.old) (F.loads files.new) }
+    ensures refused_first { (fault : SourceFault) → IsRefusedFor fault bytes.now node.now → F.loads files.new ≡ F.loads files.old }
+    ensures read_fault_behind { result ≡ Report.ReadFault → IsBehind bytes.now node.now (F.loads files.old) (F.loads files.new) }
     ensures only { IsDocumentReport result }
     ensures only_told { (report : ReportModel) (document : List ℕ) → Tells (F.held files.old) other.entry.file.now document
         → OnAccepted (SaysOf other.entry.task report) bytes.now node.now document → IsUnlessCut other.entry.task report result }
@@ -145,6 +149,7 @@ fn report_on_file<F: Files>(alloc: Global, command: FileCommand, files: &mut F) 
     requires served { (name : List ℕ) → IsNamed (wanted_on_file command) name → IsTrue (F.serves files.old name) }
     ensures replies { Replies (F.held files.old) (wanted_on_file command.entry) result.report result.document.items }
     ensures read_fault { result.report ≡ Report.ReadFault → Rose (F.faults files.old) (F.faults files.new) }
+    ensures loads { LoadsInOrder (F.held files.old) (wanted_on_file command.entry) result.report (F.loads files.old) (F.loads files.new) }
     ensures usage { result.report ≡ Report.Usage → ⊥ }
     ensures same_held { F.held files.new ≡ F.held files.old }
     ensures same_serves { F.serves files.new ≡ F.serves files.old }
@@ -169,6 +174,7 @@ fn report_on<F: Files>(alloc: Global, words: &[String], files: &mut F) -> Answer
     requires { (name : List ℕ) → IsNamed (wanted (texts words.now)) name → IsTrue (F.serves files.old name) }
     ensures replies { Replies (F.held files.old) (wanted (texts words.now)) result.report result.document.items }
     ensures read_fault { result.report ≡ Report.ReadFault → Rose (F.faults files.old) (F.faults files.new) }
+    ensures loads { LoadsInOrder (F.held files.old) (wanted (texts words.now)) result.report (F.loads files.old) (F.loads files.new) }
     ensures usage { result.report ≡ Report.Usage → command (texts words.now) ≡ None }
     ensures only_usage { command (texts words.now) ≡ None → IsUnlessNoMemory Report.Usage result.report }
     ensures same_held { F.held files.new ≡ F.held files.old }
@@ -233,7 +239,9 @@ fn show<S: Sink>(alloc: Global, answer: &Answer, out: &mut S) -> Sent
 /// answers the text of a source with N calls after one another, and `tour N` that this source is safe. The option `--nodes` says how many
 /// nodes the diagrams of `prove` and `check` may have; `--locations` and `--accelerate` of `prove` are read, and change nothing yet.
 /// Usage comes exactly where the words are none of these, as the definition of their command says, unless there is no memory to read
-/// them. ReadFault comes only where the files count one more fault, and Memory where there is no memory.
+/// them. ReadFault comes only where the files count one more fault, and Memory where there is no memory. The first step that refuses
+/// gives the report: no file is loaded where the words name none, the document only behind a source that is accepted, so a refused
+/// source is told whether its document can be read or not, and ReadFault after a second load comes of an accepted source alone.
 /// Beside these two, TooLong comes exactly where the source is longer than 1,048,576 bytes, or where it is accepted and the document
 /// is longer than 67,108,864 bytes; Refused exactly where the source's bytes have no tree, with the fault of their first offending
 /// token, or where their program breaks a rule with this main node, with its first fault of names, types and clocks, and then of
@@ -248,8 +256,8 @@ fn show<S: Sink>(alloc: Global, answer: &Answer, out: &mut S) -> Sent
 /// instant that ends the replay decides, by Outgrown, AssertionFails or Falsified in this order, and NeverFalse comes exactly where
 /// there is none. `check` answers BadFile exactly where the file's bytes are the document of no certificate of the program, with their
 /// first fault; otherwise Accepted where the certificate is accepted, and Rejected with the first reason where it is not. Nodes comes
-/// in place of what `prove`, `check` and `tour` answer only where the program has many diagram variables for the number of nodes that the
-/// diagrams may have, which is told, and of `prove` and `tour` only where no probe falsifies.
+/// in place of Accepted and Rejected, and of what `prove` and `tour` answer, only where the program has many diagram variables for the
+/// number of nodes that the diagrams may have, which is told, and of `prove` and `tour` only where no probe falsifies.
 pub fn run<F: Files, S: Sink>(
     alloc: Global,
     words: &Vec<String>,
@@ -296,6 +304,18 @@ pub fn run<F: Files, S: Sink>(
         → ((n ≡ SOURCE_LIMIT + 1) × OnFile (F.held files.old) (wanted (texts words.now.items)) (λ bytes _. SOURCE_LIMIT < length bytes))
         ⊎ ((n ≡ FILE_LIMIT + 1) × (task : TaskModel) × OnDocument (F.held files.old) (wanted (texts words.now.items)) task IsLongDocument) }
     ensures read_fault { result.report ≡ Report.ReadFault → Rose (F.faults files.old) (F.faults files.new) }
+    ensures read_fault_load { result.report ≡ Report.ReadFault → (F.loads files.new ≡ raised (F.loads files.old))
+        ⊎ IsBehindSource (F.held files.old) (wanted (texts words.now.items)) (F.loads files.old) (F.loads files.new) }
+    ensures two_loads { IsOneAtMost (F.loads files.old) (F.loads files.new)
+        ⊎ IsBehindSource (F.held files.old) (wanted (texts words.now.items)) (F.loads files.old) (F.loads files.new) }
+    ensures no_load { (wanted (texts words.now.items)).named ≡ None → F.loads files.new ≡ F.loads files.old }
+    ensures one_load { (wanted (texts words.now.items)).beside ≡ None → IsOneAtMost (F.loads files.old) (F.loads files.new) }
+    ensures refused_load { (fault : SourceFault) → result.report ≡ Report.Refused fault → F.loads files.new ≡ raised (F.loads files.old) }
+    ensures too_long_load { result.report ≡ Report.TooLong (SOURCE_LIMIT + 1) → F.loads files.new ≡ raised (F.loads files.old) }
+    ensures only_refused_load { (fault : SourceFault) → IsTold (F.held files.old) (wanted (texts words.now.items)) (IsRefusedSource fault)
+        → IsOneAtMost (F.loads files.old) (F.loads files.new) }
+    ensures only_too_long_load { IsTold (F.held files.old) (wanted (texts words.now.items)) (λ bytes _. SOURCE_LIMIT < length bytes)
+        → IsOneAtMost (F.loads files.old) (F.loads files.new) }
     ensures made { (source : List ℕ) → result.report ≡ Report.Made source
         → (n : ℕ) × ((wanted (texts words.now.items)).made ≡ Some n) × (source ≡ made_text n) }
     ensures toured { (n size : ℕ) (c : CertificateModel) → result.report ≡ Report.Toured n size c
@@ -345,7 +365,7 @@ pub fn run<F: Files, S: Sink>(
         → IsUnlessLimited (Report.Rejected reason) result.report }
     ensures only_bad_invariant { (fault : FileFault)
         → IsToldDocument (F.held files.old) (wanted (texts words.now.items)) tasks.Check (OnAccepted (IsInvariantFault fault))
-        → IsUnlessLimited (Report.BadFile fault) result.report }
+        → IsUnlessCutOff (Report.BadFile fault) result.report }
     ensures only_refused { (fault : SourceFault) → IsTold (F.held files.old) (wanted (texts words.now.items))
         (λ bytes node. (length bytes ≤ SOURCE_LIMIT) × IsRefusedFor fault bytes node)
         → IsRefusalUnlessCutOff fault result.report }

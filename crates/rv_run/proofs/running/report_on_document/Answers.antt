@@ -4,7 +4,7 @@ use Rattle.rv_tree.specs.{Tree.ProgramTree, Tree.program_tree, Places.Identifier
 use Rattle.rv_types.specs.{Instances.name_at, Lists.sites_of}
 use Rattle.rv_meaning.specs.Runs.{IsSafe}
 use Rattle.rv_run.specs.{Answers.IsRefusalUnlessCutOff, declared.report.Report.TheVariants.Memory, declared.report.Report.TheVariants.ReadFault}
-use Rattle.rv_run.specs.{Checked.IsDocumentAnswer, Checked.IsDocumentReport, Checked.IsReportOf, Checked.SaysOf, Programs.HasManyVariables, Programs.WithRuns}
+use Rattle.rv_run.specs.{Checked.IsDocumentAnswer, Checked.IsDocumentReport, Checked.IsReportOf, Checked.SaysOf, Programs.HasManyVariables, Programs.IsProgram, Programs.WithRuns}
 use Rattle.rv_run.proofs.Attached.{document_said, document_told, long-not_said, long_said, whole-not_long}
 use Rattle.rv_run.proofs.Judging.{with_runs}
 use Rattle.rv_run.proofs.Reported.{answer-of_document, answer-reports, cut_memory, cut_read_fault, document-not_long, document-not_read_fault}
@@ -29,6 +29,9 @@ returns-in-Err g c =
       refused = λ found h. refusal-refused bytes node fault found c.in-Err.ensures.refused (sym is ∙ h);
       too_long = λ n h. absurd (refusal-not_long fault n (sym is ∙ h));
       read_fault = λ h. absurd (refusal-not_read_fault fault (sym is ∙ h));
+      behind = inl refl;
+      refused_first = λ found h. refl;
+      read_fault_behind = λ h. absurd (refusal-not_read_fault fault (sym is ∙ h));
       only = subst IsDocumentReport (sym is) (refusal-of_document fault);
       only_told = λ x document tells on. cut_memory c.args.other.task x c.refusal.result
           (is ∙ refused_accepted bytes node (SaysOf c.args.other.task x document) fault c.in-Err.ensures.only on.2);
@@ -153,3 +156,46 @@ returns-clause-only_refused g c = λ fault h. absurd (c.in-Ok.ensures.only_refus
 
 pub returns-clause-only_too_long : goal.returns-clause-only_too_long
 returns-clause-only_too_long g c = λ document tells long. inr (inr refl)
+
+pub returns-in-Ok-load_whole-clause-refused_first : goal.returns-in-Ok-load_whole-clause-refused_first
+returns-in-Ok-load_whole-clause-refused_first g c = λ fault h. absurd (c.in-Ok.ensures.only_refused fault h)
+
+pub returns-in-Err-TooLong-clause-refused_first : goal.returns-in-Err-TooLong-clause-refused_first
+returns-in-Err-TooLong-clause-refused_first g c = λ fault h. absurd (c.in-Ok.ensures.only_refused fault h)
+
+pub returns-in-Err-Failed-clause-refused_first : goal.returns-in-Err-Failed-clause-refused_first
+returns-in-Err-Failed-clause-refused_first g c = λ fault h. absurd (c.in-Ok.ensures.only_refused fault h)
+
+pub returns-clause-refused_first : goal.returns-clause-refused_first
+returns-clause-refused_first g c = λ fault h. absurd (c.in-Ok.ensures.only_refused fault h)
+
+pub returns-in-Ok-load_whole-clause-read_fault_behind : goal.returns-in-Ok-load_whole-clause-read_fault_behind
+returns-in-Ok-load_whole-clause-read_fault_behind g c = λ h. absurd (document-not_read_fault c.args.other.task c.report_on_bytes.result
+    c.report_on_bytes.ensures.only h)
+
+pub returns-in-Err-TooLong-clause-read_fault_behind : goal.returns-in-Err-TooLong-clause-read_fault_behind
+returns-in-Err-TooLong-clause-read_fault_behind g c = λ h. absurd (long-not_read_fault _ h)
+
+pub returns-in-Err-Failed-clause-read_fault_behind : goal.returns-in-Err-Failed-clause-read_fault_behind
+returns-in-Err-Failed-clause-read_fault_behind g c = λ h. (
+  c.in-Err-Failed.ensures.failed_counted (ap Err c.in-Err-Failed.field-0-is),
+  told c.args.bytes.now c.args.node.now c.in-Ok.source c.in-Ok.ensures.found IsProgram tt,
+)
+
+pub returns-in-Ok-load_whole-clause-behind : goal.returns-in-Ok-load_whole-clause-behind
+returns-in-Ok-load_whole-clause-behind g c = inr (
+  c.in-Ok-load_whole.ensures.counted,
+  told c.args.bytes.now c.args.node.now c.in-Ok.source c.in-Ok.ensures.found IsProgram tt,
+)
+
+pub returns-in-Err-TooLong-clause-behind : goal.returns-in-Err-TooLong-clause-behind
+returns-in-Err-TooLong-clause-behind g c = inr (
+  c.in-Err-TooLong.ensures.too_long_counted c.in-Err-TooLong.count (ap Err c.in-Err-TooLong.field-0-is),
+  told c.args.bytes.now c.args.node.now c.in-Ok.source c.in-Ok.ensures.found IsProgram tt,
+)
+
+pub returns-in-Err-Failed-clause-behind : goal.returns-in-Err-Failed-clause-behind
+returns-in-Err-Failed-clause-behind g c = inr (
+  c.in-Err-Failed.ensures.failed_counted (ap Err c.in-Err-Failed.field-0-is),
+  told c.args.bytes.now c.args.node.now c.in-Ok.source c.in-Ok.ensures.found IsProgram tt,
+)

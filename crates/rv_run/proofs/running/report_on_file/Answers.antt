@@ -1,4 +1,4 @@
-use Rattle.std.proofs.Common.{◌≡◌, ℕ, ◌≤◌, ◌<◌, inl, inr, Bool, List, length, IsTrue, Option, Some, None, refl, sym, ◌∙◌, ap, subst, arith}
+use Rattle.std.proofs.Common.{◌≡◌, ℕ, ◌+◌, ◌≤◌, ◌<◌, inl, inr, Bool, List, length, IsTrue, Option, Some, None, refl, sym, ◌∙◌, ap, subst, arith}
 use Rattle.std.specs.Prelude.{option_map}
 use Rattle.rv_base.specs.{Limits.source_limit, Shelf.Shelf, Shelf.HoldsUnder}
 use Rattle.rv_meaning.specs.Runs.{IsSafe}
@@ -12,6 +12,8 @@ use Rattle.rv_run.proofs.Named.{no_document, on_document, on_file, told_of, told
 use Rattle.rv_run.proofs.Reported.{document-not_made, document-not_safe, document-not_toured, document-not_unknown, document-not_usage, document-not_verdict}
 use Rattle.rv_run.proofs.Reported.{document-not_violated, source-not_document}
 use Rattle.rv_base.proofs.Options.{some_none}
+use Rattle.rv_run.specs.Loading.{IsAcceptedSource, IsRefusedSource}
+use Rattle.rv_run.proofs.Loading.{behind_source, loaded_once, one_more, source-no_document}
 use Rattle.rv_run.proofs.running.report_on_file.Goals as goal
 
 pub load_whole-requires : goal.load_whole-requires
@@ -83,6 +85,7 @@ returns-in-None g c =
         only_toured = λ n is. absurd (none_some n is);
       };
       read_fault = λ h. absurd (let bad : IsOnSource ReadFault = subst IsOnSource h answer.only in bad);
+      loads = loaded_once held w (file, node) r _ _ named c.in-Ok.ensures.counted;
       usage = λ h. absurd (let bad : IsOnSource Usage = subst IsOnSource h answer.only in bad);
       same_held = c.load_whole.ensures.same_held;
       same_serves = c.load_whole.ensures.same_serves;
@@ -112,6 +115,7 @@ returns g c =
     same told in
     let attach : (P : List ℕ → List ℕ → List ℕ → Type 0) → HoldsUnder held other.file.now (P given node) → OnDocument held w other.task P = λ P h.
     on_document held w (file, node) (other.task, other.file.now) loaded given source_limit P named with_other whole same h in
+    let accepted : OnProgram IsProgram given node → OnFile held w IsAcceptedSource = λ on. lift IsAcceptedSource (fits, on) in
     let attached : (P : List ℕ → List ℕ → List ℕ → Type 0) (task : Task) (told : IsToldDocument held w task P)
     → (task ≡ other.task) × Tells held other.file.now told.document × P given node told.document = λ P task told.
     told_of_document held w (file, node) (other.task, other.file.now) loaded given source_limit P named with_other whole same task told in
@@ -163,6 +167,16 @@ returns g c =
         only_toured = λ n is. absurd (none_some n is);
       };
       read_fault = λ h. let rose = answer.read_fault h in let later = c.load_whole.ensures.later in omega (arith, rose, later);
+      loads = record {
+        most = one_more held w given node _ _ _ c.in-Ok.ensures.counted accepted answer.behind;
+        unnamed = λ none. absurd (some_none (file, node) none);
+        alone = λ none. absurd (some_none (other.task, other.file.now) (sym with_other ∙ none));
+        refused = λ fault h. answer.refused_first fault (answer.refused fault h) ∙ c.in-Ok.ensures.counted;
+        too_long = λ h. absurd (source-no_document (answer.too_long (source_limit + 1) h).0);
+        read_fault = λ h. inr (behind_source held w given node _ _ _ c.in-Ok.ensures.counted accepted (answer.read_fault_behind h));
+        told_refused = λ fault told. inr (answer.refused_first fault (back (IsRefusedSource fault) told).1 ∙ c.in-Ok.ensures.counted);
+        told_too_long = λ told. let over = back (λ bytes node. source_limit < length bytes) told in absurd (omega (arith, over, fits));
+      };
       usage = λ h. absurd (document-not_usage r answer.only h);
       same_held = answer.same_held ∙ kept;
       same_serves = answer.same_serves ∙ c.load_whole.ensures.same_serves;

@@ -1,4 +1,4 @@
-use Rattle.std.proofs.Common.{◌≤◌, ◌<◌, ◌+◌, ◌⊎◌, ℕ, List, length, subst, sym, ◌≡◌, None, Some}
+use Rattle.std.proofs.Common.{◌≤◌, ◌<◌, ◌+◌, ◌⊎◌, ℕ, List, length, ap, subst, sym, ◌≡◌, None, Some}
 use Rattle.std.specs.{Prelude.String, Global.Global}
 use Rattle.rv_replay.specs.Replays.{FailsAt, IsFalsifiedAt, NeverEnds, OutgrowsAt}
 use Rattle.rv_make.specs.Made.{made_text}
@@ -15,6 +15,7 @@ use Rattle.rv_meaning.specs.Runs.{IsSafe}
 use Rattle.rv_words.specs.Words.{texts, command}
 use Rattle.rv_falsify.specs.Falsifying.{IsFalsifying}
 use Rattle.rv_run.proofs.More.{file_more, is_shown, of_check, of_either, of_replay, runs_more}
+use Rattle.rv_run.proofs.Loading.{same_words}
 use Rattle.rv_run.proofs.running.run.Goals as goal
 
 pub returns-clause-not_too_long : goal.returns-clause-not_too_long
@@ -85,7 +86,7 @@ returns-clause-only_rejected g c = λ reason.
 pub returns-clause-only_bad_invariant : goal.returns-clause-only_bad_invariant
 returns-clause-only_bad_invariant g c = λ fault.
     subst (λ (ws : List (String Global)). IsToldDocument (g.F.Files.held c.args.files.now) (wanted (texts ws)) Check (OnAccepted (IsInvariantFault fault))
-    → IsUnlessLimited (BadFile fault) c.report_on-answer.result.report)
+    → IsUnlessCutOff (BadFile fault) c.report_on-answer.result.report)
     c.as_slice.ensures.value (c.report_on-answer.ensures.replies.only_told Check (BadFile fault))
 
 pub returns-clause-too_long : goal.returns-clause-too_long
@@ -298,3 +299,39 @@ returns-clause-same_held g c = c.report_on-answer.ensures.same_held
 
 pub returns-clause-same_serves : goal.returns-clause-same_serves
 returns-clause-same_serves g c = c.report_on-answer.ensures.same_serves
+
+pub returns-clause-read_fault_load : goal.returns-clause-read_fault_load
+returns-clause-read_fault_load g c =
+    let loads = same_words (g.F.Files.held c.args.files.now) (wanted (texts c.as_slice.result.now)) _ _ _ _
+    (ap (λ (ws : List (String Global)). wanted (texts ws)) c.as_slice.ensures.value) c.report_on-answer.ensures.loads in loads.read_fault
+
+pub returns-clause-no_load : goal.returns-clause-no_load
+returns-clause-no_load g c =
+    let loads = same_words (g.F.Files.held c.args.files.now) (wanted (texts c.as_slice.result.now)) _ _ _ _
+    (ap (λ (ws : List (String Global)). wanted (texts ws)) c.as_slice.ensures.value) c.report_on-answer.ensures.loads in loads.unnamed
+
+pub returns-clause-one_load : goal.returns-clause-one_load
+returns-clause-one_load g c =
+    let loads = same_words (g.F.Files.held c.args.files.now) (wanted (texts c.as_slice.result.now)) _ _ _ _
+    (ap (λ (ws : List (String Global)). wanted (texts ws)) c.as_slice.ensures.value) c.report_on-answer.ensures.loads in loads.alone
+
+pub returns-clause-only_refused_load : goal.returns-clause-only_refused_load
+returns-clause-only_refused_load g c =
+    let loads = same_words (g.F.Files.held c.args.files.now) (wanted (texts c.as_slice.result.now)) _ _ _ _
+    (ap (λ (ws : List (String Global)). wanted (texts ws)) c.as_slice.ensures.value) c.report_on-answer.ensures.loads in loads.told_refused
+
+pub returns-clause-only_too_long_load : goal.returns-clause-only_too_long_load
+returns-clause-only_too_long_load g c =
+    let loads = same_words (g.F.Files.held c.args.files.now) (wanted (texts c.as_slice.result.now)) _ _ _ _
+    (ap (λ (ws : List (String Global)). wanted (texts ws)) c.as_slice.ensures.value) c.report_on-answer.ensures.loads in loads.told_too_long
+
+pub returns-clause-refused_load : goal.returns-clause-refused_load
+returns-clause-refused_load g c = c.report_on-answer.ensures.loads.refused
+
+pub returns-clause-too_long_load : goal.returns-clause-too_long_load
+returns-clause-too_long_load g c = c.report_on-answer.ensures.loads.too_long
+
+pub returns-clause-two_loads : goal.returns-clause-two_loads
+returns-clause-two_loads g c =
+    let loads = same_words (g.F.Files.held c.args.files.now) (wanted (texts c.as_slice.result.now)) _ _ _ _
+    (ap (λ (ws : List (String Global)). wanted (texts ws)) c.as_slice.ensures.value) c.report_on-answer.ensures.loads in loads.most
