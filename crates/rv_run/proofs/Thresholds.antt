@@ -22,7 +22,7 @@ module _ (p : ProgramTree) (small : HasSmallNumbers p) where
   number_small z (in_constant c at v site inside among is) = subst (λ y. unsigned_abs y ≤ too_heavy) is (small.in_constants c at v site inside among)
   number_small z (constant among) = small.constants z among
 
-  threshold_small : (y : ℤ) → IsThreshold p y → unsigned_abs y ≤ 2 ^ 41
+  pub threshold_small : (y : ℤ) → IsThreshold p y → unsigned_abs y ≤ 2 ^ 41
   threshold_small y (z, number, inl among) = beside_small z y (number_small z number) among
   threshold_small y (z, number, inr among) = opposite_small y (beside_small z (neg_ℤ y) (number_small z number) among)
 

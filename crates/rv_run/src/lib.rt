@@ -9,6 +9,7 @@
 
 mod inspect;
 mod judge;
+mod laws;
 mod load;
 mod made;
 mod prove;
@@ -18,5 +19,6 @@ mod running;
 mod verdict;
 mod words;
 
+pub use laws::probed_texts;
 pub use report::{Outcome, Report, Sent, status_of_report, text};
 pub use running::run;

@@ -3,7 +3,7 @@
 use rv_base::Memory;
 use rv_flatten::flatten;
 use rv_probe::probe;
-use rv_source::{numbers_are_small, read_source};
+use rv_source::read_source;
 use rv_syntax::SOURCE_LIMIT;
 use std::alloc::Global;
 
@@ -12,7 +12,6 @@ pub fn probed(alloc: Global, text: &str) -> Result<String, Memory> {
     if text.len() > SOURCE_LIMIT {
         return Err(Memory::Memory);
     }
-    numbers_are_small();
     let Ok(source) = read_source(alloc, text.as_bytes(), "m") else {
         return Ok(String::from_str(alloc, "no source")?);
     };

@@ -42,10 +42,6 @@ pub decided-requires-clause-thresholds : goal.decided-requires-clause-thresholds
 decided-requires-clause-thresholds c = thresholds_small (program_tree c.args.source.now.program) c.requires.small c.in_ok-flat.flat.thresholds
     c.in_ok-flat.ensures.flat.thresholds
 
-pub probe-requires-clause-thresholds : goal.probe-requires-clause-thresholds
-probe-requires-clause-thresholds c = thresholds_small (program_tree c.args.source.now.program) c.requires.small c.in_ok-flat.flat.thresholds
-    c.in_ok-flat.ensures.flat.thresholds
-
 pub probed-requires-clause-thresholds : goal.probed-requires-clause-thresholds
 probed-requires-clause-thresholds c = thresholds_small (program_tree c.args.source.now.program) c.requires.small c.in_ok-flat.flat.thresholds
     c.in_ok-flat.ensures.flat.thresholds
