@@ -6,7 +6,6 @@ use Rattle.rv_rows.specs.Forms.{FormWithin}
 use Rattle.rv_diagram.specs.{declared.Triple.Triple, Nodes.Valuation, Nodes.Diagrams}
 use Rattle.rv_diagram.specs.Growing.{Extends}
 use Rattle.rv_terms.specs.{declared.parted.Part.Part, declared.parted.Term.Term, Parts.form_at, Parts.holds, Parts.term_width, Parts.IsTerm}
-use Rattle.rv_terms.specs.Growing as terms
 use Rattle.rv_terms.proofs.Combining.{form_later, holds_later, term_later}
 use Rattle.rv_agreement.specs.Valuations.{Linear}
 use Rattle.rv_flat.specs.{declared.flat.Flat.Flat, Inlined.table_of}
@@ -15,9 +14,6 @@ use Rattle.rv_bits.proofs.Keeping.{around_kept, after_kept}
 use Rattle.rv_forms.specs.declared.over.Wholes.{Wholes}
 use Rattle.rv_forms.specs.Terms.{columns_of, weights_of, weight_in, parts_at, IsWithin, AreWholes, IsAfterAs, AreKnown, IsReady}
 use Rattle.rv_base.proofs.Options.{some_same}
-
-pub to_terms : (a b : Diagrams) → Extends a b → terms.Extends a b
-to_terms a b e = record { begins = e.begins; longer = e.longer; kept = e.kept; variables = e.variables; limit = e.limit }
 
 -- the width of a term is that of its first form
 pub width_first : (nodes : List Triple) (columns : ℕ) (parts : List Part) → IsTerm nodes columns parts → term_width parts ≡ columns
@@ -30,12 +26,12 @@ own_width nodes columns parts is = subst (λ n. IsTerm nodes n parts) (sym (widt
 
 pub form_kept : (a b : Diagrams) (columns n : ℕ) (parts : List Part) → Extends a b → IsWithin a.nodes columns n parts → (v : Valuation)
     → form_at b.nodes parts v ≡ form_at a.nodes parts v
-form_kept a b columns n parts e is v = form_later a b parts v (to_terms a b e) is.term.refs
+form_kept a b columns n parts e is v = form_later a b parts v e is.term.refs
 
 pub within_kept : (a b : Diagrams) (columns n : ℕ) (parts : List Part) → Extends a b → IsWithin a.nodes columns n parts → IsWithin b.nodes columns n parts
 within_kept a b columns n parts e is = record {
-  term = term_later a b columns parts (to_terms a b e) is.term;
-  filled = λ i lt none. is.filled i lt (λ v. sym (holds_later a b parts (to_terms a b e) is.term.refs i lt v) ∙ none v);
+  term = term_later a b columns parts e is.term;
+  filled = λ i lt none. is.filled i lt (λ v. sym (holds_later a b parts e is.term.refs i lt v) ∙ none v);
   small = λ v. subst (FormWithin n) (sym (form_kept a b columns n parts e is v)) (is.small v);
 }
 

@@ -20,7 +20,6 @@ use Rattle.rv_open.specs.{Columns.HasNoColumns, Given.IsConstant}
 use Rattle.rv_paths.specs.Candidates.{IsSearchOf}
 use Rattle.rv_reading.specs.Analysing as analysing
 use Rattle.std.specs.Int.RustNames.{unsigned_abs}
-use Rattle.rv_forms.proofs.Kept.{to_terms}
 
 module _ (f : Flat) (well : IsWell (system_of f)) (computed : (s : System) (w : Valuation) → IsWell s → IsSymbolic s w (symbolic s w)) (a b : Diagrams)
     (p : Parts)
@@ -45,7 +44,7 @@ module _ (f : Flat) (well : IsWell (system_of f)) (computed : (s : System) (w : 
   }
 
 pub questions_kept : (s : proofs.System) (a b : Diagrams) (q : Questions) → Extends a b → AreQuestions s a q → AreQuestions s b q
-questions_kept s a b q e are = questions_later s a b q (to_terms a b e) are
+questions_kept s a b q e are = questions_later s a b q e are
 
 -- What a checker is given of a reading.
 pub is_given : (r : Reading) (c : Certificate) → IsRead r → IsInRange (system_read r) c → HasFree c

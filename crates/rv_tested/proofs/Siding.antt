@@ -20,7 +20,7 @@ use Rattle.rv_bits.specs.Shown.{is_there_at}
 use Rattle.rv_forms.specs.Terms.{columns_of, weight_in, IsWithin, ReadsAs}
 use Rattle.rv_tested.specs.Testing.{IsSideRead, AreSidesRead, AreAllRead, IsDifference}
 use Rattle.rv_tested.specs.{declared.compared.Compared.Compared, declared.testing.Sides.Sides, Compared.comparison_in}
-use Rattle.rv_forms.proofs.{Bounds.bounded, Bounds.within_more, Kept.to_terms, Kept.within_kept}
+use Rattle.rv_forms.proofs.{Bounds.bounded, Bounds.within_more, Kept.within_kept}
 
 -- LATER
 
@@ -28,7 +28,7 @@ side_read : (f : Flat) (old mid new : Diagrams) (k : Option ℕ) (t : FlatTree) 
     → Fits (system_of f) (length (system_of f).flows) k kind.Int t → weight_in f t ≤ heaviest → IsSideRead f new.nodes k t parts
 side_read f old mid new k t parts is e fit light = record {
   within = within_kept mid new (columns_of f) heaviest parts e (within_more mid.nodes (columns_of f) (weight_in f t) heaviest parts light is.within);
-  shows = λ v row instant there. is.shows v row k instant fit there ∙ ap (λ (x : Form). Linear x) (sym (form_later mid new parts v (to_terms mid new e)
+  shows = λ v row instant there. is.shows v row k instant fit there ∙ ap (λ (x : Form). Linear x) (sym (form_later mid new parts v e
       is.within.term.refs));
 }
 
@@ -49,7 +49,7 @@ side_later : (f : Flat) (a b : Diagrams) (k : Option ℕ) (t : FlatTree) (parts 
     → IsSideRead f b.nodes k t parts
 side_later f a b k t parts e is = record {
   within = within_kept a b (columns_of f) heaviest parts e is.within;
-  shows = λ v row instant there. is.shows v row instant there ∙ ap (λ (x : Form). Linear x) (sym (form_later a b parts v (to_terms a b e) is.within.term.refs));
+  shows = λ v row instant there. is.shows v row instant there ∙ ap (λ (x : Form). Linear x) (sym (form_later a b parts v e is.within.term.refs));
 }
 
 pub sides_later : (f : Flat) (a b : Diagrams) (c : Comparison) (x : Sides) → Extends a b → AreSidesRead f a.nodes c x → AreSidesRead f b.nodes c x

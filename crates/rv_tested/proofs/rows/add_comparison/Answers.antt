@@ -8,7 +8,6 @@ use Rattle.rv_control.specs.Tightening.{tightened}
 use Rattle.rv_terms.specs.Parts.{form_at}
 use Rattle.rv_terms.proofs.Combining.{covers_later, disjoint_later, form_later}
 use Rattle.rv_tested.proofs.{Putting.laid_later, Putting.put_as, Comparing.compared_put}
-use Rattle.rv_forms.proofs.Kept.{to_terms}
 use Rattle.rv_tested.proofs.rows.add_comparison.Goals as goal
 
 pub returns-clause-extends : goal.returns-clause-extends
@@ -20,12 +19,12 @@ returns-clause-extends c =
 
 pub add_rows-requires-clause-disjoint : goal.add_rows-requires-clause-disjoint
 add_rows-requires-clause-disjoint c = disjoint_later c.args.store.now c.and.new.self c.args.parts.now
-    (to_terms c.args.store.now c.and.new.self (grows_extends c.args.store.now c.and.new.self c.in_ok-here.ensures.ok.grows)) c.requires.refs
+    (grows_extends c.args.store.now c.and.new.self c.in_ok-here.ensures.ok.grows) c.requires.refs
     c.requires.disjoint
 
 pub add_rows-requires-clause-covers : goal.add_rows-requires-clause-covers
 add_rows-requires-clause-covers c = covers_later c.args.store.now c.and.new.self c.args.parts.now
-    (to_terms c.args.store.now c.and.new.self (grows_extends c.args.store.now c.and.new.self c.in_ok-here.ensures.ok.grows)) c.requires.refs
+    (grows_extends c.args.store.now c.and.new.self c.in_ok-here.ensures.ok.grows) c.requires.refs
     c.requires.covers
 
 pub add_rows-requires-clause-laid : goal.add_rows-requires-clause-laid
@@ -56,5 +55,5 @@ returns-clause-answered c =
     c.args.answers.now c.add_rows.new.answers c.in_ok-add_rows.ensures.put
     (λ v j. value_of c.and.new.self.nodes c.in_ok-here.here v)
     (λ v h j. tightened (test_row (one.kept c.args.truth c.requires.truth v j)
-    (form_later s c.and.new.self c.args.parts.now v (to_terms s c.and.new.self one) c.requires.refs j))))
+    (form_later s c.and.new.self c.args.parts.now v one c.requires.refs j))))
     c.set.ensures (λ j. c.add_rows.new.answers.rows)
