@@ -1,0 +1,4 @@
+pub mod Points
+pub mod Meetings
+pub mod Openings
+pub mod Risings
