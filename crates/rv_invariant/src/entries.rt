@@ -1,6 +1,6 @@
 //! Reading the entries of a location.
 
-ghost use Rattle.std.specs.Prelude.{◌≡◌, ◌+◌, ◌<◌, ◌≤◌, ◌^◌, [], length, false, IfOk};
+ghost use Rattle.std.specs.Prelude.{◌≡◌, ◌+◌, ◌<◌, ◌≤◌, ◌^◌, [], length, false, IfOk, IsErrOf, IsOk};
 ghost use Rattle.rv_invfile.specs.Ahead.{here};
 ghost use Rattle.rv_invfile.specs.Parts.{turns};
 ghost use Rattle.rv_invfile.specs.Readers.{Reads, run};
@@ -75,9 +75,10 @@ fn read_reach(
     }
 }
 
-/// `go` and the number of a location.
+/// `go` and the number of a location. Want of memory is told only where they stand here.
 fn read_target(records: &mut Records<'_>, locations: u64) -> Result<u32, FileFault>
     ensures read { Reads (λ t. t) (run (spec.a_target locations) records.old) result records.new }
+    ensures memory { IsErrOf result FileFault.Memory → IsOk (run (spec.a_target locations) records.old) }
     ensures below { IfOk result (λ t. t < locations) }
 {
     records.expect(b"go", 2)?;

@@ -1,6 +1,6 @@
 //! The texts by which documents name variables and columns.
 
-ghost use Rattle.std.specs.Prelude.{◌≡◌, ◌↔◌, ◌+◌, ◌++◌, ◌∷◌, length, string_bytes, codes, decimal, IfOk, IsTrue};
+ghost use Rattle.std.specs.Prelude.{◌≡◌, ◌↔◌, ◌+◌, ◌++◌, ◌∷◌, length, string_bytes, codes, decimal, IfOk, IsErrOf, IsOk, IsTrue};
 ghost use Rattle.rv_invfile.specs.Ahead.{here};
 ghost use Rattle.rv_invfile.specs.Forms as forms;
 ghost use Rattle.rv_invfile.specs.Readers.{Reads, run};
@@ -154,9 +154,10 @@ fn are_texts(records: &Records<'_>, word: &[u8], names: &[Text]) -> bool
     true
 }
 
-/// The record with this word and these texts of the program.
+/// The record with this word and these texts of the program. Want of memory is told only where it stands here.
 pub fn read_texts(records: &mut Records<'_>, word: &[u8], names: &[Text]) -> Result<(), FileFault>
-    ensures { Reads (λ u. u) (run (forms.lists word.now names.now) records.old) result records.new }
+    ensures read { Reads (λ u. u) (run (forms.lists word.now names.now) records.old) result records.new }
+    ensures memory { IsErrOf result FileFault.Memory → IsOk (run (forms.lists word.now names.now) records.old) }
 {
     records.expect_plain()?;
     if !records.is_word(word) {

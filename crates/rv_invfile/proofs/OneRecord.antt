@@ -1,9 +1,11 @@
 -- One record of one form: what is at fault in it, by its kind, its texts of the program and its fields.
 use Rattle.std.proofs.Common.{◌≡◌, ℕ, zero, suc, Bool, true, false, cond, List, [], ◌∷◌, length, refl, sym, ap, ◌∙◌, subst}
-use Rattle.std.specs.Prelude.{Some, None, Result, Ok, Err, option_map, ⊤, OnOk, IfErr}
+use Rattle.std.specs.Prelude.{Some, None, Result, Ok, Err, option_map, ⊤, OnOk, IfErr, IsErrOf, IsOk, is_ok}
 use Rattle.rv_invfile.specs.declared.fault.Why.TheVariants as why
-use Rattle.rv_invfile.specs.Readers.{Ahead, ◌>>=◌, Reading, Reads, judged, taking, take_in}
-use Rattle.rv_invfile.specs.{declared.fault.FileFault.FileFault, Rules.Fields, Rules.Form, Rules.fault_by, Rules.form_of, Rules.first_bad, Rules.is_plain}
+use Rattle.rv_invfile.specs.declared.fault.Fault.TheVariants as sure
+use Rattle.rv_invfile.specs.Readers.{Ahead, ◌>>=◌, Reading, Reads, file_fault, judged, taking, take_in}
+use Rattle.rv_invfile.specs.{declared.fault.Fault.Fault, declared.fault.FileFault.FileFault, Rules.Fields, Rules.Form, Rules.fault_by, Rules.form_of}
+use Rattle.rv_invfile.specs.{Rules.first_bad, Rules.is_plain}
 use Rattle.rv_invfile.specs.{Ahead.first, Ahead.others, Ahead.here, Ahead.after_one, Ahead.kind_fault, Ahead.kind_fault_in}
 use Rattle.rv_invfile.specs.declared.fault.FileFault.TheVariants as fault
 
@@ -79,3 +81,20 @@ took_right f value s (Err e) new h a b = forgets {X = ⊤} (λ u. value (here s)
 pub no_bad : (ok : ℕ → Bool) (at n : ℕ) → ((i : ℕ) → ok i ≡ true) → first_bad ok at n ≡ None
 no_bad ok at zero h = refl
 no_bad ok at (suc n) h = ap (λ b. cond b (first_bad ok (suc at) n) (Some at)) (h at) ∙ no_bad ok (suc at) n h
+
+-- ---- Where want of memory is told.
+-- a fault that is told without memory is none
+pub no_memory : (told : Fault) → file_fault told ≡ fault.Memory → ⊥
+no_memory (sure.NotRecords n) h = cc
+no_memory (sure.WrongKind n) h = cc
+no_memory (sure.WrongProgram n) h = cc
+no_memory (sure.BadNumber n i) h = cc
+no_memory (sure.Ends n) h = cc
+
+pub told_surely : {X : Type 0} (o : Result X FileFault) (told : Fault) (e : FileFault) → o ≡ Err e → e ≡ file_fault told → IsErrOf o fault.Memory → ⊥
+told_surely o told e is from h = let same : file_fault told ≡ fault.Memory = cc in no_memory told same
+
+-- a right record is read
+pub right_read : {A : Type 0} (f : Form) (value : Fields → A) (s : Ahead) → taking (f ∷ []) s ≡ Ok (here s, after_one s)
+    → IsOk {T = A × Ahead} (taking (f ∷ []) s >>= λ x. Ok (value x.0, x.1))
+right_read {A} f value s h = ap (λ z. is_ok {T = A × Ahead} (z >>= λ x. Ok (value x.0, x.1))) h

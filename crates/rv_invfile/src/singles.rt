@@ -1,6 +1,6 @@
-//! Single records.
+//! Single records. Want of memory is told only of a record that is right, as the next one is read.
 
-ghost use Rattle.std.specs.Prelude.{◌≡◌, ◌∷◌, map, IsTrue, ◌↔◌};
+ghost use Rattle.std.specs.Prelude.{◌≡◌, ◌∷◌, map, IsErrOf, IsOk, IsTrue, ◌↔◌};
 ghost use Rattle.rv_invfile.specs.Readers.{Reads, run};
 ghost use Rattle.rv_invfile.specs.Forms as forms;
 ghost use Rattle.rv_invfile.specs.Ahead.{here};
@@ -18,7 +18,8 @@ pub fn read_count(
     low: u64,
     high: u64,
 ) -> Result<u64, FileFault>
-    ensures { Reads (λ n. n) (run (forms.counts word.now low high) records.old) result records.new }
+    ensures read { Reads (λ n. n) (run (forms.counts word.now low high) records.old) result records.new }
+    ensures memory { IsErrOf result FileFault.Memory → IsOk (run (forms.counts word.now low high) records.old) }
 {
     records.expect(word, 2)?;
     let Some(count) = natural_in(records.field(1), low, high) else {
@@ -30,7 +31,8 @@ pub fn read_count(
 
 /// A record with this word and this text of the program.
 pub fn read_name(records: &mut Records<'_>, word: &[u8], text: &[u8]) -> Result<(), FileFault>
-    ensures { Reads (λ u. u) (run (forms.names word.now text.now) records.old) result records.new }
+    ensures read { Reads (λ u. u) (run (forms.names word.now text.now) records.old) result records.new }
+    ensures memory { IsErrOf result FileFault.Memory → IsOk (run (forms.names word.now text.now) records.old) }
 {
     records.expect(word, 2)?;
     if records.field(1) != text {
@@ -41,7 +43,8 @@ pub fn read_name(records: &mut Records<'_>, word: &[u8], text: &[u8]) -> Result<
 
 /// The one record with these fields.
 pub fn read_exactly(records: &mut Records<'_>, fields: &[&[u8]]) -> Result<(), FileFault>
-    ensures { Reads (λ u. u) (run (forms.exactly (map (λ f. f.now) fields.now)) records.old) result records.new }
+    ensures read { Reads (λ u. u) (run (forms.exactly (map (λ f. f.now) fields.now)) records.old) result records.new }
+    ensures memory { IsErrOf result FileFault.Memory → IsOk (run (forms.exactly (map (λ f. f.now) fields.now)) records.old) }
 {
     records.expect_plain()?;
     if !is_row(records, fields) {
@@ -78,7 +81,8 @@ pub fn read_inputs(
     word: &[u8],
     inputs: &[FlatInput],
 ) -> Result<(), FileFault>
-    ensures { Reads (λ u. u) (run (forms.lists word.now (map (λ i. i.name) inputs.now)) records.old) result records.new }
+    ensures read { Reads (λ u. u) (run (forms.lists word.now (map (λ i. i.name) inputs.now)) records.old) result records.new }
+    ensures memory { IsErrOf result FileFault.Memory → IsOk (run (forms.lists word.now (map (λ i. i.name) inputs.now)) records.old) }
 {
     records.expect_plain()?;
     if !records.is_word(word) {

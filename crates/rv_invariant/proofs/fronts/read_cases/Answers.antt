@@ -34,7 +34,7 @@ returns-in_err-cases-clause-read c =
     let w1 = chain-ok part (after_proofs c.args.control ls) whole a c.read_proofs.new.records by refl there in
     rw (p.1, p.2) (chain-stops (λ (n : ℕ). n) (λ (f : Front). f) (counts (codes "cases") 0 4294967295)
     (λ n. done (record { control = c.args.control; lists = ls; by_entry = by; cases = n })) whole c.read_proofs.new.records c.in_err-cases.field-0.0
-    c.read_count.new.records w1 c.in_err-cases.ensures)
+    c.read_count.new.records w1 c.in_err-cases.ensures.read)
 
 pub returns : goal.returns
 returns c =
@@ -48,6 +48,6 @@ returns c =
     let w1 = chain-ok part (after_proofs c.args.control ls) whole a c.read_proofs.new.records by refl there in
     record {
       read = chain-ok (counts (codes "cases") 0 4294967295) (λ n. done (record { control = c.args.control; lists = ls; by_entry = by; cases = n })) whole
-          c.read_proofs.new.records c.read_count.new.records c.in_ok-cases.cases w1 c.in_ok-cases.ensures;
+          c.read_proofs.new.records c.read_count.new.records c.in_ok-cases.cases w1 c.in_ok-cases.ensures.read;
       same = refl;
     }

@@ -14,9 +14,9 @@ returns-in_err-state-clause-read c =
     let k1 = λ (a : ℕ). bind (counts (codes "around") 0 0) k2 in
     let whole = run (after_entry m c.args.entry) c.args.records.now in
     let w1 = chain-ok (counts (codes "first") 0 0) k1 whole c.args.records.now c.read_count.new.records c.in_ok-read_count.field-0 refl
-    c.in_ok-read_count.ensures in
+    c.in_ok-read_count.ensures.read in
     let w2 = chain-ok (counts (codes "around") 0 0) k2 whole c.read_count.new.records c.read_count-2.new.records c.in_ok-read_count-2.field-0 w1
-    c.in_ok-read_count-2.ensures in
+    c.in_ok-read_count-2.ensures.read in
     let p = err_from_is_err_and c.from_residual-in_err-state.result c.from_residual-in_err-state.ensures.1 in
     rw (p.1, p.2) (chain-stops (λ (r : List Row). r) (λ (l : Lists). l) (a_list m (codes "state") 0 1024) k3 whole c.read_count-2.new.records
     c.in_err-state.field-0.0 c.read_list.new.records w2 c.in_err-state.ensures.read)
@@ -29,9 +29,9 @@ returns c =
     let k1 = λ (a : ℕ). bind (counts (codes "around") 0 0) k2 in
     let whole = run (after_entry m c.args.entry) c.args.records.now in
     let w1 = chain-ok (counts (codes "first") 0 0) k1 whole c.args.records.now c.read_count.new.records c.in_ok-read_count.field-0 refl
-    c.in_ok-read_count.ensures in
+    c.in_ok-read_count.ensures.read in
     let w2 = chain-ok (counts (codes "around") 0 0) k2 whole c.read_count.new.records c.read_count-2.new.records c.in_ok-read_count-2.field-0 w1
-    c.in_ok-read_count-2.ensures in
+    c.in_ok-read_count-2.ensures.read in
     record {
       read = chain-ok (a_list m (codes "state") 0 1024) k3 whole c.read_count-2.new.records c.read_list.new.records c.in_ok-state.state w2
           c.in_ok-state.ensures.read;

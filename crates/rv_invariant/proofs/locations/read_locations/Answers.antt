@@ -61,10 +61,10 @@ returns-in_err-read_exactly c =
     rw (p.1, p.2) (over-stops c.args.shape c.args.count c.loop-index.index c.loop-index.locations c.loop-index.known c.loop-index.records
     (run (locations_rule c.args.shape c.args.count c.args.count [] (replicate c.args.count None)) c.args.records.now)
     (omega (arith, c.loop-index-test.false)) c.loop-index.invariant.kept c.in_err-read_exactly.field-0.0 c.read_exactly.new.records
-    c.in_err-read_exactly.ensures)
+    c.in_err-read_exactly.ensures.read)
 
 pub returns : goal.returns
 returns c =
     over c.args.shape c.args.count c.loop-index.index c.loop-index.locations c.loop-index.known c.loop-index.records
     (run (locations_rule c.args.shape c.args.count c.args.count [] (replicate c.args.count None)) c.args.records.now)
-    (omega (arith, c.loop-index-test.false)) c.loop-index.invariant.kept c.read_exactly.new.records c.in_ok-read_exactly.ensures
+    (omega (arith, c.loop-index-test.false)) c.loop-index.invariant.kept c.read_exactly.new.records c.in_ok-read_exactly.ensures.read
