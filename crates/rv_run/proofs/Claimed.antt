@@ -3,7 +3,7 @@ use Rattle.std.proofs.Common.{◌≡◌, ◌⊎◌, inl, inr, ◌≤◌, ℤ, po
 use Rattle.std.specs.{Prelude.replicate, List.Contains}
 use Rattle.rv_base.specs.declared.value.Trace.{Trace}
 use Rattle.rv_tree.specs.{Tree.ProgramTree, Places.Identifier}
-use Rattle.rv_flat.specs.Steps.{input_kinds, memory_kinds}
+use Rattle.rv_flat.specs.Steps.{IsWithin, input_kinds, memory_kinds}
 use Rattle.rv_flat.specs.{declared.flat.Flat.Flat, declared.parts.FlatInput.FlatInput, declared.parts.FlatMemory.FlatMemory, FlatOf.IsFlatOf, Systems.memory_of}
 use Rattle.rv_control.specs.Control.{control_of}
 use Rattle.rv_proofs.specs.{Systems.System, Boxes.HasGoodBox, RowClaims.HasGoodRows, Runs.IsSafeSystem}
@@ -53,7 +53,7 @@ one_probe p m inputs memories thresholds (f, flat, (b, c, k, at)) (g, other, non
       c,
       k,
       record {
-        number = subst (λ (ts : List ℤ). (c ≡ pos 0) ⊎ ((length ts ≤ 256) × Contains ts c)) (thresholds f g flat other) at.number;
+        number = subst (λ (ts : List ℤ). (c ≡ pos 0) ⊎ ((length ts ≤ 256) × Contains ts c × IsWithin c)) (thresholds f g flat other) at.number;
         falsified = subst (λ (t : Trace). IsFalsifiedAt p m t k) (same_probe f g b c (inputs f g flat other) (memories f g flat other)) at.falsified;
       },
     )
