@@ -1,0 +1,4 @@
+pub mod Chaining
+pub mod Rowing
+pub mod Assembling
+pub mod Grown

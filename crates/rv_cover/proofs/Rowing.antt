@@ -1,0 +1,132 @@
+-- Rows that are premises, rows that can be taken before updates, and what is found by them.
+use Rattle.std.proofs.Common.{◌≡◌, ◌≢◌, ℕ, ◌+◌, ◌<◌, ◌≤◌, ◌^◌, ℤ, pos, negsuc, List, [], ◌∷◌, ◌++◌, length, get_or, All, Some, slice_get, true, arith, refl, sym, ap, ◌∙◌}
+use Rattle.std.proofs.Common.{subst, ◌⊎◌, inl, inr}
+use Rattle.std.proofs.lemmas.List.Elements.{All-weaker, All-push, All-from_get_or}
+use Rattle.std.proofs.{lemmas.Option.slice_get_within, lemmas.Option.get_or_from_slice_get, lemmas.List.length_push, lemmas.List.length-append}
+use Rattle.std.specs.Int.RustNames.{unsigned_abs}
+use Rattle.rv_diagram.specs.{declared.Triple.Triple, Nodes.Valuation, Nodes.Diagrams}
+use Rattle.rv_rows.specs.{declared.linear.Row.Row, declared.linear.Form.Form, Rows.row_at, Rows.coefficient, Rows.RowWithin, Forms.CanSubstitute, Tight.Fits}
+use Rattle.rv_rows.specs.{declared.farkas.Weight.Weight, declared.farkas.Multipliers.Multipliers}
+use Rattle.rv_proofs.specs.{Systems.System, Systems.IsSystem, Systems.IsUpdate, Ranges.AreKept, Ranges.IsRecord, Boxes.HasUnit, Boxes.IsUnitAt}
+use Rattle.rv_proofs.specs.{declared.certificate.EntryKind.TheVariants.Dead, declared.certificate.EntryKind.TheVariants.Go}
+use Rattle.rv_proofs.proofs.Rooms.{has_room}
+use Rattle.rv_cases.specs.{declared.asking.Questions.Questions, Conditions.is_in, Conditions.AreRefs, Questions.AreQuestions, Questions.forms_at, Questions.memory_answers}
+use Rattle.rv_boxes.specs.{declared.peaks.Peak.Peak, declared.ends.End.End, Ends.IsOnlyColumn, Ends.AreEnds, Boxed.ArePremises, Boxed.IsGreatest, Boxed.IsOpenBox}
+use Rattle.rv_boxes.specs.{Boxed.IsRefutation, Built.nothing}
+use Rattle.rv_boxes.proofs.{Shutting.record_from, BoxLemmas.crossed_none}
+use Rattle.rv_cover.specs.{declared.frame.Frame.Frame, declared.finding.Found.Found, Premises.IsPremise, Premises.AreOpenEnds, Entries.IsPlainKind, Entries.IsFound}
+use Rattle.rv_cover.specs.Seeking.{IsSearched}
+
+pub got_all : {X : Type 0} (P : X → Type 0) (xs : List X) (i : ℕ) (x : X) → slice_get xs i ≡ Some x → All P xs → P x
+got_all P xs i x at all = subst P (get_or_from_slice_get xs i x x at) (all i x (slice_get_within xs i x at))
+
+pub unit_from : (r : Row) (k : ℕ) (z : ℤ) → IsOnlyColumn r k → z ≡ coefficient k r → (z ≡ pos 1) ⊎ (z ≡ negsuc 0) → HasUnit r
+unit_from r k z only is (inl e) one = (k, inl (record { here = sym is ∙ e; others = only.others }))
+unit_from r k z only is (inr e) one = (k, inr (record { here = sym is ∙ e; others = only.others }))
+
+-- rows each of which can be a premise
+pub premises_from : (columns : ℕ) (rows : List Row) → length rows < 2 ^ 32 → ((p : ℕ) → p < length rows → IsPremise columns (row_at rows p))
+    → ArePremises columns rows
+premises_from columns rows few each = record {
+  few = few;
+  within = All-from_get_or (RowWithin (2 ^ 60)) rows nothing (λ p l. within (row_at rows p) (each p l));
+  wide = λ p l. let is = each p l in is.wide;
+  sizes = λ p l. let is = each p l in is.sizes;
+  units = λ p l. let is = each p l in is.one;
+}
+  where
+    within : (r : Row) → IsPremise columns r → RowWithin (2 ^ 60) r
+    within r is = (
+      All-weaker (λ (c : ℤ). unsigned_abs c ≤ 2 ^ 41) (λ (c : ℤ). unsigned_abs c ≤ 2 ^ 60) (λ c l. omega (arith, l)) r.coefficients is.sizes,
+      is.bound,
+    )
+
+-- kept rows can be taken before updates
+pub rooms : (s : System) → IsSystem s → (rows : List Row) → AreKept s rows → (forms : List Form) → length forms ≡ s.memories → All (IsUpdate s) forms
+    → All (λ r. CanSubstitute r forms) rows
+rooms s is rows kept forms many updates = All-weaker (λ (r : Row). (length r.coefficients ≡ s.memories) × Fits r) (λ (r : Row). CanSubstitute r forms)
+    (λ r (size, fits). has_room s is r forms size fits many updates) rows kept.0
+
+-- a list of chosen rows with one more, or not
+pub chosen_few : (old new : List Row) (r : Row) (n : ℕ) → (new ≡ old) ⊎ (new ≡ old ++ r ∷ []) → length old ≤ n → length new ≤ n + 1
+chosen_few old new r n (inl e) l = let same = ap length e in omega (arith, same, l)
+chosen_few old new r n (inr e) l = let same = ap length e in let size = length_push old r in omega (arith, same, size, l)
+
+pub chosen_all : (P : Row → Type 0) (rows old new : List Row) (i : ℕ) (r : Row) → slice_get rows i ≡ Some r → All P rows
+    → (new ≡ old) ⊎ (new ≡ old ++ r ∷ []) → All P old → All P new
+chosen_all P rows old new i r at all (inl e) are = subst (All P) (sym e) are
+chosen_all P rows old new i r at all (inr e) are = subst (All P) (sym e) (All-push P old r are (got_all P rows i r at all))
+
+-- what a memory becomes at a valuation is an update
+pub update_told : (s : System) → IsSystem s → (d : Diagrams) (q : Questions) → AreQuestions s d q → (k : ℕ) → k < s.memories → (v : Valuation) (i : ℕ) (f : Form)
+    → slice_get (forms_at q.forms k) i ≡ Some f → is_in d.nodes (memory_answers q k) i v ≡ true → IsUpdate s f
+update_told s is d q a k low v i f got on = subst (IsUpdate s) ((a.updates k low).becomes i f v got on) (is.updates v k low)
+
+-- multipliers on premises among more of them
+pub record_wider : (a b : ℕ) (m : Multipliers) → a ≤ b → IsRecord a m → IsRecord b m
+record_wider a b m l is = record {
+  positive = is.positive;
+  divisor = is.divisor;
+  few = is.few;
+  there = All-weaker (λ (w : Weight). w.premise < a) (λ (w : Weight). w.premise < b) (λ w h. omega (arith, h, l)) m.weights is.there;
+  weighted = is.weighted;
+  rising = is.rising;
+}
+
+-- those of a greatest value
+pub record_greatest : (width : ℕ) (rows : List Row) (numbers : List ℤ) (g : Peak) (m : Multipliers) → length numbers ≤ 256 → IsGreatest width rows numbers g
+    → m ≡ record { divisor = pos 1; weights = g.weights } → IsRecord (length rows) m
+record_greatest width rows numbers g m few great is = subst (IsRecord (length rows)) (sym is)
+    (record_from (length rows) (record { divisor = pos 1; weights = g.weights }) refl (let k = great.count in omega (arith, k, few))
+    (λ j d n. ((great.units j d n).0, great.weights j d n)) great.rises)
+
+-- how many premises there are
+pub premises_long : (s : System) (d : Diagrams) (q : Questions) (f : Frame) (given told all : List Row) → IsSearched s d q f given
+    → length told ≡ length q.rows → all ≡ given ++ told → length all ≡ length given + length q.rows
+premises_long s d q f given told all is size are = ap length are ∙ length-append given told ∙ ap (λ n. length given + n) size
+
+pub premises_few : (s : System) (d : Diagrams) (q : Questions) (f : Frame) (given : List Row) → IsSearched s d q f given
+    → length given + length q.rows < 2 ^ 32
+premises_few s d q f given is =
+    let fits = is.system in let limits = fits.limits in let few = limits.tests in let ask = is.questions in let many = ask.many_tests in let low = is.few in
+    omega (arith, few, many, low)
+
+pub columns_few : (s : System) (d : Diagrams) (q : Questions) (f : Frame) (given : List Row) → IsSearched s d q f given → f.columns < 256
+columns_few s d q f given is =
+    let fits = is.system in let limits = fits.limits in let few = limits.columns in let same = is.columns in omega (arith, few, same)
+
+pub questions_few : (s : System) (d : Diagrams) (q : Questions) (f : Frame) (given : List Row) → IsSearched s d q f given → length q.questions < 2 ^ 32
+questions_few s d q f given is =
+    let fits = is.system in let limits = fits.limits in let few = limits.tests in let less = limits.memories in
+    let ask = is.questions in let many = ask.many_tests in let more = ask.many_memories in let have = ask.answers in let all = have.many in
+    omega (arith, few, less, many, more, all)
+
+-- what was found with a refutation, and with proofs
+pub dead_found : (nodes : List Triple) (n : ℕ) (rows : List Row) (by : Multipliers) (found : Found) → found.kind ≡ Dead by → AreRefs nodes found.answers.items
+    → IsRefutation rows by → length rows ≡ n → IsFound nodes n found
+dead_found nodes n rows by found kind answers is size = record {
+  kind = subst (IsPlainKind n) (sym kind) (subst (λ (k : ℕ). IsRecord k by) size is.record_of, let r = is.refutes in r.divisor);
+  answers = answers;
+}
+
+pub step_found : (nodes : List Triple) (n m : ℕ) (reach : List Multipliers) (found : Found) → found.kind ≡ Go 1 reach → AreRefs nodes found.answers.items
+    → All (IsRecord m) reach → m ≡ n → IsFound nodes n found
+step_found nodes n m reach found kind answers are size = record {
+  kind = subst (IsPlainKind n) (sym kind) (subst (λ (k : ℕ). All (IsRecord k) reach) size are);
+  answers = answers;
+}
+
+-- ends of a box that is open
+pub open_from : (columns : ℕ) (rows : List Row) (ends : List End) → ArePremises columns rows → AreEnds rows columns ends → columns < 256
+    → IsOpenBox (length ends) rows → AreOpenEnds rows ends
+open_from columns rows ends premises are few opened =
+    let size = are.size in
+    let same : columns ≡ length ends = sym size in
+    let pre : ArePremises (length ends) rows = subst (λ (n : ℕ). ArePremises n rows) same premises in
+    let ends_are : AreEnds rows (length ends) ends = subst (λ (n : ℕ). AreEnds rows n ends) same are in
+    record {
+      premises = pre;
+      ends_are = ends_are;
+      uncrossed = λ k l x. crossed_none (length ends) rows pre ends ends_are k l x opened.some;
+      few = omega (arith, few, size);
+    }

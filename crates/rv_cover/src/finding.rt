@@ -1,0 +1,161 @@
+//! What happens at one valuation, and the answers on which that rests.
+
+ghost use Rattle.std.specs.Prelude.{◌≡◌, ◌+◌, ◌<◌, ◌^◌, All, IfOk, IfSome, length};
+ghost use Rattle.rv_rows.specs.Forms.{CanSubstitute};
+ghost use Rattle.rv_proofs.specs.Systems.{System};
+ghost use Rattle.rv_proofs.specs.Ranges.{AreKept, IsRecord};
+ghost use Rattle.rv_proofs.specs.declared.certificate.EntryKind.TheVariants.{Dead, Go};
+ghost use Rattle.rv_cases.specs.Conditions.{AreRefs};
+ghost use Rattle.rv_cases.specs.Questions.{HaveAnswers};
+ghost use Rattle.rv_cover.specs.Entries.{IsFound};
+ghost use Rattle.rv_cover.specs.Seeking.{IsSearched};
+
+use crate::answers::{test_answers, told_forms, told_rows, with_updates};
+use crate::frame::Frame;
+use crate::marks::{mark_each, mark_named, unset};
+use crate::reaching::{open_ends, reach_rows};
+use crate::rows::are_premises;
+use rv_base::{Many, Memory};
+use rv_boxes::{Premises, narrow, shut_of};
+use rv_cases::Questions;
+use rv_diagram::{Ref, Store};
+use rv_proofs::EntryKind;
+use rv_rows::{Form, Multipliers, Row};
+use std::alloc::Global;
+
+/// What happens at a valuation, and wherever the same answers are given.
+#[derive(Drop)]
+pub struct Found {
+    /// What happens.
+    pub kind: EntryKind,
+    /// The answers.
+    pub answers: Vec<Ref>,
+}
+
+/// A dead entry by what refutes the premises, of which the first ones are rows.
+fn dead_by(
+    alloc: Global,
+    store: &Store,
+    sample: &Many<bool>,
+    questions: &Questions,
+    first: usize,
+    by: Multipliers,
+) -> Result<Found, Memory>
+    requires sized { length sample.now ≡ store.now.variables }
+    requires answers { HaveAnswers store.now.nodes questions.now }
+    ensures kind { IfOk result (λ f. f.kind ≡ Dead by) }
+    ensures answers { IfOk result (λ f. AreRefs store.now.nodes f.answers.items) }
+{
+    let mut named = unset(alloc, questions.rows.len())?;
+    mark_named(&mut named, first, &by);
+    let answers = test_answers(alloc, store, sample, questions, &named)?;
+    Ok(Found {
+        kind: EntryKind::Dead(by),
+        answers,
+    })
+}
+
+/// A dead entry at a valuation, or none where its box is open.
+pub fn dead_at(
+    alloc: Global,
+    store: &Store,
+    frame: &Frame,
+    sample: &Many<bool>,
+    questions: &Questions,
+    given: &Many<Row>,
+) -> Result<Option<Found>, Memory>
+    requires sized { length sample.now ≡ store.now.variables }
+    requires searched { (s : System) × IsSearched s store.now questions.now frame.now given.now }
+    ensures { IfOk result (λ o. IfSome o (IsFound store.now.nodes (length given.now + length questions.now.rows))) }
+{
+    let told = told_rows(alloc, store, sample, questions)?;
+    let premises = Premises::new(given, &told);
+    if !are_premises(&premises, frame.columns) {
+        return Ok(None);
+    }
+    let ends = narrow(alloc, &premises, frame.columns)?;
+    match shut_of(alloc, &premises, &ends)? {
+        Some(by) => {
+            let found = dead_by(alloc, store, sample, questions, given.len(), by)?;
+            Ok(Some(found))
+        }
+        None => Ok(None),
+    }
+}
+
+/// A step into location 1 by what proves the wanted rows, from premises of which the first ones are rows.
+fn step_by(
+    alloc: Global,
+    store: &Store,
+    sample: &Many<bool>,
+    questions: &Questions,
+    first: usize,
+    wanted: &Many<Row>,
+    reach: Many<Multipliers>,
+) -> Result<Found, Memory>
+    requires sized { length sample.now ≡ store.now.variables }
+    requires answers { HaveAnswers store.now.nodes questions.now }
+    requires few { length questions.now.questions < 2 ^ 32 }
+    ensures kind { IfOk result (λ f. f.kind ≡ Go 1 reach) }
+    ensures answers { IfOk result (λ f. AreRefs store.now.nodes f.answers.items) }
+{
+    let mut named = unset(alloc, questions.rows.len())?;
+    mark_each(&mut named, first, &reach);
+    let tests = test_answers(alloc, store, sample, questions, &named)?;
+    let answers = with_updates(store, sample, questions, wanted, tests)?;
+    Ok(Found {
+        kind: EntryKind::Go { target: 1, reach },
+        answers,
+    })
+}
+
+/// What proves the wanted rows after the updates, by the given rows alone where these do, and else by the rows of the tests too, or none.
+fn reach_from(
+    alloc: Global,
+    columns: usize,
+    given: &Many<Row>,
+    told: &Many<Row>,
+    updates: &Many<Form>,
+    wanted: &Many<Row>,
+) -> Result<Option<Many<Multipliers>>, Memory>
+    requires few { length given.now + length told.now < 2 ^ 32 }
+    requires columns { columns < 256 }
+    requires wanted { All (λ r. CanSubstitute r updates.now) wanted.now }
+    ensures { IfOk result (λ o. IfSome o (All (IsRecord (length given.now + length told.now)))) }
+{
+    let nothing = Many::new(alloc);
+    let own = Premises::new(given, &nothing);
+    let Some(own_ends) = open_ends(alloc, &own, columns)? else {
+        return Ok(None);
+    };
+    let all = Premises::new(given, told);
+    match open_ends(alloc, &all, columns)? {
+        Some(ends) => reach_rows(alloc, &own, &own_ends, &all, &ends, updates, wanted),
+        None => Ok(None),
+    }
+}
+
+/// A step into location 1 at a valuation, or none where the wanted rows are not proved there.
+pub fn step_at(
+    alloc: Global,
+    store: &Store,
+    frame: &Frame,
+    sample: &Many<bool>,
+    questions: &Questions,
+    given: &Many<Row>,
+    wanted: &Many<Row>,
+) -> Result<Option<Found>, Memory>
+    requires sized { length sample.now ≡ store.now.variables }
+    requires searched { (s : System) × IsSearched s store.now questions.now frame.now given.now × AreKept s wanted.now }
+    ensures { IfOk result (λ o. IfSome o (IsFound store.now.nodes (length given.now + length questions.now.rows))) }
+{
+    let told = told_rows(alloc, store, sample, questions)?;
+    let updates = told_forms(alloc, store, sample, questions)?;
+    match reach_from(alloc, frame.columns, given, &told, &updates, wanted)? {
+        Some(reach) => {
+            let found = step_by(alloc, store, sample, questions, given.len(), wanted, reach)?;
+            Ok(Some(found))
+        }
+        None => Ok(None),
+    }
+}

@@ -1,0 +1,73 @@
+//! Which premises multipliers name.
+
+use rv_base::{Many, Memory};
+use rv_proofs::{Entry, EntryKind};
+use rv_rows::Multipliers;
+use std::alloc::Global;
+
+/// As many flags, none of them set.
+pub fn unset(alloc: Global, many: usize) -> Result<Many<bool>, Memory> {
+    let mut flags = Many::new(alloc);
+    for _place in 0..many {
+        flags.push(false)?;
+    }
+    Ok(flags)
+}
+
+/// Whether the flag is there and set.
+pub fn is_set(flags: &Many<bool>, place: usize) -> bool {
+    place < flags.len() && *flags.at(place)
+}
+
+/// Sets the flag of a premise, where it has one: premise `first` has the first flag. It answers whether that was not set.
+fn mark_premise(flags: &mut Many<bool>, first: usize, premise: usize) -> bool {
+    if premise < first {
+        return false;
+    }
+    let place = premise - first;
+    if place >= flags.len() {
+        return false;
+    }
+    let known = *flags.at(place);
+    flags.set(place, true);
+    !known
+}
+
+/// Sets the flags of the premises that multipliers name, and answers whether one was not set.
+pub fn mark_named(flags: &mut Many<bool>, first: usize, by: &Multipliers) -> bool {
+    let mut more = false;
+    for place in 0..by.weights.len() {
+        let new = mark_premise(flags, first, by.weights.at(place).premise as usize);
+        more = more || new;
+    }
+    more
+}
+
+/// The same for each of a list of multipliers.
+pub fn mark_each(flags: &mut Many<bool>, first: usize, reach: &Many<Multipliers>) -> bool {
+    let mut more = false;
+    for place in 0..reach.len() {
+        let new = mark_named(flags, first, reach.at(place));
+        more = more || new;
+    }
+    more
+}
+
+/// The same for the multipliers of an entry that is no turn of a loop.
+fn mark_entry(flags: &mut Many<bool>, first: usize, entry: &Entry) -> bool {
+    match &entry.kind {
+        EntryKind::Dead(by) => mark_named(flags, first, by),
+        EntryKind::Go { reach, .. } => mark_each(flags, first, reach),
+        EntryKind::Loop { .. } => false,
+    }
+}
+
+/// The same for all entries of a location.
+pub fn mark_entries(flags: &mut Many<bool>, first: usize, entries: &Many<Entry>) -> bool {
+    let mut more = false;
+    for place in 0..entries.len() {
+        let new = mark_entry(flags, first, entries.at(place));
+        more = more || new;
+    }
+    more
+}
