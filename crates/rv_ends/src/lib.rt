@@ -15,5 +15,5 @@ mod thresholds;
 
 pub use ends::{Ends, limited, only_column, test_ends};
 pub use peaks::greatest;
-pub use sides::{Side, below};
+pub use sides::{Side, below, no_side, number_term};
 pub use thresholds::{is_below, least_above};

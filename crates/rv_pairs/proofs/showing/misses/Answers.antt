@@ -1,0 +1,14 @@
+use Rattle.std.proofs.Common.{◌≡◌, ◌<◌, ◌+◌, ◌⊎◌, ◌+ℤ◌, ℕ, inl, inr, arith, subst, sym}
+use Rattle.std.proofs.lemmas.Bool.{cases_lt, MatchBool-at_false, MatchBool-at_true}
+use Rattle.rv_rows.specs.{Rows.coefficient, Forms.number}
+use Rattle.rv_pairs.proofs.Pairing.{sum_past, sum_more}
+use Rattle.rv_pairs.proofs.showing.misses.Goals as goal
+
+pub loop-column-preserved : goal.loop-column-preserved
+loop-column-preserved c = sum_more c.args.numbers.now c.args.one.now c.args.other.now c.loop-column.column c.loop-column.invariant c.if-differs.ensures
+
+pub returns : goal.returns
+returns c = sum_past c.args.numbers.now c.args.one.now c.args.other.now c.loop-column.column
+    (omega (arith, c.loop-column-test.false, c.widest-width.ensures.first))
+    (omega (arith, c.loop-column-test.false, c.widest-width.ensures.second))
+    (omega (arith, c.loop-column-test.false, c.widest-width.ensures.third)) c.loop-column.invariant

@@ -1,0 +1,5 @@
+pub mod Labels
+pub mod Bounds
+pub mod Taking
+pub mod Risen
+pub mod Moves

@@ -1,0 +1,81 @@
+//! The valuations that a row claim takes: allowed ones whose control state is in its set, and whose premises are not shut at once.
+
+ghost use Rattle.std.specs.Prelude.{◌≡◌, ◌↔◌, ◌<◌, ◌^◌, true, IfOk, IsErrOf};
+ghost use Rattle.rv_diagram.specs.Nodes.{Valuation, IsRef, IsMeant, IsOrderedOver, value_of};
+ghost use Rattle.rv_diagram.specs.Growing.{Extends};
+ghost use Rattle.rv_rows.specs.Multipliers.{AreShutAtOnce};
+ghost use Rattle.rv_proofs.specs.RowClaims.{RowClaim};
+ghost use Rattle.rv_proofs.specs.Systems.{System};
+ghost use Rattle.rv_walk.specs.Ends.{has};
+ghost use Rattle.rv_pairs.specs.Labels.{active, AreLabels};
+ghost use Rattle.rv_pairs.specs.Taking.{ArePremises, IsTakenAt};
+
+use crate::labels::Labelled;
+use crate::showing::shown;
+use rv_base::Many;
+use rv_diagram::{Frozen, Ref, Store, StoreFault};
+use rv_ends::below;
+use std::alloc::Global;
+
+/// Where the rows that count are shut at once.
+fn shut_rows(alloc: Global, store: &mut Store, labels: &Many<Labelled>) -> Result<Ref, StoreFault>
+    requires { AreLabels store.old.nodes labels.now }
+    ensures extends { Extends store.old store.new }
+    ensures roomy { IsErrOf result StoreFault.Nodes → store.old.limit < 2 ^ (2 ^ store.old.variables) }
+    ensures found { IfOk result (IsRef store.new.nodes) }
+    ensures exact { IfOk result (λ r. (v : Valuation) → (value_of store.new.nodes r v ≡ true) ↔ AreShutAtOnce (active store.old.nodes labels.now v)) }
+{
+    let none = Many::new(alloc);
+    let least = shown(alloc, store, labels, &none)?;
+    below(store, &least, 0)
+}
+
+/// Where the first reference is true and the second is not.
+fn without(store: &mut Store, whole: Ref, part: Ref) -> Result<Ref, StoreFault>
+    requires whole { IsRef store.old.nodes whole }
+    requires part { IsRef store.old.nodes part }
+    ensures extends { Extends store.old store.new }
+    ensures roomy { IsErrOf result StoreFault.Nodes → store.old.limit < 2 ^ (2 ^ store.old.variables) }
+    ensures found { IfOk result (IsRef store.new.nodes) }
+    ensures exact { IfOk result (λ r. (v : Valuation) → (value_of store.new.nodes r v ≡ true)
+        ↔ ((value_of store.old.nodes whole v ≡ true) × ¬ (value_of store.old.nodes part v ≡ true))) }
+{
+    let rest = store.not(part)?;
+    store.and(whole, rest)
+}
+
+/// Where the reference is true and the control state is in the set.
+fn within(store: &mut Store, allowed: Ref, reached: &Frozen) -> Result<Ref, StoreFault>
+    requires allowed { IsRef store.old.nodes allowed }
+    requires reached { IsOrderedOver store.old.variables reached.now }
+    ensures extends { Extends store.old store.new }
+    ensures roomy { IsErrOf result StoreFault.Nodes → store.old.limit < 2 ^ (2 ^ store.old.variables) }
+    ensures found { IfOk result (IsRef store.new.nodes) }
+    ensures exact { IfOk result (λ r. (v : Valuation) → (value_of store.new.nodes r v ≡ true)
+        ↔ ((value_of store.old.nodes allowed v ≡ true) × (has reached.now v ≡ true))) }
+{
+    let set = store.thaw(reached)?;
+    store.and(allowed, set)
+}
+
+/// What a row claim takes: the allowed valuations whose control state is in its set and whose premises, the labelled rows, are not shut at once.
+/// With what was built of it.
+pub fn open_rows(
+    alloc: Global,
+    store: &mut Store,
+    allowed: Ref,
+    labels: &Many<Labelled>,
+    reached: &Frozen,
+) -> Result<Ref, StoreFault>
+    requires allowed { IsRef store.old.nodes allowed }
+    requires labels { AreLabels store.old.nodes labels.now }
+    requires reached { IsOrderedOver store.old.variables reached.now }
+    ensures extends { Extends store.old store.new }
+    ensures roomy { IsErrOf result StoreFault.Nodes → store.old.limit < 2 ^ (2 ^ store.old.variables) }
+    ensures taken { IfOk result (λ r. (s : System) (c : RowClaim) → IsMeant store.old.nodes s.allowed allowed
+        → ((v : Valuation) → c.reached v ≡ has reached.now v) → ArePremises s store.old.nodes c labels.now → IsTakenAt s store.new.nodes c r) }
+{
+    let shut = shut_rows(alloc, store, labels)?;
+    let whole = within(store, allowed, reached)?;
+    without(store, whole, shut)
+}
