@@ -1,4 +1,5 @@
 pub mod Rising
+pub mod Risen
 pub mod Sided
 pub mod Stays
 pub mod Points

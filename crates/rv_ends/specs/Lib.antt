@@ -1,4 +1,5 @@
 pub mod Thresholds
+pub mod Risen
 pub mod Claiming
 pub mod Intervals
 pub mod Sides

@@ -216,7 +216,8 @@ fn take_test(
     Ok(())
 }
 
-/// The ends that the order tests alone give the columns, with what was built of them.
+/// The ends that the order tests alone give the columns. Nodes comes where the store has no room for what is built, never where its limit holds
+/// every function of its variables, and Memory where there is none; what was built is left, after a fault too.
 pub fn test_ends(
     alloc: Global,
     store: &mut Store,
@@ -238,8 +239,10 @@ pub fn test_ends(
     Ok(ends)
 }
 
-/// True where the main tick is, which is variable 0.
-fn main_tick(store: &mut Store) -> Result<Ref, StoreFault>
+/// True where the main tick is, which is variable 0; nowhere in a store without variables. Nodes comes where the store has no room for what is
+/// built, never where its limit holds every function of its variables, and Memory where there is none; what was built is left, after a fault
+/// too.
+pub fn main_tick(store: &mut Store) -> Result<Ref, StoreFault>
     ensures extends { Extends store.old store.new }
     ensures roomy { IsErrOf result StoreFault.Nodes → store.old.limit < 2 ^ (2 ^ store.old.variables) }
     ensures found { IfOk result (IsRef store.new.nodes) }
@@ -315,7 +318,8 @@ fn limit_of(limits: &Many<Option<i128>>, column: usize) -> Option<i128>
 }
 
 /// The ends that the order tests give the columns, and beside them a claim's limits of the integer memories, the first columns: `upper` of the
-/// memories, `lower` of their opposites. With what was built of them.
+/// memories, `lower` of their opposites. Nodes comes where the store has no room for what is built, never where its limit holds every function of
+/// its variables, and Memory where there is none; what was built is left, after a fault too.
 pub fn limited(
     alloc: Global,
     store: &mut Store,

@@ -95,7 +95,8 @@ fn with_column(
 }
 
 /// The greatest value of the sum of the columns times the numbers over the box of each valuation, where that is not empty: a bound where there is
-/// a greatest value, and none where there is none. With what was built of it.
+/// a greatest value, and none where there is none. Nodes comes where the store has no room for what is built, never where its limit holds every
+/// function of its variables, and Memory where there is none; what was built is left, after a fault too.
 pub fn greatest(
     alloc: Global,
     store: &mut Store,

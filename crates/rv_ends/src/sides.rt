@@ -36,7 +36,7 @@ fn constant(alloc: Global, number: i128) -> Form
     }
 }
 
-/// The number at every valuation.
+/// The number at every valuation. Memory comes where there is none.
 pub fn number_term(alloc: Global, number: i128) -> Result<Term, Memory>
     ensures { IfOk result (λ t. (nodes : List Triple) → IsTermOf nodes 0 (λ v. number_form number) t.parts) }
 {
@@ -44,7 +44,7 @@ pub fn number_term(alloc: Global, number: i128) -> Result<Term, Memory>
     leaf(alloc, &form)
 }
 
-/// No bound at any valuation.
+/// No bound at any valuation. Memory comes where there is none.
 pub fn no_side(alloc: Global, store: &Store) -> Result<Side, Memory>
     ensures side { IfOk result (IsSide store.now.nodes 0) }
     ensures none { IfOk result (λ s. (v : Valuation) → side_at store.now.nodes s v ≡ Nothing) }
@@ -116,7 +116,8 @@ fn parts_below(store: &mut Store, term: &Term, bound: i128) -> Result<Ref, Store
     Ok(sum)
 }
 
-/// Where the side has a bound that is below a number, with what was built of it.
+/// Where the side has a bound that is below a number. Nodes comes where the store has no room for what is built, never where its limit holds
+/// every function of its variables, and Memory where there is none; what was built is left, after a fault too.
 pub fn below(store: &mut Store, side: &Side, bound: i128) -> Result<Ref, StoreFault>
     requires side { (n : ℕ) × IsSide store.old.nodes n side.now }
     ensures extends { Extends store.old store.new }

@@ -19,8 +19,10 @@ use Rattle.rv_cases.specs.{declared.asking.Questions.Questions, Conditions.is_in
 use Rattle.rv_cases.specs.Questions.{memory_answers, forms_at}
 use Rattle.rv_pairs.specs.{declared.labels.Labelled.Labelled, Labels.active}
 use Rattle.rv_pairs.specs.Moves.{IsMoved, IsMovedIn, HoldsAfter, HoldsAmong}
-use Rattle.rv_pairs.specs.{Labels.AreLabels, Risen.IsRisen, Risen.ShowForm}
-use Rattle.rv_pairs.proofs.{Counting.active_stays, Raising.risen_as, Raising.risen_both}
+use Rattle.rv_pairs.specs.{Labels.AreLabels, Risen.ShowForm}
+use Rattle.rv_ends.specs.Risen.{IsRisen}
+use Rattle.rv_ends.proofs.Risen.{risen_as, risen_both}
+use Rattle.rv_pairs.proofs.Counting.{active_stays}
 
 -- a row with the same left side and a greater bound is shown too
 shown_more : (rows : List Row) (a b : Row) → ((k : ℕ) → coefficient k b ≡ coefficient k a) → a.bound ≤ℤ b.bound → ShowsAtOnce rows a → ShowsAtOnce rows b

@@ -22,14 +22,6 @@ pub allowed_from : (nodes : List Triple) (s : Side) (v : Valuation) (z : ℤ) �
     → (form_at nodes s.end.parts v).constant ≤ℤ z → IsAllowed nodes s v z
 allowed_from nodes s v z there l = ((form_at nodes s.end.parts v).constant, cond-true (value_of nodes s.there v) _ _ there, l)
 
--- a side in a store that has grown
-pub side_stays : (old new : Diagrams) (n : ℕ) (s : Side) → Extends old new → IsSide old.nodes n s → IsSide new.nodes n s
-side_stays old new n s e is = record {
-  there = let u = is.there in let m = e.longer in omega (arith, u, m);
-  term = term_later old new 0 s.end.parts e is.term;
-  small = λ v. subst (λ (f : Form). unsigned_abs f.constant ≤ n) (sym (form_later old new s.end.parts v e is.term.refs)) (is.small v);
-}
-
 pub allowed_stays : (old new : Diagrams) (n : ℕ) (s : Side) (v : Valuation) (z : ℤ) → Extends old new → IsSide old.nodes n s
     → IsAllowed new.nodes s v z ↔ IsAllowed old.nodes s v z
 allowed_stays old new n s v z e is = (to, from)

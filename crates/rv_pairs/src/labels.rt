@@ -15,6 +15,7 @@ ghost use Rattle.rv_pairs.specs.Taking.{ArePremises};
 use rv_base::{Many, Memory};
 use rv_cases::Questions;
 use rv_diagram::{Ref, Store, StoreFault};
+use rv_ends::main_tick;
 use rv_rows::Row;
 use std::alloc::Global;
 
@@ -126,21 +127,9 @@ fn label_given(
     Ok(())
 }
 
-/// True where the main tick is, which is variable 0.
-fn main_tick(store: &mut Store) -> Result<Ref, StoreFault>
-    ensures extends { Extends store.old store.new }
-    ensures roomy { IsErrOf result StoreFault.Nodes → store.old.limit < 2 ^ (2 ^ store.old.variables) }
-    ensures found { IfOk result (IsRef store.new.nodes) }
-    ensures means { IfOk result (λ r. 0 < store.old.variables → (v : Valuation) → value_of store.new.nodes r v ≡ v 0) }
-{
-    if store.variables() == 0 {
-        return Ok(store.constant(false));
-    }
-    store.variable(0)
-}
-
 /// The premises of a row claim at all valuations at once: the rows of the order tests, in order, each where its answer is given, and then the
-/// claim's own rows, where the main tick is true. With what was built of it.
+/// claim's own rows, where the main tick is true. Nodes comes where the store has no room for what is built, never where its limit holds every
+/// function of its variables, and Memory where there is none; what was built is left, after a fault too.
 pub fn premises(
     alloc: Global,
     store: &mut Store,

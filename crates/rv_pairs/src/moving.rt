@@ -10,8 +10,8 @@ ghost use Rattle.rv_rows.specs.Forms.{number, FormWithin};
 ghost use Rattle.rv_rows.specs.Arithmetic.{zeros};
 ghost use Rattle.rv_proofs.specs.Systems.{System, IsSystem};
 ghost use Rattle.rv_cases.specs.Questions.{AreQuestions, memory_answers, forms_at};
+ghost use Rattle.rv_ends.specs.Risen.{IsRisen};
 ghost use Rattle.rv_pairs.specs.Labels.{AreLabels};
-ghost use Rattle.rv_pairs.specs.Risen.{IsRisen};
 ghost use Rattle.rv_pairs.specs.Moves.{IsMovedIn, HoldsAfter};
 
 use crate::labels::Labelled;
@@ -167,7 +167,8 @@ fn risen_from(
 
 /// The limit of a left side over the memories, risen by what the rows that count at each taken valuation show at once of it after the updates there:
 /// it stays where it is shown at all of them, rises to the least threshold that is, and goes where there is none. The numbers of the left side
-/// are -1, 0 and 1. The store is left as it was.
+/// are -1, 0 and 1. The store is left as it was, after a fault too. Nodes comes where it has no room for what is built on the way, never where its
+/// limit holds every function of its variables, and Memory where there is none.
 pub fn risen_row(
     alloc: Global,
     store: &mut Store,

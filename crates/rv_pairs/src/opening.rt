@@ -59,7 +59,8 @@ fn within(store: &mut Store, allowed: Ref, reached: &Frozen) -> Result<Ref, Stor
 }
 
 /// What a row claim takes: the allowed valuations whose control state is in its set and whose premises, the labelled rows, are not shut at once.
-/// With what was built of it.
+/// Nodes comes where the store has no room for what is built, never where its limit holds every function of its variables, and Memory where
+/// there is none; what was built is left, after a fault too.
 pub fn open_rows(
     alloc: Global,
     store: &mut Store,

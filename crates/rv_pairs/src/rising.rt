@@ -1,23 +1,22 @@
 //! How far a limit rises by what is shown of a form where a reference is true.
 
-ghost use Rattle.std.specs.Prelude.{◌≡◌, ℕ, ℤ, ◌<◌, ◌≤◌, ◌^◌, ◌+ℤ◌, ◌-ℤ◌, ◌<ℤ◌, ◌≤ℤ◌, true, Some, length, All, IfOk, IsErrOf, MatchBool, pos, []};
+ghost use Rattle.std.specs.Prelude.{◌≡◌, ◌<◌, ◌≤◌, ◌^◌, ◌-ℤ◌, true, Some, IfOk, IsErrOf, MatchBool, pos};
 ghost use Rattle.std.specs.Int.RustNames.{unsigned_abs};
 ghost use Rattle.rv_diagram.specs.Nodes.{Valuation, IsRef, value_of};
 ghost use Rattle.rv_diagram.specs.Growing.{Extends};
 ghost use Rattle.rv_rows.specs.Forms.{FormWithin};
 ghost use Rattle.rv_seek.specs.Least.{at_most};
-ghost use Rattle.rv_ends.specs.Sides.{IsSide};
+ghost use Rattle.rv_ends.specs.Risen.{IsRisen};
 ghost use Rattle.rv_pairs.specs.Labels.{IsLabel, AreLabels};
 ghost use Rattle.rv_pairs.specs.Bounds.{SumShows};
-ghost use Rattle.rv_pairs.specs.Risen.{IsRisen, ShowForm, EndsWithin, PartWithin};
+ghost use Rattle.rv_pairs.specs.Risen.{ShowForm};
 
 use crate::labels::Labelled;
 use crate::showing::{misses, nothing, shown};
 use rv_base::Many;
 use rv_diagram::{Ref, Store, StoreFault};
-use rv_ends::{Side, is_below, least_above};
+use rv_ends::{Side, is_below, risen_to};
 use rv_rows::Form;
-use rv_terms::Part;
 use std::alloc::Global;
 
 /// The limit less a constant.
@@ -87,79 +86,6 @@ fn is_kept(
     Ok(false)
 }
 
-/// The sum of a bound and a constant.
-fn value_of_end(end: i128, constant: i128) -> i128
-    requires end { unsigned_abs end ≤ 2 ^ 61 }
-    requires constant { unsigned_abs constant ≤ 2 ^ 50 }
-    ensures { result ≡ end +ℤ constant }
-{
-    end + constant
-}
-
-/// The limit, or the least threshold that is not below the value, where that is past the limit.
-fn risen_past(value: i128, thresholds: &Many<i128>, limit: i128) -> Option<i128>
-    ensures { IsRisen thresholds.now (λ b. value ≤ℤ b) (Some limit) result }
-{
-    if is_below(limit, value) {
-        return least_above(thresholds, value);
-    }
-    Some(limit)
-}
-
-/// The limit, risen by the constant of one part of a term and the number, where that part holds and the reference is true.
-fn risen_part(
-    store: &mut Store,
-    inside: Ref,
-    part: &Part,
-    number: i128,
-    thresholds: &Many<i128>,
-    limit: i128,
-) -> Result<Option<i128>, StoreFault>
-    requires inside { IsRef store.old.nodes inside }
-    requires part { IsRef store.old.nodes part.now.under }
-    requires small { (v : Valuation) → value_of store.old.nodes part.now.under v ≡ true → unsigned_abs part.now.form.constant ≤ 2 ^ 61 }
-    requires number { unsigned_abs number ≤ 2 ^ 50 }
-    ensures extends { Extends store.old store.new }
-    ensures roomy { IsErrOf result StoreFault.Nodes → store.old.limit < 2 ^ (2 ^ store.old.variables) }
-    ensures risen { IfOk result (IsRisen thresholds.now (PartWithin store.old.nodes inside part.now number) (Some limit)) }
-{
-    let here = store.and(inside, part.under)?;
-    let _count = store.mark();
-    if store.is_false(here) {
-        return Ok(Some(limit));
-    }
-    let value = value_of_end(part.form.constant, number);
-    Ok(risen_past(value, thresholds, limit))
-}
-
-/// The limit, risen by the term's constant and the number where the reference is true.
-fn risen_to(
-    store: &mut Store,
-    inside: Ref,
-    side: &Side,
-    number: i128,
-    thresholds: &Many<i128>,
-    limit: i128,
-) -> Result<Option<i128>, StoreFault>
-    requires inside { IsRef store.old.nodes inside }
-    requires side { IsSide store.old.nodes (2 ^ 61) side.now }
-    requires number { unsigned_abs number ≤ 2 ^ 50 }
-    ensures extends { Extends store.old store.new }
-    ensures roomy { IsErrOf result StoreFault.Nodes → store.old.limit < 2 ^ (2 ^ store.old.variables) }
-    ensures risen { IfOk result (IsRisen thresholds.now (EndsWithin store.old.nodes inside side.now.end.parts number) (Some limit)) }
-{
-    let mut held = limit;
-    for place in 0..side.end.parts.len() {
-        let part = side.end.parts.at(place);
-        let next = risen_part(store, inside, part, number, thresholds, held)?;
-        match next {
-            Some(bound) => held = bound,
-            None => return Ok(None),
-        }
-    }
-    Ok(Some(held))
-}
-
 /// Whether the side has no bound somewhere where the reference is true.
 fn lacks(store: &mut Store, inside: Ref, side: &Side) -> Result<bool, StoreFault>
     requires inside { IsRef store.old.nodes inside }
@@ -196,7 +122,14 @@ fn risen_least(
     if absent {
         return Ok(None);
     }
-    risen_to(store, inside, &least, form.constant, thresholds, limit)
+    risen_to(
+        store,
+        inside,
+        &least,
+        form.constant,
+        thresholds,
+        Some(limit),
+    )
 }
 
 /// The limit, risen by what the rows that count show at once of the form where the reference is true: it stays where it is shown there, rises

@@ -177,7 +177,8 @@ fn of_none(alloc: Global, store: &mut Store, numbers: &Many<i128>) -> Result<Sid
 }
 
 /// The least bound of the left side with these numbers that the rows which count at each valuation show at once: none, one or two different
-/// ones whose left sides sum to it. With what was built of it.
+/// ones whose left sides sum to it. Nodes comes where the store has no room for what is built, never where its limit holds every function of its
+/// variables, and Memory where there is none; what was built is left, after a fault too.
 pub fn shown(
     alloc: Global,
     store: &mut Store,

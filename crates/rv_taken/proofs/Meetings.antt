@@ -2,7 +2,7 @@
 use Rattle.std.proofs.Common.{◌≡◌, ◌↔◌, ℕ, ◌+◌, ◌<◌, ◌≤◌, ◌^◌, List, length, Bool, true}
 use Rattle.std.proofs.Common.{false, not, ◌&&◌, ℤ, pos, ◌+ℤ◌, ◌-ℤ◌, ◌<ℤ◌, Some, cond, slice_get}
 use Rattle.std.proofs.Common.{None as Nothing, refl, sym, ap, ◌∙◌, subst, arith, ⊎_elim, MatchBool, Result, Ok, Err, IfOk}
-use Rattle.std.proofs.{lemmas.Bool.cases_lt, lemmas.Bool.cases_Bool, lemmas.Bool.false≢true}
+use Rattle.std.proofs.{lemmas.Bool.cases_lt, lemmas.Bool.cases_Bool, lemmas.Bool.false≢true, lemmas.Bool.MatchBool-at_true, lemmas.Bool.MatchBool-at_false}
 use Rattle.std.proofs.{lemmas.Int.ints, lemmas.Option.none-some, lemmas.Option.same_Some}
 use Rattle.std.proofs.{lemmas.List.get_or_past, lemmas.List.length-map}
 use Rattle.std.specs.Int.RustNames.{unsigned_abs}
@@ -25,11 +25,6 @@ use Rattle.rv_taken.proofs.Points.{uncrossed_point, point_uncrossed, peak_unmet,
 pub exactly_as : (nodes : List Triple) (p q : Valuation → Type 0) (r : ℕ) → ((v : Valuation) → p v → q v) → ((v : Valuation) → q v → p v)
     → IsExactly nodes p r → IsExactly nodes q r
 exactly_as nodes p q r to from is = record { found = is.found; means = λ v. (λ on. to v ((is.means v).0 on), λ h. (is.means v).1 (from v h)) }
-
--- what follows from a clause on a call's answer
-pub from_ok : {A E : Type 0} (r : Result A E) (p q : A → Type 0) → IfOk r p → ((x : A) → p x → q x) → IfOk r q
-from_ok (Ok x) p q h f = f x h
-from_ok (Err e) p q h f = h
 
 -- what follows from two clauses on a call's answer
 pub ok_two : {A E : Type 0} (r : Result A E) (p q t : A → Type 0) → ((x : A) → p x → q x → t x) → IfOk r p → IfOk r q → IfOk r t
@@ -220,12 +215,6 @@ unmet_exact old new top box r v x least e peak below = go (value_of new x v) ref
     go false off = peak_met box r (side_at old top v) peak
         (λ z is less. false≢true (sym off ∙ below.1 (z, is, subst (λ (y : ℤ). z <ℤ y) (sym e) less)))
 
-pub at_true : (A B : Type 0) (b : Bool) → b ≡ true → MatchBool b A B → A
-at_true A B b is m = subst (λ (x : Bool). MatchBool x A B) is m
-
-pub at_false : (A B : Type 0) (b : Bool) → b ≡ false → MatchBool b A B → B
-at_false A B b is m = subst (λ (x : Bool). MatchBool x A B) is m
-
 pub row_met : (s a : Diagrams) (new : List Triple) (ends : List Ends) (open' under shut r : ℕ) (row : Row) → Extends s a → IsRef s.nodes open'
     → IsRef s.nodes under → ((v : Valuation) → value_of s.nodes open' v ≡ true → HasPoint (box_at s.nodes ends v))
     → ((v : Valuation) → HasPoint (box_at s.nodes ends v)
@@ -239,7 +228,7 @@ row_met s a new ends open' under shut r row more ref known opened exact (found, 
         let here : value_of s.nodes open' v ≡ true = sym (more.kept open' ref v) ∙ one in
         (here, λ two. met v here (λ three. off (more.kept under known v ∙ two) three)),
     λ h. means v ∙ less_from (value_of a.nodes open' v) (value_of a.nodes under v) (value_of a.nodes shut v) (more.kept open' ref v ∙ h.0)
-        (λ two three. at_true (IsMetIn (box_at s.nodes ends v) row → ⊥) (IsMetIn (box_at s.nodes ends v) row) (value_of a.nodes shut v) three
+        (λ two three. MatchBool-at_true (IsMetIn (box_at s.nodes ends v) row → ⊥) (IsMetIn (box_at s.nodes ends v) row) three
         (exact v (opened v h.0))
         (h.1 (sym (more.kept under known v) ∙ two))),
   );
@@ -247,7 +236,7 @@ row_met s a new ends open' under shut r row more ref known opened exact (found, 
   where
     met : (v : Valuation) → value_of s.nodes open' v ≡ true → (value_of a.nodes shut v ≡ true → ⊥) → IsMetIn (box_at s.nodes ends v) row
     met v here off = ⊎_elim (λ t. absurd (off t))
-        (λ f. at_false (IsMetIn (box_at s.nodes ends v) row → ⊥) (IsMetIn (box_at s.nodes ends v) row) (value_of a.nodes shut v) f (exact v (opened v here)))
+        (λ f. MatchBool-at_false (IsMetIn (box_at s.nodes ends v) row → ⊥) (IsMetIn (box_at s.nodes ends v) row) f (exact v (opened v here)))
         (cases_Bool (value_of a.nodes shut v))
 
 -- a row in a store that has grown, under a reference that is true at most where the other was

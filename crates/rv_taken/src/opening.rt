@@ -243,8 +243,9 @@ fn opened(
 }
 
 /// What a claim takes: the allowed valuations whose control state is in its set and whose narrowed box is open, and the box at each valuation.
-/// `tests` are the ends that the order tests alone give (`test_ends`), `upper` and `lower` the limits of the memories and of their opposites. With what
-/// was built of it.
+/// `tests` are the ends that the order tests alone give (`test_ends`), `upper` and `lower` the limits of the memories and of their opposites. Nodes
+/// comes where the store has no room for what is built, never where its limit holds every function of its variables, and Memory where there is
+/// none; what was built is left, after a fault too.
 pub fn open_claim(
     alloc: Global,
     store: &mut Store,

@@ -8,8 +8,10 @@ use Rattle.rv_diagram.proofs.Growing.{extends_refl, extends_trans, grows_extends
 use Rattle.rv_proofs.specs.Systems.{System, IsSystem}
 use Rattle.rv_cases.specs.{Conditions.is_in, Questions.AreQuestions, Questions.memory_answers, Questions.forms_at}
 use Rattle.rv_cases.proofs.Keeping.{questions_later}
-use Rattle.rv_pairs.specs.{Risen.IsRisen, Risen.ShowForm, Moves.IsMovedIn, Moves.HoldsAfter, Moves.HoldsAmong}
-use Rattle.rv_pairs.proofs.{Counting.labels_stay, Raising.risen_still, Raising.risen_as, Raising.risen_gone, Raising.risen_within}
+use Rattle.rv_ends.specs.Risen.{IsRisen}
+use Rattle.rv_ends.proofs.Risen.{risen_still, risen_as, risen_gone}
+use Rattle.rv_pairs.specs.{Risen.ShowForm, Moves.IsMovedIn, Moves.HoldsAfter, Moves.HoldsAmong}
+use Rattle.rv_pairs.proofs.{Counting.labels_stay, Raising.risen_within}
 use Rattle.rv_pairs.proofs.Following.{form_wider, form_shows, shows_form, answers_risen, all_answers, each_answer, moved_on, form_given, answer_found, answer_both}
 use Rattle.rv_pairs.proofs.Following.{answers_long}
 use Rattle.rv_pairs.proofs.moving.+risen_from.Goals as goal
@@ -17,8 +19,8 @@ use Rattle.rv_pairs.proofs.moving.+risen_from.Goals as goal
 pub returns-then-is_false-clause-risen : goal.returns-then-is_false-clause-risen
 returns-then-is_false-clause-risen t c s system asked many some moved =
     let limit_fits : FitsSigned w128 c.args.limit = search rules in
-    simp to_z-of_z (risen_still c.args.thresholds.now (HoldsAfter s c.args.store.now.nodes c.args.labels.now c.args.inside c.args.side.now) c.args.limit
-    (λ v on. absurd (false≢true (sym (c.is_false.ensures.0 c.if-is_false.true v) ∙ on))))
+    simp to_z-of_z (risen_still c.args.thresholds.now (HoldsAfter s c.args.store.now.nodes c.args.labels.now c.args.inside c.args.side.now) (Some c.args.limit)
+    (λ b e v on. absurd (false≢true (sym (c.is_false.ensures.0 c.if-is_false.true v) ∙ on))))
 
 pub risen_by-requires-clause-form : goal.risen_by-requires-clause-form
 risen_by-requires-clause-form t c =
@@ -84,7 +86,7 @@ loop-place-init t c =
       small = simp to_z-of_z c.requires.limit;
       risen = λ s system asked many some moved. simp to_z-of_z (risen_still c.args.thresholds.now
           (HoldsAmong s c.args.store.now.nodes c.args.labels.now c.args.inside c.args.side.now
-          (memory_answers c.args.questions.now c.next_column-column.result) 0) c.args.limit (λ i low. absurd (omega (arith, low))));
+          (memory_answers c.args.questions.now c.next_column-column.result) 0) (Some c.args.limit) (λ b e i low. absurd (omega (arith, low))));
     }
 
 pub at-answer-requires : goal.at-answer-requires

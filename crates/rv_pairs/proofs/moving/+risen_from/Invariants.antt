@@ -3,7 +3,8 @@ use Rattle.std.specs.Int.RustNames.{unsigned_abs}
 use Rattle.rv_diagram.specs.Growing.{Extends}
 use Rattle.rv_proofs.specs.Systems.{System, IsSystem}
 use Rattle.rv_cases.specs.Questions.{AreQuestions, memory_answers}
-use Rattle.rv_pairs.specs.{Risen.IsRisen, Moves.IsMovedIn, Moves.HoldsAmong}
+use Rattle.rv_ends.specs.Risen.{IsRisen}
+use Rattle.rv_pairs.specs.Moves.{IsMovedIn, HoldsAmong}
 use Rattle.rv_pairs.proofs.moving.+risen_from.Given as goal
 
 abbrev pub invariant-loop-place : goal.invariant-loop-place

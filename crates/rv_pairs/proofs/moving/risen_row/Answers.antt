@@ -4,7 +4,8 @@ use Rattle.std.specs.Int.{w128}
 use Rattle.rv_rows.specs.declared.linear.Form.{Form}
 use Rattle.rv_proofs.specs.Systems.{System, IsSystem}
 use Rattle.rv_cases.specs.Questions.{AreQuestions}
-use Rattle.rv_pairs.specs.{Risen.IsRisen, Moves.IsMovedIn, Moves.HoldsAfter}
+use Rattle.rv_ends.specs.Risen.{IsRisen}
+use Rattle.rv_pairs.specs.Moves.{IsMovedIn, HoldsAfter}
 use Rattle.rv_pairs.proofs.Following.{moved_none, zeros_long, zeros_within}
 use Rattle.rv_pairs.proofs.moving.risen_row.Goals as goal
 

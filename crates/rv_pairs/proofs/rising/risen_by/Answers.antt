@@ -1,17 +1,20 @@
-use Rattle.std.proofs.Common.{Option, ℤ, Some, rules, FitsSigned}
-use Rattle.std.proofs.{lemmas.Int.to_z-of_z, lemmas.Result.IfOk-weaker}
+use Rattle.std.proofs.Common.{Option, ℤ, Some, subst, rules, FitsSigned}
+use Rattle.std.proofs.{lemmas.Int.to_z-of_z, lemmas.Option.same_Some, lemmas.Result.IfOk-weaker}
 use Rattle.std.specs.Int.{w128}
 use Rattle.rv_diagram.proofs.Growing.{extends_trans}
-use Rattle.rv_pairs.specs.Risen.{IsRisen, ShowForm}
-use Rattle.rv_pairs.proofs.{Counting.labels_stay, Raising.risen_still, Raising.risen_as, Raising.show_moves, Raising.show_later}
+use Rattle.rv_ends.specs.Risen.{IsRisen}
+use Rattle.rv_ends.proofs.Risen.{risen_still, risen_as}
+use Rattle.rv_pairs.specs.Risen.{ShowForm}
+use Rattle.rv_pairs.proofs.{Counting.labels_stay, Raising.show_moves, Raising.show_later}
 use Rattle.rv_pairs.proofs.rising.risen_by.Goals as goal
 
 pub returns-then-kept-clause-risen : goal.returns-then-kept-clause-risen
 returns-then-kept-clause-risen c =
     let limit_fits : FitsSigned w128 c.args.limit = search rules in
     let kept = simp to_z-of_z at c.in_ok-kept.ensures.kept in
-    simp to_z-of_z (risen_still c.args.thresholds.now (ShowForm c.args.store.now.nodes c.args.labels.now c.args.inside c.args.form.now) c.args.limit
-    (kept c.if-kept.true))
+    let holds : ℤ → Type 0 = ShowForm c.args.store.now.nodes c.args.labels.now c.args.inside c.args.form.now in
+    simp to_z-of_z (risen_still c.args.thresholds.now holds (Some c.args.limit)
+    (λ b e. subst holds (same_Some c.args.limit b e) (kept c.if-kept.true)))
 
 pub risen_least-requires-clause-labels : goal.risen_least-requires-clause-labels
 risen_least-requires-clause-labels c = labels_stay c.args.store.now c.is_kept.new.store c.args.labels.now c.in_ok-kept.ensures.extends c.requires.labels

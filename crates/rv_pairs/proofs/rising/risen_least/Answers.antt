@@ -1,17 +1,19 @@
-use Rattle.std.proofs.Common.{◌≡◌, ◌∙◌, ◌^◌, ℤ, Option, Some, true, sym, arith, rules, FitsSigned}
+use Rattle.std.proofs.Common.{◌≡◌, ◌∙◌, ◌*◌, ◌^◌, ℤ, Option, Some, true, sym, arith, rules, FitsSigned}
 use Rattle.std.proofs.{lemmas.Int.to_z-of_z, lemmas.Bool.MatchBool-at_true, lemmas.Bool.MatchBool-at_false, lemmas.Result.IfOk-weaker}
 use Rattle.std.specs.Int.{w128}
 use Rattle.rv_diagram.specs.Nodes.{Valuation, value_of}
 use Rattle.rv_diagram.proofs.Growing.{extends_trans}
 use Rattle.rv_terms.proofs.Combining.{form_later}
-use Rattle.rv_pairs.specs.Risen.{IsRisen, ShowForm, EndsWithin}
-use Rattle.rv_pairs.proofs.{Lowering.side_stays, Raising.risen_never, Raising.risen_as, Raising.ends_show, Raising.show_ends, Raising.show_there}
+use Rattle.rv_ends.specs.Risen.{IsRisen, EndsWithin}
+use Rattle.rv_ends.proofs.{Sided.side_within, Stays.side_later, Risen.risen_off, Risen.risen_as}
+use Rattle.rv_pairs.specs.Risen.{ShowForm}
+use Rattle.rv_pairs.proofs.Raising.{ends_show, show_ends, show_there}
 use Rattle.rv_pairs.proofs.rising.risen_least.Goals as goal
 
 pub returns-then-absent-clause-risen : goal.returns-then-absent-clause-risen
 returns-then-absent-clause-risen c =
-    risen_never c.args.thresholds.now (ShowForm c.args.store.now.nodes c.args.labels.now c.args.inside c.args.form.now) (Some c.args.limit)
-    (λ b h. MatchBool-at_true
+    risen_off c.args.thresholds.now (ShowForm c.args.store.now.nodes c.args.labels.now c.args.inside c.args.form.now) (Some c.args.limit)
+    (λ a b at low among h. MatchBool-at_true
     (((v : Valuation) → value_of c.shown.new.store.nodes c.args.inside v ≡ true → value_of c.shown.new.store.nodes c.in_ok-least.least.there v ≡ true) → ⊥)
     ((v : Valuation) → value_of c.shown.new.store.nodes c.args.inside v ≡ true → value_of c.shown.new.store.nodes c.in_ok-least.least.there v ≡ true)
     c.if-absent.true c.in_ok-absent.ensures.exact
@@ -19,8 +21,8 @@ returns-then-absent-clause-risen c =
     c.in_ok-least.ensures.least h v (sym (c.in_ok-least.ensures.extends.kept c.args.inside (omega (arith, c.requires.inside)) v) ∙ on)))
 
 pub risen_to-requires-clause-side : goal.risen_to-requires-clause-side
-risen_to-requires-clause-side c = side_stays c.shown.new.store c.lacks.new.store (2 ^ 61) c.in_ok-least.least
-    c.in_ok-absent.ensures.extends c.in_ok-least.ensures.side
+risen_to-requires-clause-side c = side_within c.lacks.new.store.nodes (2 ^ 61) (128 * 2 ^ 101) c.in_ok-least.least (omega arith)
+    (side_later c.shown.new.store c.lacks.new.store (2 ^ 61) c.in_ok-least.least c.in_ok-absent.ensures.extends c.in_ok-least.ensures.side)
 
 pub returns-clause-risen : goal.returns-clause-risen
 returns-clause-risen c =

@@ -6,7 +6,8 @@ use Rattle.rv_diagram.proofs.Growing.{extends_trans, grows_extends}
 use Rattle.rv_seek.specs.Least.{bounded}
 use Rattle.rv_ends.specs.{declared.sides.Side.Side, Sides.side_at}
 use Rattle.rv_pairs.specs.Bounds.{IsAllowed, BothShow}
-use Rattle.rv_pairs.proofs.{Lowering.side_stays, Lowering.allowed_stays, Pairing.both_is, Pairing.both_not, Pairing.first_as}
+use Rattle.rv_ends.proofs.Stays.{side_later}
+use Rattle.rv_pairs.proofs.{Lowering.allowed_stays, Pairing.both_is, Pairing.both_not, Pairing.first_as}
 use Rattle.rv_pairs.proofs.showing.with_both.Goals as goal
 
 pub returns-then-misses-clause-exact : goal.returns-then-misses-clause-exact
@@ -14,7 +15,7 @@ returns-then-misses-clause-exact c v z = both_not c.args.store.now.nodes v c.arg
     (IsAllowed c.args.store.now.nodes c.args.side v z) c.if-misses.ensures
 
 pub lowered-requires-clause-side : goal.lowered-requires-clause-side
-lowered-requires-clause-side c = side_stays c.args.store.now c.and.new.self (2 ^ 61) c.args.side
+lowered-requires-clause-side c = side_later c.args.store.now c.and.new.self (2 ^ 61) c.args.side
     (grows_extends c.args.store.now c.and.new.self c.in_ok-under.ensures.ok.grows) c.requires.side
 
 pub returns-clause-extends : goal.returns-clause-extends

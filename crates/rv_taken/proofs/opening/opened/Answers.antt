@@ -1,10 +1,11 @@
 use Rattle.std.proofs.Common.{length, List, sym, subst, arith}
+use Rattle.std.proofs.lemmas.Result.{IfOk-weaker}
 use Rattle.rv_diagram.proofs.Growing.{extends_trans}
 use Rattle.rv_cases.specs.{Conditions.list_at, Questions.rows_at}
 use Rattle.rv_cases.proofs.Keeping.{have_later}
 use Rattle.rv_ends.specs.{Intervals.HasPoint, Intervals.Interval}
 use Rattle.rv_ends.proofs.Stays.{ends_later, box_later}
-use Rattle.rv_taken.proofs.Meetings.{from_ok, rows_of_later, opened_exact}
+use Rattle.rv_taken.proofs.Meetings.{rows_of_later, opened_exact}
 use Rattle.rv_taken.proofs.opening.opened.Goals as goal
 
 pub without_tests-requires-clause-answers : goal.without_tests-requires-clause-answers
@@ -32,6 +33,7 @@ returns-clause-extends c = extends_trans c.args.store.now c.without_empty.new.st
     c.without_tests.ensures.extends
 
 pub returns-clause-exact : goal.returns-clause-exact
-returns-clause-exact c = from_ok c.without_tests.result _ _ c.without_tests.ensures.exact
+returns-clause-exact c = IfOk-weaker c.without_tests.result _ _
     (λ r is. opened_exact c.args.store.now c.without_empty.new.store c.without_tests.new.store.nodes c.args.ends.now c.args.questions.now c.args.whole
     c.in_ok-some.some r c.in_ok-some.ensures.extends c.requires.ends c.requires.answers c.in_ok-some.ensures.exact is)
+    c.without_tests.ensures.exact

@@ -1,5 +1,5 @@
 use Rattle.rv_diagram.specs.Growing.{Extends}
-use Rattle.rv_taken.specs.Rising.{IsRisen}
+use Rattle.rv_ends.specs.Risen.{IsRisen}
 use Rattle.rv_taken.proofs.Risings.{FormsHold}
 use Rattle.rv_taken.proofs.rising.risen_in.Given as goal
 

@@ -1,16 +1,16 @@
-use Rattle.std.proofs.Common.{◌≡◌, ◌<◌, ◌≤◌, ◌^◌, ◌*◌, ◌∙◌, ℕ, ℤ, true, length, ap, subst, sym, arith}
+use Rattle.std.proofs.Common.{◌≡◌, ◌<◌, ◌≤◌, ◌^◌, ◌*◌, ◌∙◌, ℤ, true, length, ap, subst, sym, arith}
 use Rattle.std.proofs.{lemmas.Option.get_or_from_slice_get, lemmas.Int.to_z-of_z}
 use mir.Val.{to_z, of_z}
-use mir.Syntax.{w128}
+use Rattle.std.specs.Int.{w128}
 use Rattle.std.specs.Int.RustNames.{unsigned_abs}
 use Rattle.rv_rows.specs.declared.linear.Form.{Form}
 use Rattle.rv_diagram.specs.Nodes.{IsRef, value_of}
 use Rattle.rv_diagram.proofs.Growing.{extends_refl, extends_trans}
 use Rattle.rv_terms.specs.{declared.parted.Part.Part, Parts.part_at, Parts.form_at}
 use Rattle.rv_terms.proofs.Combining.{form_is}
-use Rattle.rv_taken.specs.Rising.{IsRisen, PartsHold}
-use Rattle.rv_taken.proofs.Risings.{parts_first, parts_more}
-use Rattle.rv_taken.proofs.rising.risen_to.Goals as goal
+use Rattle.rv_ends.specs.Risen.{IsRisen, EndsWithin}
+use Rattle.rv_ends.proofs.Risen.{parts_first, parts_more, parts_ends}
+use Rattle.rv_ends.proofs.raising.risen_to.Goals as goal
 
 pub risen_part-requires-clause-under : goal.risen_part-requires-clause-under
 risen_part-requires-clause-under c =
@@ -39,7 +39,7 @@ risen_part-requires-clause-small c v on =
 pub loop-place-init : goal.loop-place-init
 loop-place-init c = record {
   extends = extends_refl c.args.store.now;
-  risen = parts_first c.args.store.now.nodes c.args.inside c.args.side.now.end.parts (to_z w128 (of_z w128 c.args.constant)) c.args.thresholds.now
+  risen = parts_first c.args.store.now.nodes c.args.inside c.args.side.now.end.parts (to_z w128 (of_z w128 c.args.number)) c.args.thresholds.now
       c.args.limit;
 }
 
@@ -51,7 +51,7 @@ loop-place-preserved c =
     record {
       extends = extends_trans c.args.store.now c.loop-place.store c.risen_part.new.store c.loop-place.invariant.extends c.in_ok-held.ensures.extends;
       risen = parts_more c.args.store.now c.loop-place.store c.args.inside c.args.side.now.end.parts c.at-part.result.now
-          (to_z w128 (of_z w128 c.args.constant))
+          (to_z w128 (of_z w128 c.args.number))
           c.loop-place.place c.args.thresholds.now c.args.limit c.loop-place.held c.in_ok-held.held c.loop-place.invariant.extends c.requires.inside
           (subst (λ (p : Part). IsRef c.args.store.now.nodes p.under) at (c.requires.side.term.refs c.loop-place.place low)) at
           c.loop-place.invariant.risen c.in_ok-held.ensures.risen;
@@ -60,9 +60,7 @@ loop-place-preserved c =
 pub returns-clause-risen : goal.returns-clause-risen
 returns-clause-risen c =
     let all : c.loop-place.place ≡ length c.args.side.now.end.parts = omega (arith, c.loop-place-test.false, c.len-place-end.ensures) in
-    subst (λ (z : ℤ). IsRisen c.args.thresholds.now
-    (PartsHold c.args.store.now.nodes c.args.inside c.args.side.now.end.parts z (length c.args.side.now.end.parts)) c.args.limit c.loop-place.held)
-    (to_z-of_z w128 c.args.constant c.ranges.constant)
-    (subst (λ (n : ℕ). IsRisen c.args.thresholds.now
-    (PartsHold c.args.store.now.nodes c.args.inside c.args.side.now.end.parts (to_z w128 (of_z w128 c.args.constant)) n)
-    c.args.limit c.loop-place.held) all c.loop-place.invariant.risen)
+    subst (λ (z : ℤ). IsRisen c.args.thresholds.now (EndsWithin c.args.store.now.nodes c.args.inside c.args.side.now.end.parts z) c.args.limit
+    c.loop-place.held) (to_z-of_z w128 c.args.number c.ranges.number)
+    (parts_ends c.args.store.now.nodes c.args.inside c.args.side.now.end.parts (to_z w128 (of_z w128 c.args.number)) c.loop-place.place
+    c.args.thresholds.now c.args.limit c.loop-place.held c.requires.side.term all c.loop-place.invariant.risen)
