@@ -14,3 +14,4 @@ pub mod Deciding
 pub mod Sampled
 pub mod Asked
 pub mod Concluding
+pub mod Judgment

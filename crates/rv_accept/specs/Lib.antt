@@ -3,3 +3,4 @@ pub mod Held
 pub mod Needs
 pub mod Passing
 pub mod Samples
+pub mod Judging

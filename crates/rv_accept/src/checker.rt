@@ -25,7 +25,7 @@ use rv_symbolic::Parts;
 use std::alloc::Global;
 
 /// The least initial control state that is in no location whose `entry` is empty, or none. The store is left as it was.
-fn initial_word(
+pub fn initial_word(
     store: &mut Store,
     parts: &Parts,
     certificate: &Certificate,
@@ -43,7 +43,7 @@ fn initial_word(
 }
 
 /// The least uncovered valuation of a location, or none. The store is left as it was.
-fn cover_word(
+pub fn cover_word(
     store: &mut Store,
     within: Ref,
     location: &Location,

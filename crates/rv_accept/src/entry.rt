@@ -25,7 +25,7 @@ use rv_symbolic::Parts;
 use std::alloc::Global;
 
 /// Whether the entry is a step, and not dead.
-fn is_step(entry: &Entry) -> bool
+pub fn is_step(entry: &Entry) -> bool
     ensures { MatchBool result (IsStepKind entry.now.kind) (IsDeadKind entry.now.kind) }
 {
     match &entry.kind {
@@ -35,7 +35,7 @@ fn is_step(entry: &Entry) -> bool
 }
 
 /// The least valuation in the scope of a step at which the observer is false, or none.
-fn step_unobserved(
+pub fn step_unobserved(
     store: &mut Store,
     parts: &Parts,
     entry: &Entry,
@@ -59,7 +59,7 @@ fn step_unobserved(
 
 /// The least valuation in the scope of a step that does not lead where it should, or none. `led` has for each location the
 /// valuations that lead into it.
-fn step_misses(
+pub fn step_misses(
     store: &mut Store,
     certificate: &Certificate,
     location: &Location,
