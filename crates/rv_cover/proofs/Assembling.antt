@@ -1,11 +1,11 @@
 -- A certificate that is assembled of entries in the ranges of a document.
-use Rattle.std.proofs.Common.{◌≡◌, ℕ, zero, suc, ◌+◌, ◌<◌, ◌≤◌, ◌^◌, pos, List, [], ◌∷◌, length, get_or, All, Some, slice_get, arith, refl, sym, ap, ◌∙◌, subst, true, false, not, Bool, lit≤}
-use Rattle.std.proofs.lemmas.List.Elements.{All-nil, All-cons, All-from_get_or, All-head, All-tail}
+use Rattle.std.proofs.Common.{◌≡◌, ℕ, zero, suc, ◌+◌, ◌<◌, pos, List, [], ◌∷◌, length, get_or, All, Some, slice_get, arith, refl, sym, ap, ◌∙◌, subst, true, false, not, Bool, lit≤}
+use Rattle.std.proofs.lemmas.List.Elements.{All-nil, All-cons, All-head, All-tail}
 use Rattle.std.proofs.{lemmas.Int.ints, lemmas.Option.get_or_from_slice_get, lemmas.Option.same_Some}
 use Rattle.rv_diagram.specs.{Nodes.node_at, Nodes.valuation_of, Nodes.IsOrderedOver, declared.frozen.Frozen.Frozen}
 use Rattle.rv_rows.specs.{declared.linear.Row.Row, declared.farkas.Multipliers.Multipliers, Tight.Fits}
-use Rattle.rv_proofs.specs.{Systems.System, Systems.IsSystem, Systems.IsRead, Ranges.IsCondition, Ranges.AreKept, Ranges.IsControlSet, Ranges.IsRecord}
-use Rattle.rv_proofs.specs.{Ranges.HasDivisor, Ranges.IsEntryInRange, Ranges.IsLocationInRange, Ranges.IsInRange, Samples.by_one, Counts.HasLoop, Counts.IsLoopKind}
+use Rattle.rv_proofs.specs.{Systems.System, Systems.IsRead, Ranges.IsCondition, Ranges.AreKept, Ranges.IsControlSet, Ranges.IsRecord}
+use Rattle.rv_proofs.specs.{Ranges.HasDivisor, Ranges.IsLocationInRange, Samples.by_one, Counts.HasLoop, Counts.IsLoopKind}
 use Rattle.rv_proofs.specs.Scopes.{refutation, after, Implication, each, rows_into, implications}
 use Rattle.rv_proofs.specs.{declared.certificate.Certificate.Certificate, declared.certificate.Location.Location, declared.certificate.Entry.Entry}
 use Rattle.rv_proofs.specs.{declared.certificate.EntryKind.EntryKind, declared.certificate.EntryKind.TheVariants.Dead}
@@ -14,7 +14,7 @@ use Rattle.rv_symbolic.specs.Variables.{is_of}
 use Rattle.rv_symbolic.proofs.Reading.{read_is}
 use Rattle.rv_boxes.specs.Certifying.{IsLocationOf}
 use Rattle.rv_boxes.proofs.Shutting.{record_from, IsRanged}
-use Rattle.rv_cover.specs.{declared.frame.Frame.Frame, Entries.IsPlainKind, Entries.IsReadable, Entries.AreShortEntries}
+use Rattle.rv_cover.specs.{declared.frame.By.By, declared.frame.Frame.Frame, Entries.IsPlainKind, Entries.IsReadable, Entries.AreShortEntries}
 use Rattle.rv_cover.specs.Seeking.{IsDocument, IsFrameFor, IsPlausible}
 
 not_true : (b : Bool) → not b ≡ true → b ≡ false
@@ -22,8 +22,8 @@ not_true true e = cc
 not_true false e = refl
 
 -- what a condition may read is a condition
-condition : (s : System) (columns : ℕ) (f : Frame) → IsFrameFor s.variables s.states columns f → (set : Frozen) → IsReadable f set → IsCondition s set
-condition s columns f frame set is = record { ordered = ordered; read = λ n l. read (node_at set.nodes n).var (ordered.low n l) (is.only n l) }
+condition : (s : System) (way : By) (f : Frame) → IsFrameFor s.variables s.states way f → (set : Frozen) → IsReadable f set → IsCondition s set
+condition s way f frame set is = record { ordered = ordered; read = λ n l. read (node_at set.nodes n).var (ordered.low n l) (is.only n l) }
   where
     ordered : IsOrderedOver s.variables set
     ordered = subst (λ (m : ℕ). IsOrderedOver m set) frame.variables_are is.ordered
@@ -56,7 +56,7 @@ unit_record n j l = record_from n (by_one j) refl (lit≤ tt)
     (All-cons (IsRanged n) (record { premise = j; by = pos 1 }) [] (l, (omega (arith, ints), omega (arith, ints))) (All-nil (IsRanged n)))
     (All-nil (λ u. j < u.premise), tt)
 
-module _ (s : System) (columns : ℕ) (f : Frame) (frame : IsFrameFor s.variables s.states columns f) (c : Certificate) (from : Frozen)
+module _ (s : System) (way : By) (f : Frame) (frame : IsFrameFor s.variables s.states way f) (c : Certificate) (from : Frozen)
     (control : IsControlSet s from) (rows : List Row) (kept : AreKept s rows) (es : List Entry) (n : ℕ) (many : n ≡ length rows + s.tests)
     (short : AreShortEntries f n es) (l : Location) (is : IsLocationOf from rows es l) where
   none_kept : AreKept s []
@@ -95,12 +95,12 @@ module _ (s : System) (columns : ℕ) (f : Frame) (frame : IsFrameFor s.variable
     by_first = subst (All (IsRecord (length l.first))) (sym is.by_first) (none_ones (length l.first));
     few = let few = short.few in omega (arith, few, ap length is.entries);
     entries = λ j e at. let h = short.each j e (at_entry j e at) in record {
-      condition = condition s columns f frame e.condition h.condition;
+      condition = condition s way f frame e.condition h.condition;
       by = kind_in s c l e.kind (plain_kind j e at);
     };
   }
 
-module _ (s : System) (columns : ℕ) (f : Frame) (frame : IsFrameFor s.variables s.states columns f) (tests : ℕ) (many : tests ≡ s.tests)
+module _ (s : System) (way : By) (f : Frame) (frame : IsFrameFor s.variables s.states way f) (tests : ℕ) (many : tests ≡ s.tests)
     (first rest : Frozen) (first_set : IsControlSet s first) (rest_set : IsControlSet s rest) (rows : List Row) (kept : AreKept s rows)
     (c : Certificate) (is : IsPlausible f tests first rest rows c) where
   no_rows_kept : AreKept s []
@@ -115,15 +115,15 @@ module _ (s : System) (columns : ℕ) (f : Frame) (frame : IsFrameFor s.variable
   location : (k : ℕ) (l : Location) → slice_get (is.assembled.one ∷ is.assembled.two ∷ []) k ≡ Some l
       → IsLocationInRange s c l × (HasLoop l → ⊥) × (l.first ≡ []) × (l.around ≡ [])
   location zero l at = subst (λ (x : Location). IsLocationInRange s c x × (HasLoop x → ⊥) × (x.first ≡ []) × (x.around ≡ [])) (same_Some is.assembled.one l at) (
-    location_in s columns f frame c first first_set [] no_rows_kept is.initial tests (one_many 0 refl) is.initial_short is.assembled.one is.assembled.one_is,
-    no_loop s columns f frame c first first_set [] no_rows_kept is.initial tests (one_many 0 refl) is.initial_short is.assembled.one is.assembled.one_is,
+    location_in s way f frame c first first_set [] no_rows_kept is.initial tests (one_many 0 refl) is.initial_short is.assembled.one is.assembled.one_is,
+    no_loop s way f frame c first first_set [] no_rows_kept is.initial tests (one_many 0 refl) is.initial_short is.assembled.one is.assembled.one_is,
     is.assembled.one_is.first,
     is.assembled.one_is.around,
   )
   location (suc zero) l at = subst (λ (x : Location). IsLocationInRange s c x × (HasLoop x → ⊥) × (x.first ≡ []) × (x.around ≡ []))
       (same_Some is.assembled.two l at) (
-        location_in s columns f frame c rest rest_set rows kept is.others (length rows + tests) two_many is.others_short is.assembled.two is.assembled.two_is,
-        no_loop s columns f frame c rest rest_set rows kept is.others (length rows + tests) two_many is.others_short is.assembled.two is.assembled.two_is,
+        location_in s way f frame c rest rest_set rows kept is.others (length rows + tests) two_many is.others_short is.assembled.two is.assembled.two_is,
+        no_loop s way f frame c rest rest_set rows kept is.others (length rows + tests) two_many is.others_short is.assembled.two is.assembled.two_is,
         is.assembled.two_is.first,
         is.assembled.two_is.around,
       )

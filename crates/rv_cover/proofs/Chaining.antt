@@ -1,5 +1,5 @@
 -- References, questions and covers in a store that grows.
-use Rattle.std.proofs.Common.{◌≡◌, ℕ, ◌+◌, ◌<◌, ◌≤◌, List, [], ◌∷◌, ◌++◌, length, arith, sym, ap, ◌∙◌, subst, ⊎_elim, Some, slice_get, ◌⊎◌, inl}
+use Rattle.std.proofs.Common.{◌≡◌, ℕ, ◌<◌, List, [], ◌∷◌, ◌++◌, length, arith, sym, ap, ◌∙◌, subst, ⊎_elim, Some, slice_get, ◌⊎◌, inl}
 use Rattle.std.proofs.Common.{inr}
 use Rattle.std.proofs.{lemmas.Bool.cases_lt, lemmas.List.get_or_append_left, lemmas.List.length_push, Math.Seq.get_or-append_seam}
 use Rattle.rv_base.proofs.Lists.{push_cases, none_at}
@@ -29,7 +29,7 @@ pub searched_later : (s : System) (a b : Diagrams) (q : Questions) (f : Frame) (
 searched_later s a b q f given e is = record {
   system = is.system;
   questions = questions_later s a b q e is.questions;
-  columns = is.columns;
+  way = is.way;
   few = is.few;
 }
 

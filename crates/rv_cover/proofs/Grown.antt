@@ -6,11 +6,11 @@ use Rattle.rv_proofs.specs.{Systems.System, Ranges.AreKept, Ranges.IsControlSet,
 use Rattle.rv_symbolic.specs.{declared.relation.Parts.Parts, Represented.HaveRefs}
 use Rattle.rv_cases.specs.declared.asking.Questions.{Questions}
 use Rattle.rv_cases.proofs.{Keeping.questions_later, Gathering.refs_later}
-use Rattle.rv_cover.specs.{declared.frame.Frame.Frame, Seeking.IsSought, Seeking.IsSearched, Seeking.IsFrameFor, Seeking.IsPlausible, Seeking.IsDocument}
+use Rattle.rv_cover.specs.{declared.frame.By.By, declared.frame.Frame.Frame, Seeking.IsWay, Seeking.IsSought, Seeking.IsSearched, Seeking.IsFrameFor, Seeking.IsPlausible, Seeking.IsDocument}
 use Rattle.rv_cover.proofs.{Chaining.ref_later, Assembling.is_document}
 
-module _ (s : System) (a b : Diagrams) (p : Parts) (q : Questions) (columns : ℕ) (first rest : Frozen) (taken : ℕ) (reached : Frozen) (given : List Row)
-    (is : IsSought s a p q columns first rest taken reached given) (e : Extends a b) where
+module _ (s : System) (a b : Diagrams) (p : Parts) (q : Questions) (way : By) (first rest : Frozen) (taken : ℕ) (reached : Frozen) (given : List Row)
+    (is : IsSought s a p q way first rest taken reached given) (e : Extends a b) where
   variables : b.variables ≡ s.variables
   variables = let means = is.parts in e.variables ∙ means.variables
 
@@ -38,20 +38,20 @@ module _ (s : System) (a b : Diagrams) (p : Parts) (q : Questions) (columns : �
     copies = let few = refs.copies in let same = e.variables in omega (arith, few, same);
   }
 
-  pub rows_searched : (m n : ℕ) (f : Frame) → IsFrameFor m n columns f → (rows : List Row) → length rows ≤ length given → IsSearched s b q f rows
+  pub rows_searched : (m n : ℕ) (f : Frame) → IsFrameFor m n way f → (rows : List Row) → length rows ≤ length given → IsSearched s b q f rows
   rows_searched m n f frame rows few = record {
     system = is.system;
     questions = questions_later s a b q e is.questions;
-    columns = is.columns_are ∙ sym frame.columns_are;
+    way = subst (IsWay s) (sym frame.by_is) is.way;
     few = let most = is.few in omega (arith, few, most);
   }
 
-  frame_is : (f : Frame) → IsFrameFor b.variables (length p.next) columns f → IsFrameFor s.variables s.states columns f
+  frame_is : (f : Frame) → IsFrameFor b.variables (length p.next) way f → IsFrameFor s.variables s.states way f
   frame_is f frame = let means = is.parts in
-      subst (λ (n : ℕ). IsFrameFor s.variables n columns f) means.states (subst (λ (m : ℕ). IsFrameFor m (length p.next) columns f) variables frame)
+      subst (λ (n : ℕ). IsFrameFor s.variables n way f) means.states (subst (λ (m : ℕ). IsFrameFor m (length p.next) way f) variables frame)
 
-  pub document : (f : Frame) → IsFrameFor b.variables (length p.next) columns f → (rows : List Row) → AreKept s rows → (o : Option Certificate)
+  pub document : (f : Frame) → IsFrameFor b.variables (length p.next) way f → (rows : List Row) → AreKept s rows → (o : Option Certificate)
       → IfSome o (IsPlausible f (length q.rows) first rest rows) → IfSome o (IsDocument s)
   document f frame rows kept Nothing h = tt
   document f frame rows kept (Some c) h = let ask = is.questions in
-      is_document s columns f (frame_is f frame) (length q.rows) ask.many_tests first rest is.first_set is.rest_set rows kept c h
+      is_document s way f (frame_is f frame) (length q.rows) ask.many_tests first rest is.first_set is.rest_set rows kept c h

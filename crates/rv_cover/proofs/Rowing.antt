@@ -1,5 +1,5 @@
 -- Rows that are premises, rows that can be taken before updates, and what is found by them.
-use Rattle.std.proofs.Common.{◌≡◌, ◌≢◌, ℕ, ◌+◌, ◌<◌, ◌≤◌, ◌^◌, ℤ, pos, negsuc, List, [], ◌∷◌, ◌++◌, length, get_or, All, Some, slice_get, true, arith, refl, sym, ap, ◌∙◌}
+use Rattle.std.proofs.Common.{◌≡◌, ℕ, ◌+◌, ◌<◌, ◌≤◌, ◌≤ℤ◌, ◌^◌, ℤ, pos, negsuc, List, [], ◌∷◌, ◌++◌, length, get_or, All, Some, slice_get, true, arith, refl, sym, ap, ◌∙◌}
 use Rattle.std.proofs.Common.{subst, ◌⊎◌, inl, inr}
 use Rattle.std.proofs.lemmas.List.Elements.{All-weaker, All-push, All-from_get_or}
 use Rattle.std.proofs.{lemmas.Option.slice_get_within, lemmas.Option.get_or_from_slice_get, lemmas.List.length_push, lemmas.List.length-append}
@@ -7,15 +7,17 @@ use Rattle.std.specs.Int.RustNames.{unsigned_abs}
 use Rattle.rv_diagram.specs.{declared.Triple.Triple, Nodes.Valuation, Nodes.Diagrams}
 use Rattle.rv_rows.specs.{declared.linear.Row.Row, declared.linear.Form.Form, Rows.row_at, Rows.coefficient, Rows.RowWithin, Forms.CanSubstitute, Tight.Fits}
 use Rattle.rv_rows.specs.{declared.farkas.Weight.Weight, declared.farkas.Multipliers.Multipliers}
-use Rattle.rv_proofs.specs.{Systems.System, Systems.IsSystem, Systems.IsUpdate, Ranges.AreKept, Ranges.IsRecord, Boxes.HasUnit, Boxes.IsUnitAt}
+use Rattle.rv_proofs.specs.{Systems.System, Systems.IsSystem, Systems.IsUpdate, Ranges.AreKept, Ranges.IsRecord, Boxes.HasUnit}
 use Rattle.rv_proofs.specs.{declared.certificate.EntryKind.TheVariants.Dead, declared.certificate.EntryKind.TheVariants.Go}
 use Rattle.rv_proofs.proofs.Rooms.{has_room}
 use Rattle.rv_cases.specs.{declared.asking.Questions.Questions, Conditions.is_in, Conditions.AreRefs, Questions.AreQuestions, Questions.forms_at, Questions.memory_answers}
 use Rattle.rv_boxes.specs.{declared.peaks.Peak.Peak, declared.ends.End.End, Ends.IsOnlyColumn, Ends.AreEnds, Boxed.ArePremises, Boxed.IsGreatest, Boxed.IsOpenBox}
 use Rattle.rv_boxes.specs.{Boxed.IsRefutation, Built.nothing}
 use Rattle.rv_boxes.proofs.{Shutting.record_from, BoxLemmas.crossed_none}
-use Rattle.rv_cover.specs.{declared.frame.Frame.Frame, declared.finding.Found.Found, Premises.IsPremise, Premises.AreOpenEnds, Entries.IsPlainKind, Entries.IsFound}
-use Rattle.rv_cover.specs.Seeking.{IsSearched}
+use Rattle.rv_seek.specs.Pairs.{HasRanges, WeightInRange}
+use Rattle.rv_cover.specs.{declared.frame.By.By, declared.frame.By.TheVariants.Boxes, declared.frame.By.TheVariants.Rows}
+use Rattle.rv_cover.specs.{declared.frame.Frame.Frame, declared.finding.Found.Found, Premises.IsPremise, Premises.IsNarrow, Premises.AreOpenEnds, Entries.IsPlainKind, Entries.IsFound}
+use Rattle.rv_cover.specs.Seeking.{IsWay, IsSearched}
 
 pub got_all : {X : Type 0} (P : X → Type 0) (xs : List X) (i : ℕ) (x : X) → slice_get xs i ≡ Some x → All P xs → P x
 got_all P xs i x at all = subst P (get_or_from_slice_get xs i x x at) (all i x (slice_get_within xs i x at))
@@ -81,19 +83,17 @@ record_greatest width rows numbers g m few great is = subst (IsRecord (length ro
     (λ j d n. ((great.units j d n).0, great.weights j d n)) great.rises)
 
 -- how many premises there are
-pub premises_long : (s : System) (d : Diagrams) (q : Questions) (f : Frame) (given told all : List Row) → IsSearched s d q f given
-    → length told ≡ length q.rows → all ≡ given ++ told → length all ≡ length given + length q.rows
-premises_long s d q f given told all is size are = ap length are ∙ length-append given told ∙ ap (λ n. length given + n) size
-
 pub premises_few : (s : System) (d : Diagrams) (q : Questions) (f : Frame) (given : List Row) → IsSearched s d q f given
     → length given + length q.rows < 2 ^ 32
 premises_few s d q f given is =
-    let fits = is.system in let limits = fits.limits in let few = limits.tests in let ask = is.questions in let many = ask.many_tests in let low = is.few in
-    omega (arith, few, many, low)
+    let ask = is.questions in let many = ask.many_tests in let low = is.few in omega (arith, many, low)
 
-pub columns_few : (s : System) (d : Diagrams) (q : Questions) (f : Frame) (given : List Row) → IsSearched s d q f given → f.columns < 256
-columns_few s d q f given is =
-    let fits = is.system in let limits = fits.limits in let few = limits.columns in let same = is.columns in omega (arith, few, same)
+narrow_of : (s : System) → IsSystem s → (by : By) → IsWay s by → IsNarrow by
+narrow_of s is (Boxes columns) same = let limits = is.limits in let few = limits.columns in omega (arith, few, same)
+narrow_of s is Rows way = tt
+
+pub searched_narrow : (s : System) (d : Diagrams) (q : Questions) (f : Frame) (given : List Row) → IsSearched s d q f given → IsNarrow f.by
+searched_narrow s d q f given is = narrow_of s is.system f.by is.way
 
 pub questions_few : (s : System) (d : Diagrams) (q : Questions) (f : Frame) (given : List Row) → IsSearched s d q f given → length q.questions < 2 ^ 32
 questions_few s d q f given is =
@@ -102,10 +102,10 @@ questions_few s d q f given is =
     omega (arith, few, less, many, more, all)
 
 -- what was found with a refutation, and with proofs
-pub dead_found : (nodes : List Triple) (n : ℕ) (rows : List Row) (by : Multipliers) (found : Found) → found.kind ≡ Dead by → AreRefs nodes found.answers.items
-    → IsRefutation rows by → length rows ≡ n → IsFound nodes n found
-dead_found nodes n rows by found kind answers is size = record {
-  kind = subst (IsPlainKind n) (sym kind) (subst (λ (k : ℕ). IsRecord k by) size is.record_of, let r = is.refutes in r.divisor);
+pub dead_found : (nodes : List Triple) (n m : ℕ) (by : Multipliers) (found : Found) → found.kind ≡ Dead by → AreRefs nodes found.answers.items
+    → IsRecord m by → by.divisor ≡ pos 1 → m ≡ n → IsFound nodes n found
+dead_found nodes n m by found kind answers is one size = record {
+  kind = subst (IsPlainKind n) (sym kind) (subst (λ (k : ℕ). IsRecord k by) size is, one);
   answers = answers;
 }
 
@@ -130,3 +130,28 @@ open_from columns rows ends premises are few opened =
       uncrossed = λ k l x. crossed_none (length ends) rows pre ends ends_are k l x opened.some;
       few = omega (arith, few, size);
     }
+
+-- a refutation of given rows and those of the tests
+pub refuted_record : (given told rows : List Row) → rows ≡ given ++ told → (m : Multipliers) → IsRefutation rows m → IsRecord (length given + length told) m
+refuted_record given told rows are m is = subst (λ (k : ℕ). IsRecord k m) (ap length are ∙ length-append given told) is.record_of
+
+pub refuted_one : (rows : List Row) (m : Multipliers) → IsRefutation rows m → m.divisor ≡ pos 1
+refuted_one rows m is = let r = is.refutes in r.divisor
+
+-- the ranges of multipliers that a search promises are those of a document
+pub ranges_record : (n : ℕ) (m : Multipliers) → HasRanges n m → IsRecord n m
+ranges_record n m h = record {
+  positive = h.positive;
+  divisor = h.divisor;
+  few = h.most;
+  there = All-weaker (WeightInRange n) (λ (w : Weight). w.premise < n) (λ w r. r.premise) m.weights h.weights;
+  weighted = All-weaker (WeightInRange n) (λ (w : Weight). (pos 1 ≤ℤ w.by) × (w.by ≤ℤ pos (2 ^ 41))) (λ w r. (r.positive, r.most)) m.weights h.weights;
+  rising = λ i j u w less u_at w_at.
+      let e = get_or_from_slice_get m.weights i u u u_at in
+      let f = get_or_from_slice_get m.weights j w u w_at in
+      let r = h.rising i j u less (slice_get_within m.weights j w w_at) in
+      along (get_or m.weights i u) u (get_or m.weights j u) w e f r;
+}
+  where
+    along : (a b c d : Weight) → a ≡ b → c ≡ d → a.premise < c.premise → b.premise < d.premise
+    along a b c d e f l = omega (arith, ap (λ (x : Weight). x.premise) e, ap (λ (x : Weight). x.premise) f, l)

@@ -3,6 +3,7 @@ use Rattle.std.specs.Prelude.{ℕ, ◌<◌, ◌≤◌, ◌^◌, List, All, lengt
 use Rattle.std.specs.Int.RustNames.{unsigned_abs}
 use Rattle.rv_rows.specs.declared.linear.Row.{Row}
 use Rattle.rv_proofs.specs.Boxes.{HasUnit}
+use Rattle.rv_cover.specs.{declared.frame.By.By, declared.frame.By.TheVariants.Boxes, declared.frame.By.TheVariants.Rows}
 use Rattle.rv_boxes.specs.{declared.ends.End.End, Ends.AreEnds, Boxed.ArePremises, Boxed.IsUncrossed}
 
 -- The row can be a premise over so many columns.
@@ -18,3 +19,8 @@ pub record AreOpenEnds (rows : List Row) (ends : List End) : Type 0 where
   pub ends_are : AreEnds rows (length ends) ends
   pub uncrossed : IsUncrossed rows ends (length ends)
   pub few : length ends < 256
+
+-- Boxes have fewer than 256 columns.
+abbrev pub IsNarrow : By → Type 0
+IsNarrow (Boxes columns) = columns < 256
+IsNarrow Rows = Unit {0}

@@ -1,5 +1,5 @@
 -- What is sought, and by what.
-use Rattle.std.specs.Prelude.{◌≡◌, ℕ, ◌+◌, ◌≤◌, List, [], ◌∷◌, length}
+use Rattle.std.specs.Prelude.{◌≡◌, ℕ, ◌+◌, ◌<◌, ◌^◌, List, [], ◌∷◌, length}
 use Rattle.rv_diagram.specs.{Nodes.Diagrams, Nodes.IsRef, Nodes.valuation_of, declared.frozen.Frozen.Frozen}
 use Rattle.rv_rows.specs.declared.linear.Row.{Row}
 use Rattle.rv_proofs.specs.{Systems.System, Systems.IsSystem, Ranges.AreKept, Ranges.IsControlSet, Ranges.IsInRange, Counts.HasCounts, Counts.HasFree}
@@ -8,22 +8,29 @@ use Rattle.rv_symbolic.specs.{declared.relation.Parts.Parts, Represented.HaveRef
 use Rattle.rv_walk.specs.Plain.{ArePlain}
 use Rattle.rv_cases.specs.{declared.asking.Questions.Questions, Questions.AreQuestions}
 use Rattle.rv_boxes.specs.Certifying.{IsLocationOf}
-use Rattle.rv_cover.specs.{declared.frame.Frame.Frame, Entries.AreShortEntries}
+use Rattle.rv_cover.specs.{declared.frame.Frame.Frame, declared.frame.By.By, declared.frame.By.TheVariants.Boxes, declared.frame.By.TheVariants.Rows}
+use Rattle.rv_cover.specs.Entries.{AreShortEntries}
 
--- A system with its questions and references in a store, control sets of it, what a claim takes, and rows of its memories.
-pub record IsSought (s : System) (d : Diagrams) (p : Parts) (q : Questions) (columns : ℕ) (first rest : Frozen) (taken : ℕ) (reached : Frozen)
+-- Boxes have the columns of the system.
+abbrev pub IsWay : System → By → Type 0
+IsWay s (Boxes columns) = s.columns ≡ columns
+IsWay s Rows = Unit {0}
+
+-- A system with its questions and references in a store, control sets of it, what a claim takes, and rows of its memories, which have
+-- numbers in a document.
+pub record IsSought (s : System) (d : Diagrams) (p : Parts) (q : Questions) (by : By) (first rest : Frozen) (taken : ℕ) (reached : Frozen)
     (given : List Row) : Type 0 where
   pub system : IsSystem s
   pub questions : AreQuestions s d q
   pub refs : HaveRefs d p
   pub parts : AreParts s d p
-  pub columns_are : s.columns ≡ columns
+  pub way : IsWay s by
   pub first_set : IsControlSet s first
   pub rest_set : IsControlSet s rest
   pub reached_set : IsControlSet s reached
   pub taken_found : IsRef d.nodes taken
   pub kept : AreKept s given
-  pub few : length given ≤ 128
+  pub few : length given + s.tests < 2 ^ 32
 
 -- The certificate has the counts and ranges of a document, and no loop.
 pub record IsDocument (s : System) (c : Certificate) : Type 0 where
@@ -35,12 +42,12 @@ pub record IsDocument (s : System) (c : Certificate) : Type 0 where
 pub record IsSearched (s : System) (d : Diagrams) (q : Questions) (f : Frame) (given : List Row) : Type 0 where
   pub system : IsSystem s
   pub questions : AreQuestions s d q
-  pub columns : s.columns ≡ f.columns
-  pub few : length given ≤ 128
+  pub way : IsWay s f.by
+  pub few : length given + s.tests < 2 ^ 32
 
--- The frame has so many columns, and lets a condition read all of so many variables but the next copies of the first state bits.
-pub record IsFrameFor (variables bits columns : ℕ) (f : Frame) : Type 0 where
-  pub columns_are : f.columns ≡ columns
+-- The frame proves rows in this way, and lets a condition read all of so many variables but the next copies of the first state bits.
+pub record IsFrameFor (variables bits : ℕ) (by : By) (f : Frame) : Type 0 where
+  pub by_is : f.by ≡ by
   pub variables_are : f.variables ≡ variables
   pub read : AreAllBut variables bits 1 (valuation_of f.read)
 

@@ -286,7 +286,7 @@ fn entries_within(
 }
 
 /// The entries of a location with these control states and rows, whose steps prove the wanted rows, or none. Where the claim takes a
-/// valuation is `taken`, and where the observer is true and the next control state in the claim is `safe`. The store is left as it was.
+/// valuation is `taken`, and where a step may be taken is `safe`. The store is left as it was.
 pub fn entries_of(
     alloc: Global,
     store: &mut Store,

@@ -11,16 +11,14 @@ ghost use Rattle.rv_cover.specs.Entries.{IsFound};
 ghost use Rattle.rv_cover.specs.Seeking.{IsSearched};
 
 use crate::answers::{test_answers, told_forms, told_rows, with_updates};
+use crate::fewest::{least_reach, least_refutation};
 use crate::frame::Frame;
 use crate::marks::{mark_each, mark_named, unset};
-use crate::reaching::{open_ends, reach_rows};
-use crate::rows::are_premises;
 use rv_base::{Many, Memory};
-use rv_boxes::{Premises, narrow, shut_of};
 use rv_cases::Questions;
 use rv_diagram::{Ref, Store};
 use rv_proofs::EntryKind;
-use rv_rows::{Form, Multipliers, Row};
+use rv_rows::{Multipliers, Row};
 use std::alloc::Global;
 
 /// What happens at a valuation, and wherever the same answers are given.
@@ -55,7 +53,7 @@ fn dead_by(
     })
 }
 
-/// A dead entry at a valuation, or none where its box is open.
+/// A dead entry at a valuation, or none where its premises are not refuted.
 pub fn dead_at(
     alloc: Global,
     store: &Store,
@@ -68,13 +66,8 @@ pub fn dead_at(
     requires searched { (s : System) × IsSearched s store.now questions.now frame.now given.now }
     ensures { IfOk result (λ o. IfSome o (IsFound store.now.nodes (length given.now + length questions.now.rows))) }
 {
-    let told = told_rows(alloc, store, sample, questions)?;
-    let premises = Premises::new(given, &told);
-    if !are_premises(&premises, frame.columns) {
-        return Ok(None);
-    }
-    let ends = narrow(alloc, &premises, frame.columns)?;
-    match shut_of(alloc, &premises, &ends)? {
+    let mut told = told_rows(alloc, store, sample, questions)?;
+    match least_refutation(alloc, frame.by, given, &mut told)? {
         Some(by) => {
             let found = dead_by(alloc, store, sample, questions, given.len(), by)?;
             Ok(Some(found))
@@ -109,32 +102,6 @@ fn step_by(
     })
 }
 
-/// What proves the wanted rows after the updates, by the given rows alone where these do, and else by the rows of the tests too, or none.
-fn reach_from(
-    alloc: Global,
-    columns: usize,
-    given: &Many<Row>,
-    told: &Many<Row>,
-    updates: &Many<Form>,
-    wanted: &Many<Row>,
-) -> Result<Option<Many<Multipliers>>, Memory>
-    requires few { length given.now + length told.now < 2 ^ 32 }
-    requires columns { columns < 256 }
-    requires wanted { All (λ r. CanSubstitute r updates.now) wanted.now }
-    ensures { IfOk result (λ o. IfSome o (All (IsRecord (length given.now + length told.now)))) }
-{
-    let nothing = Many::new(alloc);
-    let own = Premises::new(given, &nothing);
-    let Some(own_ends) = open_ends(alloc, &own, columns)? else {
-        return Ok(None);
-    };
-    let all = Premises::new(given, told);
-    match open_ends(alloc, &all, columns)? {
-        Some(ends) => reach_rows(alloc, &own, &own_ends, &all, &ends, updates, wanted),
-        None => Ok(None),
-    }
-}
-
 /// A step into location 1 at a valuation, or none where the wanted rows are not proved there.
 pub fn step_at(
     alloc: Global,
@@ -149,9 +116,9 @@ pub fn step_at(
     requires searched { (s : System) × IsSearched s store.now questions.now frame.now given.now × AreKept s wanted.now }
     ensures { IfOk result (λ o. IfSome o (IsFound store.now.nodes (length given.now + length questions.now.rows))) }
 {
-    let told = told_rows(alloc, store, sample, questions)?;
+    let mut told = told_rows(alloc, store, sample, questions)?;
     let updates = told_forms(alloc, store, sample, questions)?;
-    match reach_from(alloc, frame.columns, given, &told, &updates, wanted)? {
+    match least_reach(alloc, frame.by, given, &mut told, &updates, wanted)? {
         Some(reach) => {
             let found = step_by(alloc, store, sample, questions, given.len(), wanted, reach)?;
             Ok(Some(found))

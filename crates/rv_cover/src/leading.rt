@@ -1,4 +1,4 @@
-//! Where the observer is true and the next control state is in a set.
+//! Where the next control state is in a set, and the observer is true or the claim takes the valuation.
 
 ghost use Rattle.std.specs.Prelude.{◌<◌, ◌^◌, IfOk, IsErrOf, List};
 ghost use Rattle.rv_diagram.specs.declared.Triple.{Triple as TripleModel};
@@ -7,7 +7,7 @@ ghost use Rattle.rv_diagram.specs.Growing.{Extends};
 ghost use Rattle.rv_cases.specs.Conditions.{AreRefs};
 ghost use Rattle.rv_symbolic.specs.Represented.{HaveRefs};
 
-use crate::refs::both;
+use crate::refs::{both, either};
 use rv_diagram::{Frozen, Ref, Store, StoreFault, Triple};
 use rv_symbolic::Parts;
 use std::alloc::Global;
@@ -65,18 +65,23 @@ fn led_into(alloc: Global, store: &mut Store, next: &[Ref], set: &Frozen) -> Res
     Ok(child_of(made.as_slice(), set.root))
 }
 
-/// The valuations at which the observer is true and whose next control state is in the set.
+/// The valuations whose next control state is in the set, and at which the observer is true or the claim, which takes `taken`, takes the
+/// valuation. So a step of a good claim is one at which the observer is true, and it is false in a step of another claim only where it is
+/// false at a valuation that the claim takes.
 pub fn safe_into(
     alloc: Global,
     store: &mut Store,
     parts: &Parts,
+    taken: Ref,
     set: &Frozen,
 ) -> Result<Ref, StoreFault>
-    requires { HaveRefs store.old parts.now }
+    requires refs { HaveRefs store.old parts.now }
+    requires taken { IsRef store.old.nodes taken }
     ensures extends { Extends store.old store.new }
     ensures roomy { IsErrOf result StoreFault.Nodes → store.old.limit < 2 ^ (2 ^ store.old.variables) }
     ensures found { IfOk result (λ r. IsRef store.new.nodes r) }
 {
+    let seen = either(store, parts.observer, taken)?;
     let led = led_into(alloc, store, parts.next.as_slice(), set)?;
-    both(store, parts.observer, led)
+    both(store, seen, led)
 }

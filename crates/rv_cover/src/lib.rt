@@ -1,13 +1,15 @@
-//! A search for a certificate with few entries of a closed good box claim.
+//! A search for a certificate with few entries of a closed claim: a box claim, or a row claim.
 //!
-//! It promises nothing but that what it answers has the counts and ranges of a document and no loop: the checker (`rv_accept`) judges it.
+//! It promises nothing but that what it answers has the counts and ranges of a document and no loop: the checker (`rv_accept`) judges it. For a
+//! good claim it is meant to be accepted, for another to be a left partition.
 //!
-//! The certificate has the two locations of the box pass: the initial control states without rows, and the others with rows of the claim's
-//! bounds. An entry begins at the least valuation that is not covered yet, and is as wide as its multipliers allow: its condition has the
-//! answers of those order tests alone that a multiplier names, and of those memories that a wanted row has (answers.rt, finding.rt). Where
-//! the claim takes the valuation it is a step, whose condition has also that the observer is true and that the step leads into the claim
-//! (conditions.rt); elsewhere it is dead (covering.rt). So comparisons on which nothing depends split nothing. Of the claim's rows only those
-//! are kept that some multiplier names (needing.rt).
+//! The certificate has two locations: the initial control states without rows, and the others with rows of the claim. An entry begins at the
+//! least valuation that is not covered yet, and is as wide as its multipliers allow: its condition has the answers of those order tests alone
+//! that a multiplier names, and of those memories that a wanted row has (answers.rt, finding.rt). Where the claim takes the valuation it is a
+//! step, whose condition has also that the step leads into the claim, and that the observer is true or the claim takes the valuation
+//! (leading.rt, conditions.rt); elsewhere it is dead (covering.rt). So comparisons on which nothing depends split nothing. Multipliers come
+//! from the box of the premises (reaching.rt, rows.rt), or from pairs of them (pairing.rt); the claim says which (`By`, proving.rt). Of the
+//! claim's rows only those are kept that some multiplier names (needing.rt).
 //!
 //! Begin with seeking.rt and specs/Seeking.antt.
 #![tactic(auto)]
@@ -16,17 +18,20 @@ mod answers;
 mod conditions;
 mod copies;
 mod covering;
+mod fewest;
 mod finding;
 mod frame;
 mod leading;
 mod locations;
 mod marks;
 mod needing;
+mod pairing;
+mod proving;
 mod reaching;
 mod reading;
 mod refs;
 mod rows;
 mod seeking;
 
-pub use frame::Frame;
+pub use frame::{By, Frame};
 pub use seeking::sought;

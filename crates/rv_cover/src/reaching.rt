@@ -1,6 +1,6 @@
-//! The multipliers that prove rows after the updates of a valuation.
+//! What the box of the premises of a valuation refutes, and proves after its updates.
 
-ghost use Rattle.std.specs.Prelude.{◌≡◌, ◌<◌, ◌≤◌, ◌^◌, pos, All, IfOk, IfSome, length};
+ghost use Rattle.std.specs.Prelude.{◌≡◌, ◌<◌, ◌≤◌, ◌+◌, ◌^◌, pos, All, IfOk, IfSome, length};
 ghost use Rattle.std.specs.Int.RustNames.{unsigned_abs};
 ghost use Rattle.rv_rows.specs.Forms.{CanSubstitute};
 ghost use Rattle.rv_proofs.specs.Ranges.{IsRecord};
@@ -14,7 +14,7 @@ use std::alloc::Global;
 
 /// The ends of the box of the premises, or none where they cannot be premises or shut it.
 #[tactic(auto, using(crate::proofs::Rowing::open_from))]
-pub fn open_ends(
+fn open_ends(
     alloc: Global,
     premises: &Premises,
     columns: usize,
@@ -103,7 +103,7 @@ fn reach_row(
 
 /// The multipliers that prove each row after the updates, or none where those of one do not.
 #[tactic(auto, using(crate::proofs::Rowing::got_all))]
-pub fn reach_rows(
+fn reach_rows(
     alloc: Global,
     own: &Premises,
     own_ends: &Many<End>,
@@ -130,4 +130,50 @@ pub fn reach_rows(
         }
     }
     Ok(Some(reach))
+}
+
+/// What refutes the given rows and those of the tests over their box, or none where that is open.
+pub fn refuted_by_box(
+    alloc: Global,
+    columns: usize,
+    given: &Many<Row>,
+    told: &Many<Row>,
+) -> Result<Option<Multipliers>, Memory>
+    requires few { length given.now + length told.now < 2 ^ 32 }
+    requires columns { columns < 256 }
+    ensures record { IfOk result (λ o. IfSome o (IsRecord (length given.now + length told.now))) }
+    ensures one { IfOk result (λ o. IfSome o (λ m. m.divisor ≡ pos 1)) }
+{
+    let premises = Premises::new(given, told);
+    if !are_premises(&premises, columns) {
+        return Ok(None);
+    }
+    let ends = narrow(alloc, &premises, columns)?;
+    shut_of(alloc, &premises, &ends)
+}
+
+/// What proves the wanted rows after the updates by their greatest values, over the box of the given rows alone where these do, and else by the rows of the tests too, or none.
+pub fn reach_by_box(
+    alloc: Global,
+    columns: usize,
+    given: &Many<Row>,
+    told: &Many<Row>,
+    updates: &Many<Form>,
+    wanted: &Many<Row>,
+) -> Result<Option<Many<Multipliers>>, Memory>
+    requires few { length given.now + length told.now < 2 ^ 32 }
+    requires columns { columns < 256 }
+    requires wanted { All (λ r. CanSubstitute r updates.now) wanted.now }
+    ensures { IfOk result (λ o. IfSome o (All (IsRecord (length given.now + length told.now)))) }
+{
+    let nothing = Many::new(alloc);
+    let own = Premises::new(given, &nothing);
+    let Some(own_ends) = open_ends(alloc, &own, columns)? else {
+        return Ok(None);
+    };
+    let all = Premises::new(given, told);
+    match open_ends(alloc, &all, columns)? {
+        Some(ends) => reach_rows(alloc, &own, &own_ends, &all, &ends, updates, wanted),
+        None => Ok(None),
+    }
 }

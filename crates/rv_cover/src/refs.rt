@@ -18,6 +18,17 @@ pub fn both(store: &mut Store, a: Ref, b: Ref) -> Result<Ref, StoreFault>
     store.and(a, b)
 }
 
+/// The disjunction.
+pub fn either(store: &mut Store, a: Ref, b: Ref) -> Result<Ref, StoreFault>
+    requires a { IsRef store.old.nodes a }
+    requires b { IsRef store.old.nodes b }
+    ensures extends { Extends store.old store.new }
+    ensures roomy { IsErrOf result StoreFault.Nodes → store.old.limit < 2 ^ (2 ^ store.old.variables) }
+    ensures found { IfOk result (λ r. IsRef store.new.nodes r) }
+{
+    store.or(a, b)
+}
+
 /// The valuations of the first reference that are not in the second.
 pub fn without(store: &mut Store, a: Ref, b: Ref) -> Result<Ref, StoreFault>
     requires a { IsRef store.old.nodes a }

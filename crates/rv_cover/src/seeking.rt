@@ -1,4 +1,4 @@
-//! The search for a certificate of a closed good claim.
+//! The search for a certificate of a closed claim.
 
 ghost use Rattle.std.specs.Prelude.{◌≡◌, ◌+◌, ◌≤◌, ◌<◌, ◌^◌, ◌∷◌, [], IfOk, IfSome, IsErrOf, length};
 ghost use Rattle.rv_diagram.specs.Nodes.{IsRef, IsOrderedOver};
@@ -11,7 +11,7 @@ ghost use Rattle.rv_cover.specs.Seeking.{IsSearched, IsFrameFor, IsAssembled, Is
 
 use crate::copies::copy_set;
 use crate::covering::entries_of;
-use crate::frame::Frame;
+use crate::frame::{By, Frame};
 use crate::leading::safe_into;
 use crate::locations::location;
 use crate::needing::needed;
@@ -100,14 +100,14 @@ fn located(
 }
 
 /// What is the same throughout the search.
-fn frame_of(alloc: Global, store: &Store, parts: &Parts, columns: usize) -> Result<Frame, Memory>
+fn frame_of(alloc: Global, store: &Store, parts: &Parts, by: By) -> Result<Frame, Memory>
     requires { HaveRefs store.now parts.now }
-    ensures { IfOk result (IsFrameFor store.now.variables (length parts.now.next) columns) }
+    ensures { IfOk result (IsFrameFor store.now.variables (length parts.now.next) by) }
 {
     let variables = store.variables();
     let read = no_copies(alloc, variables, parts.next.len() as u32)?;
     Ok(Frame {
-        columns,
+        by,
         variables,
         read,
     })
@@ -119,21 +119,21 @@ fn sought_in(
     store: &mut Store,
     parts: &Parts,
     questions: &Questions,
-    columns: usize,
+    by: By,
     first: &Frozen,
     rest: &Frozen,
     taken: Ref,
     reached: &Frozen,
     given: &Many<Row>,
 ) -> Result<Option<Certificate>, StoreFault>
-    requires { (s : System) × IsSought s store.old parts.now questions.now columns first.now rest.now taken reached.now given.now }
+    requires { (s : System) × IsSought s store.old parts.now questions.now by first.now rest.now taken reached.now given.now }
     ensures extends { Extends store.old store.new }
     ensures roomy { IsErrOf result StoreFault.Nodes → store.old.limit < 2 ^ (2 ^ store.old.variables) }
-    ensures found { (s : System) → IsSought s store.old parts.now questions.now columns first.now rest.now taken reached.now given.now
+    ensures found { (s : System) → IsSought s store.old parts.now questions.now by first.now rest.now taken reached.now given.now
         → IfOk result (λ o. IfSome o (IsDocument s)) }
 {
-    let safe = safe_into(alloc, store, parts, reached)?;
-    let frame = frame_of(alloc, store, parts, columns)?;
+    let safe = safe_into(alloc, store, parts, taken, reached)?;
+    let frame = frame_of(alloc, store, parts, by)?;
     let allowed = parts.allowed;
     match needed(
         alloc, store, &frame, questions, allowed, rest, given, taken, safe,
@@ -145,32 +145,32 @@ fn sought_in(
     }
 }
 
-/// A certificate with few entries of a closed good box claim, or none where the search gives up. Location 0 has the control states `first` and
-/// no rows, location 1 those of `rest` and the rows of `given` that are needed; `taken` is where the claim takes a valuation, and `reached`
-/// are its control states. It promises no more than that the certificate has the counts and ranges of a document and no loop. The store is
-/// left as it was, after a fault too. Nodes comes where it has no room for what is built on the way, never where its limit holds every
-/// function of its variables, and Memory where there is none.
+/// A certificate with few entries of a closed claim, or none where the search gives up. Location 0 has the control states `first` and no rows,
+/// location 1 those of `rest` and the rows of `given` that are needed, which are the claim's; `by` says what proves them after a step. `taken` is
+/// where the claim takes a valuation, and `reached` are its control states. It promises no more than that the certificate has the counts and
+/// ranges of a document and no loop. The store is left as it was, after a fault too. Nodes comes where it has no room for what is built on the
+/// way, never where its limit holds every function of its variables, and Memory where there is none.
 pub fn sought(
     alloc: Global,
     store: &mut Store,
     parts: &Parts,
     questions: &Questions,
-    columns: usize,
+    by: By,
     first: &Frozen,
     rest: &Frozen,
     taken: Ref,
     reached: &Frozen,
     given: &Many<Row>,
 ) -> Result<Option<Certificate>, StoreFault>
-    requires { (s : System) × IsSought s store.old parts.now questions.now columns first.now rest.now taken reached.now given.now }
-    ensures found { (s : System) → IsSought s store.old parts.now questions.now columns first.now rest.now taken reached.now given.now
+    requires { (s : System) × IsSought s store.old parts.now questions.now by first.now rest.now taken reached.now given.now }
+    ensures found { (s : System) → IsSought s store.old parts.now questions.now by first.now rest.now taken reached.now given.now
         → IfOk result (λ o. IfSome o (IsDocument s)) }
     ensures same { store.new ≡ store.old }
     ensures roomy { IsErrOf result StoreFault.Nodes → store.old.limit < 2 ^ (2 ^ store.old.variables) }
 {
     let mark = store.mark();
     let answer = sought_in(
-        alloc, store, parts, questions, columns, first, rest, taken, reached, given,
+        alloc, store, parts, questions, by, first, rest, taken, reached, given,
     );
     store.release(mark);
     answer

@@ -1,6 +1,5 @@
-use Rattle.std.proofs.Common.{◌≡◌, ◌+◌, ◌<◌, ◌∙◌, ℕ, List, [], length, sym, ap, subst, arith}
+use Rattle.std.proofs.Common.{◌≡◌, ◌<◌, ℕ, List, [], length, ap, subst, arith}
 use Rattle.std.proofs.lemmas.Option.{get_or_from_slice_get}
-use Rattle.rv_rows.specs.declared.linear.Row.{Row}
 use Rattle.rv_cases.specs.{Conditions.list_at, Conditions.AreAnswers, Questions.rows_at}
 use Rattle.rv_cover.proofs.answers.told_rows.Goals as goal
 

@@ -1,6 +1,6 @@
 use Rattle.std.proofs.Common.{arith, ap, ◌∙◌, ◌+◌, length, All}
 use Rattle.rv_proofs.specs.Ranges.{IsRecord}
-use Rattle.rv_cover.proofs.Rowing.{premises_few, columns_few, questions_few, rooms, step_found}
+use Rattle.rv_cover.proofs.Rowing.{premises_few, searched_narrow, questions_few, rooms, step_found}
 use Rattle.rv_cover.proofs.finding.step_at.Goals as goal
 
 pub told_rows-requires-clause-answers : goal.told_rows-requires-clause-answers
@@ -13,19 +13,19 @@ pub told_forms-requires-clause-few : goal.told_forms-requires-clause-few
 told_forms-requires-clause-few c =
     let (s, is, kept) = c.requires.searched in questions_few s c.args.store.now c.args.questions.now c.args.frame.now c.args.given.now is
 
-pub reach_from-requires-clause-few : goal.reach_from-requires-clause-few
-reach_from-requires-clause-few c =
+pub least_reach-requires-clause-few : goal.least_reach-requires-clause-few
+least_reach-requires-clause-few c =
     let (s, is, kept) = c.requires.searched in
     let few = premises_few s c.args.store.now c.args.questions.now c.args.frame.now c.args.given.now is in
     let size = c.in_ok-told.ensures in
     omega (arith, few, size)
 
-pub reach_from-requires-clause-columns : goal.reach_from-requires-clause-columns
-reach_from-requires-clause-columns c =
-    let (s, is, kept) = c.requires.searched in columns_few s c.args.store.now c.args.questions.now c.args.frame.now c.args.given.now is
+pub least_reach-requires-clause-narrow : goal.least_reach-requires-clause-narrow
+least_reach-requires-clause-narrow c =
+    let (s, is, kept) = c.requires.searched in searched_narrow s c.args.store.now c.args.questions.now c.args.frame.now c.args.given.now is
 
-pub reach_from-requires-clause-wanted : goal.reach_from-requires-clause-wanted
-reach_from-requires-clause-wanted c =
+pub least_reach-requires-clause-wanted : goal.least_reach-requires-clause-wanted
+least_reach-requires-clause-wanted c =
     let (s, is, kept) = c.requires.searched in
     let ask = is.questions in
     rooms s is.system c.args.wanted.now kept c.in_ok-updates.updates (c.in_ok-updates.ensures.many ∙ ask.many_memories)

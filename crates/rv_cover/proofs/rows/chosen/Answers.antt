@@ -1,5 +1,4 @@
-use Rattle.std.proofs.Common.{◌≡◌, length, All, arith, sym, subst, List}
-use Rattle.std.proofs.lemmas.List.Elements.{All-nil}
+use Rattle.std.proofs.Common.{◌≡◌, length, arith}
 use Rattle.rv_rows.specs.{declared.linear.Row.Row, Tight.Fits}
 use Rattle.rv_cover.proofs.Rowing.{chosen_few, chosen_all}
 use Rattle.rv_cover.proofs.rows.chosen.Goals as goal

@@ -9,7 +9,7 @@ pub entries_of-requires-clause-searched : goal.entries_of-requires-clause-search
 entries_of-requires-clause-searched c =
     let (s, is, kept) = c.requires.searched in (
       s,
-      record { system = is.system; questions = is.questions; columns = is.columns; few = omega (arith, ap length c.new-nothing.ensures) },
+      record { system = is.system; questions = is.questions; way = is.way; few = let low = is.few in omega (arith, low, ap length c.new-nothing.ensures) },
       kept,
     )
 

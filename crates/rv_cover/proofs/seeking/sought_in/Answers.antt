@@ -1,4 +1,4 @@
-use Rattle.std.proofs.Common.{◌≡◌, ◌≤◌, length, arith}
+use Rattle.std.proofs.Common.{◌≤◌, length, arith}
 use Rattle.rv_diagram.proofs.Growing.{extends_trans, equal_extends}
 use Rattle.rv_symbolic.proofs.Extending.{map_ok}
 use Rattle.rv_cover.proofs.Chaining.{ref_later}
@@ -6,12 +6,12 @@ use Rattle.rv_cover.proofs.Grown.{first_ordered, rest_ordered, allowed_found, ta
 use Rattle.rv_cover.proofs.seeking.sought_in.Goals as goal
 
 pub safe_into-requires : goal.safe_into-requires
-safe_into-requires c = let (s, is) = c.requires in is.refs
+safe_into-requires c = let (s, is) = c.requires in record { refs = is.refs; taken = is.taken_found }
 
 pub frame_of-requires : goal.frame_of-requires
 frame_of-requires c =
     let (s, is) = c.requires in
-    refs_there s c.args.store.now c.safe_into.new.store c.args.parts.now c.args.questions.now c.args.columns c.args.first.now c.args.rest.now c.args.taken
+    refs_there s c.args.store.now c.safe_into.new.store c.args.parts.now c.args.questions.now c.args.by c.args.first.now c.args.rest.now c.args.taken
     c.args.reached.now c.args.given.now is c.safe_into.ensures.extends
 
 pub needed-requires : goal.needed-requires
@@ -21,15 +21,15 @@ needed-requires c =
     record {
       searched = (
         s,
-        rows_searched s c.args.store.now c.safe_into.new.store c.args.parts.now c.args.questions.now c.args.columns c.args.first.now c.args.rest.now
+        rows_searched s c.args.store.now c.safe_into.new.store c.args.parts.now c.args.questions.now c.args.by c.args.first.now c.args.rest.now
             c.args.taken c.args.reached.now c.args.given.now is e _ _ c.in_ok-frame.frame c.in_ok-frame.ensures c.args.given.now (omega arith),
         is.kept,
       );
-      allowed = allowed_found s c.args.store.now c.safe_into.new.store c.args.parts.now c.args.questions.now c.args.columns c.args.first.now c.args.rest.now
+      allowed = allowed_found s c.args.store.now c.safe_into.new.store c.args.parts.now c.args.questions.now c.args.by c.args.first.now c.args.rest.now
           c.args.taken c.args.reached.now c.args.given.now is e;
-      control = rest_ordered s c.args.store.now c.safe_into.new.store c.args.parts.now c.args.questions.now c.args.columns c.args.first.now c.args.rest.now
+      control = rest_ordered s c.args.store.now c.safe_into.new.store c.args.parts.now c.args.questions.now c.args.by c.args.first.now c.args.rest.now
           c.args.taken c.args.reached.now c.args.given.now is e;
-      taken = taken_there s c.args.store.now c.safe_into.new.store c.args.parts.now c.args.questions.now c.args.columns c.args.first.now c.args.rest.now
+      taken = taken_there s c.args.store.now c.safe_into.new.store c.args.parts.now c.args.questions.now c.args.by c.args.first.now c.args.rest.now
           c.args.taken c.args.reached.now c.args.given.now is e;
       safe = c.in_ok-safe.ensures.found;
     }
@@ -44,17 +44,17 @@ located-requires c =
     record {
       searched = (
         s,
-        rows_searched s c.args.store.now c.needed.new.store c.args.parts.now c.args.questions.now c.args.columns c.args.first.now c.args.rest.now
+        rows_searched s c.args.store.now c.needed.new.store c.args.parts.now c.args.questions.now c.args.by c.args.first.now c.args.rest.now
             c.args.taken c.args.reached.now c.args.given.now is e _ _ c.in_ok-frame.frame c.in_ok-frame.ensures c.in-Some.rows few,
         kept s is.kept,
       );
-      allowed = allowed_found s c.args.store.now c.needed.new.store c.args.parts.now c.args.questions.now c.args.columns c.args.first.now c.args.rest.now
+      allowed = allowed_found s c.args.store.now c.needed.new.store c.args.parts.now c.args.questions.now c.args.by c.args.first.now c.args.rest.now
           c.args.taken c.args.reached.now c.args.given.now is e;
-      first = first_ordered s c.args.store.now c.needed.new.store c.args.parts.now c.args.questions.now c.args.columns c.args.first.now c.args.rest.now
+      first = first_ordered s c.args.store.now c.needed.new.store c.args.parts.now c.args.questions.now c.args.by c.args.first.now c.args.rest.now
           c.args.taken c.args.reached.now c.args.given.now is e;
-      rest = rest_ordered s c.args.store.now c.needed.new.store c.args.parts.now c.args.questions.now c.args.columns c.args.first.now c.args.rest.now
+      rest = rest_ordered s c.args.store.now c.needed.new.store c.args.parts.now c.args.questions.now c.args.by c.args.first.now c.args.rest.now
           c.args.taken c.args.reached.now c.args.given.now is e;
-      taken = taken_there s c.args.store.now c.needed.new.store c.args.parts.now c.args.questions.now c.args.columns c.args.first.now c.args.rest.now
+      taken = taken_there s c.args.store.now c.needed.new.store c.args.parts.now c.args.questions.now c.args.by c.args.first.now c.args.rest.now
           c.args.taken c.args.reached.now c.args.given.now is e;
       safe = ref_later c.safe_into.new.store c.needed.new.store c.in_ok-safe.safe same c.in_ok-safe.ensures.found;
     }
@@ -62,6 +62,6 @@ located-requires c =
 pub returns-in-Some-clause-found : goal.returns-in-Some-clause-found
 returns-in-Some-clause-found c s is =
     let kept = rw c.in-Some.is at c.in_ok-rows.ensures.kept in
-    map_ok c.located.result _ _ (document s c.args.store.now c.safe_into.new.store c.args.parts.now c.args.questions.now c.args.columns c.args.first.now
+    map_ok c.located.result _ _ (document s c.args.store.now c.safe_into.new.store c.args.parts.now c.args.questions.now c.args.by c.args.first.now
     c.args.rest.now c.args.taken c.args.reached.now c.args.given.now is c.safe_into.ensures.extends c.in_ok-frame.frame c.in_ok-frame.ensures
     c.in-Some.rows (kept s is.kept)) c.located.ensures.found
