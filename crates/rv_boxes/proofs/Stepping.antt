@@ -110,7 +110,7 @@ opposite_in numbers opposites are b (k, l, at) =
     flip : (n b : ℤ) → n ≡ b → negsuc 0 *ℤ n ≡ pos 0 -ℤ b
     flip n b e = omega (arith, ints)
 
-claim_same : (a b : Claim) → a.reached ≡ b.reached → a.upper ≡ b.upper → a.lower ≡ b.lower → a ≡ b
+pub claim_same : (a b : Claim) → a.reached ≡ b.reached → a.upper ≡ b.upper → a.lower ≡ b.lower → a ≡ b
 claim_same a b e f g =
     ap (λ (x : Frozen). let c : Claim = record { reached = x; upper = a.upper; lower = a.lower } in c) e
     ∙ ap (λ (x : List (Option ℤ)). let c : Claim = record { reached = b.reached; upper = x; lower = a.lower } in c) f

@@ -111,7 +111,7 @@ fn taken_in(
 }
 
 /// The same parts, with another reference for which valuations are allowed.
-fn parts_with(alloc: Global, parts: &Parts, allowed: Ref) -> Result<Parts, Memory>
+pub fn parts_with(alloc: Global, parts: &Parts, allowed: Ref) -> Result<Parts, Memory>
     ensures { IfOk result (ArePartsWith parts.now allowed) }
 {
     let next = Vec::from_slice(alloc, parts.next.as_slice())?;

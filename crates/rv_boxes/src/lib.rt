@@ -20,6 +20,7 @@
 #![tactic(auto)]
 
 mod bounding;
+mod certifying;
 mod claim;
 mod cutting;
 mod ends;
@@ -40,10 +41,18 @@ mod shut;
 mod thresholds;
 mod weights;
 
+pub use bounding::bound_rows;
+pub use certifying::certificate_of;
+pub use claim::Claim;
 pub use ends::{End, narrow};
+pub use frame::Frame;
 pub use laws::{boxes_agree, boxes_are_accepted, closed_claims_reach};
-pub use pass::box_pass;
+pub use layers::parts_with;
+pub use limits::{either, is_changed};
+pub use opening::opposite_form;
+pub use pass::{box_pass, frame_of};
 pub use peaks::{Peak, greatest};
 pub use premises::Premises;
+pub use rounds::{first_claim, take_set};
 pub use shut::shut_of;
 pub use thresholds::least_above;

@@ -101,7 +101,7 @@ fn differ(a: i128, b: i128) -> bool
 }
 
 /// Whether two limits are different.
-fn is_changed(old: Option<i128>, new: Option<i128>) -> bool
+pub fn is_changed(old: Option<i128>, new: Option<i128>) -> bool
     ensures { MatchBool result (old ≢ new) (new ≡ old) }
 {
     match old {

@@ -61,7 +61,7 @@ pub fn open_ends(
 }
 
 /// The form times -1.
-fn opposite_form(alloc: Global, form: &Form) -> Result<Form, Memory>
+pub fn opposite_form(alloc: Global, form: &Form) -> Result<Form, Memory>
     requires { FormWithin (2 ^ 41) form.now }
     ensures width { IfOk result (λ f. length f.coefficients ≡ length form.now.coefficients) }
     ensures values { IfOk result (λ f. (point : List ℤ) → value f point ≡ negsuc 0 *ℤ value form.now point) }

@@ -13,10 +13,11 @@ ghost use Rattle.rv_walk.specs.Plain.{ArePlain};
 ghost use Rattle.rv_boxes.specs.declared.frame.Frame.{Frame as FrameModel};
 ghost use Rattle.rv_boxes.specs.Claiming.{claim_of};
 ghost use Rattle.rv_boxes.specs.Opening.{IsFrameOf};
-ghost use Rattle.rv_boxes.specs.Rounds.{IsGiven, IsStart, IsLeastClaim};
+ghost use Rattle.rv_boxes.specs.Rounds.{IsGiven, IsLeastClaim};
 ghost use Rattle.rv_boxes.specs.Certifying.{IsBad, IsCertifiable};
 ghost use Rattle.rv_boxes.specs.Passing.{IsPassOf, IsEndOf};
 
+use crate::certifying::{Start, start_of};
 use crate::claim::Claim;
 use crate::frame::Frame;
 use crate::known::ask;
@@ -25,15 +26,15 @@ use crate::locations::certify;
 use crate::rounds::{Closed, closed_claim, others_of};
 use crate::shut::negated;
 use rv_base::{Many, Memory};
-use rv_cases::{Questions, cases};
-use rv_diagram::{Frozen, Store, StoreFault};
-use rv_proofs::{Case, Certificate, Layers};
+use rv_cases::Questions;
+use rv_diagram::{Store, StoreFault};
+use rv_proofs::Layers;
 use rv_symbolic::Relation;
 use rv_walk::BoxEnd;
 use std::alloc::Global;
 
-/// What is the same throughout the pass.
-fn frame_of(
+/// What is the same throughout a pass over a system with so many columns.
+pub fn frame_of(
     alloc: Global,
     questions: &Questions,
     thresholds: &[i128],
@@ -52,31 +53,6 @@ fn frame_of(
         thresholds,
         opposites,
     })
-}
-
-/// The initial control states, and their cases.
-#[derive(Debug, Drop)]
-struct Start {
-    first: Frozen,
-    from_first: Many<Case>,
-}
-
-/// The initial control states, and their cases.
-fn start_of(
-    alloc: Global,
-    store: &mut Store,
-    relation: &Relation,
-    questions: &Questions,
-) -> Result<Start, StoreFault>
-    requires { (s : System) × (f : FrameModel) × IsGiven s store.old relation.now questions.now f }
-    ensures start { (s : System) (f : FrameModel) → IsGiven s store.old relation.now questions.now f → IfOk result (λ x. IsStart s x.first x.from_first) }
-    ensures same { store.new ≡ store.old }
-    ensures roomy { IsErrOf result StoreFault.Nodes → store.old.limit < 2 ^ (2 ^ store.old.variables) }
-{
-    let first = relation.initial(store)?;
-    let allowed = relation.parts().allowed;
-    let from_first = cases(alloc, store, allowed, questions, &first)?;
-    Ok(Start { first, from_first })
 }
 
 /// The layers of the least closed claim, which is not good. All cases are asked again: those from before have gone into the certificate that

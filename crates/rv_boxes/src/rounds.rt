@@ -46,7 +46,7 @@ use std::alloc::Global;
 const LOWEST: i128 = -2_199_023_255_552;
 
 /// Takes a set into the claim. Whether some of it is new.
-fn take_set(store: &mut Store, claim: &mut Claim, set: &Frozen) -> Result<bool, StoreFault>
+pub fn take_set(store: &mut Store, claim: &mut Claim, set: &Frozen) -> Result<bool, StoreFault>
     requires reached { IsOrderedOver store.old.variables claim.old.reached }
     requires set { IsOrderedOver store.old.variables set.now }
     ensures same { store.new ≡ store.old }
@@ -451,7 +451,7 @@ fn first_limits(
 
 /// The claim that the pass begins with: the initial control states, and as bounds the closest thresholds, which exclude each other
 /// where there are two.
-fn first_claim(
+pub fn first_claim(
     alloc: Global,
     store: &Store,
     relation: &Relation,

@@ -41,7 +41,8 @@ returns-clause-narrowed c s q d first given can =
     let w : ArePartsWith c.args.relation.now.parts c.in_ok-taken.taken c.in_ok-parts.parts = subst
     (λ (x : Parts). ArePartsWith x c.in_ok-taken.taken c.in_ok-parts.parts) c.parts.ensures c.in_ok-parts.ensures in
     let open_at = value_of c.taken_in.new.store.nodes c.in_ok-taken.taken in
-    let small = narrowed_system s can.system c.args.frame.now.thresholds (claim_of d) least.least kept.states open_at taken.exact in
+    let of = least.least in
+    let small = narrowed_system s can.system c.args.frame.now.thresholds (claim_of d) of.claim kept.states open_at taken.exact in
     map_ok c.new.result (IsRelationOf (narrowed s open_at) c.new.new.store) (IsNarrowedTo s c.new.new.store (claim_of d))
     (λ x m. record { taken = open_at; exact = taken.exact; relation = m })
     (c.new.ensures.means (narrowed s open_at) small (parts_narrowed s c.taken_in.new.store c.args.relation.now.parts c.in_ok-parts.parts

@@ -1,6 +1,6 @@
 use Rattle.std.proofs.Common.{refl}
 use Rattle.rv_boxes.proofs.Giving.{given_allowed}
-use Rattle.rv_boxes.proofs.pass.start_of.Goals as goal
+use Rattle.rv_boxes.proofs.certifying.start_of.Goals as goal
 
 pub initial-requires : goal.initial-requires
 initial-requires c = let (s, f, given) = c.requires in (s, given.relation)

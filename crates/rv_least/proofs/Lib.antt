@@ -1,0 +1,5 @@
+pub mod Turning
+pub mod Opening
+pub mod Raising
+pub mod Growing
+pub mod Nexting

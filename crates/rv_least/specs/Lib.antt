@@ -1,0 +1,4 @@
+pub mod Turned
+pub mod Opened
+pub mod Rising
+pub mod Rounds
