@@ -382,7 +382,6 @@ module _ (s : System) (many : ℕ) (c : Claim) (start others : Part) (are : AreP
 
       pub proof_of : (left : List ℕ) → left ≡ left_of initial.fails rest.fails → IsProof s (claim_of c) (record { certificate = x; left = left })
       proof_of left e = let k = are.kept in let j = are.judge in record {
-        made = (initial.location, rest.location, made);
         plain = plain;
         accepted = λ none. claim-accepted s are.thresholds (claim_of c) x initial.location rest.location j.system k.claim j.closed (nothing left e none) made;
         good = λ none. nothing left e none;

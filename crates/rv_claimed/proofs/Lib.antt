@@ -6,3 +6,4 @@ pub mod Partition
 pub mod Leaving
 pub mod Assembling
 pub mod Giving
+pub mod Sought

@@ -6,9 +6,9 @@ use Rattle.rv_rows.specs.declared.linear.Row.{Row}
 use Rattle.rv_proofs.specs.Ranges.{IsRecord, IsControlSet, IsCondition, AreKept}
 use Rattle.rv_proofs.specs.RowClaims.{RowClaim, IsRowTaken, IsRowGood}
 use Rattle.rv_proofs.specs.{Systems.System, Scopes.IsIn, Cases.AreCases, Cases.IsInitialSet, Accepted.IsAccepted, Left.IsFailingStep, Left.IsLeftPartition}
-use Rattle.rv_proofs.specs.{declared.certificate.Certificate.Certificate, declared.certificate.Location.Location, declared.certificate.Entry.Entry}
+use Rattle.rv_proofs.specs.{declared.certificate.Location.Location, declared.certificate.Entry.Entry}
 use Rattle.rv_walk.specs.{Ends.has, Plain.ArePlain}
-use Rattle.rv_claims.specs.{declared.claim.Claim.Claim, Claiming.IsKeptClaim, Certify.IsClaimLocation, Certify.IsClaimCertificate}
+use Rattle.rv_claims.specs.{declared.claim.Claim.Claim, Claiming.IsKeptClaim, Certify.IsClaimLocation}
 use Rattle.rv_claimed.specs.Certifying.{IsBad, IsJudgeable, IsRangedKind}
 use Rattle.rv_claimed.specs.{declared.answer.Claimed.Claimed, declared.locations.Part.Part, declared.locations.Place.Place}
 
@@ -67,15 +67,9 @@ number_if b k = if b then (k ∷ []) else []
 abbrev pub left_of : Bool → Bool → List ℕ
 left_of first second = number_if first 0 ++ number_if second 1
 
--- The certificate has the two locations of the claim.
-abbrev pub IsCertificateOf : System → RowClaim → Certificate → Type 0
-IsCertificateOf s c x = (start : Location) × (later : Location) × IsClaimCertificate s c x start later
-
--- What is proved of a claim: the certificate has its two locations and no loop. Where none is left the certificate is accepted and the
--- claim good. Else the observer is false at a valuation that the claim takes, and the certificate is a left partition, if there is an
--- initial control state.
+-- What is proved of a claim: the certificate has no loop. Where no location is left the certificate is accepted and the claim good. Else the
+-- observer is false at a valuation that the claim takes, and the certificate is a left partition, if there is an initial control state.
 pub record IsProof (s : System) (c : RowClaim) (x : Claimed) : Type 0 where
-  pub made : IsCertificateOf s c x.certificate
   pub plain : ArePlain x.certificate
   pub accepted : x.left ≡ [] → IsAccepted s x.certificate
   pub good : x.left ≡ [] → IsRowGood s c

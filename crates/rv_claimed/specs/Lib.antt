@@ -1,3 +1,4 @@
 pub mod Placing
 pub mod Certifying
 pub mod Building
+pub mod Searching

@@ -1,6 +1,6 @@
 //! The certificate of a closed row claim.
 
-ghost use Rattle.std.specs.Prelude.{◌≡◌, ◌<◌, ◌≤◌, ◌^◌, ℤ, List, [], All, false, IsTrue, IfOk, IsErrOf};
+ghost use Rattle.std.specs.Prelude.{◌≡◌, ◌<◌, ◌≤◌, ◌+◌, ◌^◌, ℤ, List, [], length, All, false, IsTrue, IfOk, IsErrOf};
 ghost use Rattle.std.specs.Int.RustNames.{unsigned_abs};
 ghost use Rattle.rv_diagram.specs.Nodes.{Valuation};
 ghost use Rattle.rv_proofs.specs.Systems.{System};
@@ -11,10 +11,11 @@ ghost use Rattle.rv_proofs.specs.RowClaims.{IsRowTaken, IsRowClosed, IsRowGood};
 ghost use Rattle.rv_walk.specs.Plain.{ArePlain};
 ghost use Rattle.rv_claims.specs.Claiming.{claim_of, IsKeptClaim};
 ghost use Rattle.rv_claimed.specs.Certifying.{IsGiven};
-ghost use Rattle.rv_claimed.specs.Building.{IsStart, AreOthers, IsCertificateOf, IsProof};
+ghost use Rattle.rv_claimed.specs.Building.{IsStart, AreOthers, IsProof};
 
 use crate::answer::Claimed;
 use crate::locations::{MOST, Part, assembled};
+use crate::searching::few_entries;
 use rv_cases::{Questions, cases};
 use rv_claims::Claim;
 use rv_diagram::{Frozen, Store, StoreFault};
@@ -62,7 +63,30 @@ fn others_of(
     Ok(Part { control, cases })
 }
 
-/// The certificate of a closed row claim, and all that is proved of it.
+/// The certificate of a closed row claim over its cases, and all that is proved of it. There are so many tests.
+fn over_cases(
+    alloc: Global,
+    store: &mut Store,
+    relation: &Relation,
+    questions: &Questions,
+    claim: &Claim,
+    many: usize,
+) -> Result<Claimed, StoreFault>
+    requires given { (s : System) × (thresholds : List ℤ) × IsGiven s store.old relation.now questions.now × IsKeptClaim s thresholds claim.now
+        × IsRowClosed s (claim_of claim.now) }
+    requires many { many ≡ length questions.now.rows }
+    requires few { length claim.now.rows + many < 2 ^ 32 }
+    ensures proof { (s : System) (thresholds : List ℤ) → IsGiven s store.old relation.now questions.now → IsKeptClaim s thresholds claim.now
+        → IsRowClosed s (claim_of claim.now) → IfOk result (IsProof s (claim_of claim.now)) }
+    ensures same { store.new ≡ store.old }
+    ensures roomy { IsErrOf result StoreFault.Nodes → store.old.limit < 2 ^ (2 ^ store.old.variables) }
+{
+    let start = start_of(alloc, store, relation, questions)?;
+    let others = others_of(alloc, store, relation, questions, &start.control, claim)?;
+    Ok(assembled(alloc, claim, many, start, others)?)
+}
+
+/// The certificate of a closed row claim, and all that is proved of it: the one with few entries that a search finds, and else that over its cases.
 fn proved(
     alloc: Global,
     store: &mut Store,
@@ -81,14 +105,15 @@ fn proved(
     if claim.rows.len() + many > MOST {
         return Err(StoreFault::Memory);
     }
-    let start = start_of(alloc, store, relation, questions)?;
-    let others = others_of(alloc, store, relation, questions, &start.control, claim)?;
-    Ok(assembled(alloc, claim, many, start, others)?)
+    match few_entries(alloc, store, relation, questions, claim)? {
+        Some(claimed) => Ok(claimed),
+        None => over_cases(alloc, store, relation, questions, claim, many),
+    }
 }
 
 /// The certificate of a closed row claim, and the numbers of its locations in which the observer may be false. `relation` and `questions`
 /// are those of the system in the store. The certificate has no loop, and two locations: one for the initial control states, without
-/// rows, and one for the others of the claim, with the rows of the claim. Where no location is left the claim is good and the
+/// rows, and one for the others of the claim, with rows of the claim. Where no location is left the claim is good and the
 /// certificate accepted. Else the observer is false at a valuation that the claim takes, and where there is an initial control state the
 /// certificate is a left partition. The store is left as it was, after a fault too. Nodes comes where the store has no room for what is
 /// built on the way, never where its limit holds every function of its variables, and Memory where there is none, or where a document
@@ -105,9 +130,6 @@ pub fn certify(
     ensures accepted { (s : System) (thresholds : List ℤ) → IsGiven s store.old relation.now questions.now → IsKeptClaim s thresholds claim.now
         → IsRowClosed s (claim_of claim.now) → All (λ t. unsigned_abs t ≤ 2 ^ 41) thresholds
         → IfOk result (λ x. x.left ≡ [] → IsAccepted s x.certificate) }
-    ensures made { (s : System) (thresholds : List ℤ) → IsGiven s store.old relation.now questions.now → IsKeptClaim s thresholds claim.now
-        → IsRowClosed s (claim_of claim.now) → All (λ t. unsigned_abs t ≤ 2 ^ 41) thresholds
-        → IfOk result (λ x. IsCertificateOf s (claim_of claim.now) x.certificate) }
     ensures plain { (s : System) (thresholds : List ℤ) → IsGiven s store.old relation.now questions.now → IsKeptClaim s thresholds claim.now
         → IsRowClosed s (claim_of claim.now) → All (λ t. unsigned_abs t ≤ 2 ^ 41) thresholds → IfOk result (λ x. ArePlain x.certificate) }
     ensures good { (s : System) (thresholds : List ℤ) → IsGiven s store.old relation.now questions.now → IsKeptClaim s thresholds claim.now

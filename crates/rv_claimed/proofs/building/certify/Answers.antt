@@ -5,10 +5,6 @@ pub returns-clause-accepted : goal.returns-clause-accepted
 returns-clause-accepted c s thresholds given kept closed small =
     map_ok c.proved.result _ _ (λ x p. p.accepted) (c.proved.ensures.proof s thresholds given kept closed)
 
-pub returns-clause-made : goal.returns-clause-made
-returns-clause-made c s thresholds given kept closed small =
-    map_ok c.proved.result _ _ (λ x p. p.made) (c.proved.ensures.proof s thresholds given kept closed)
-
 pub returns-clause-plain : goal.returns-clause-plain
 returns-clause-plain c s thresholds given kept closed small =
     map_ok c.proved.result _ _ (λ x p. p.plain) (c.proved.ensures.proof s thresholds given kept closed)

@@ -1,26 +1,31 @@
-use Rattle.std.proofs.Common.{◌<◌, ◌+◌, ◌^◌, arith, length}
-use Rattle.rv_claimed.proofs.Giving.{given_there, parts_given}
+use Rattle.std.proofs.Common.{◌+◌, ◌<◌, ◌^◌, length, arith}
+use Rattle.rv_claimed.proofs.Giving.{given_there}
 use Rattle.rv_claimed.proofs.building.proved.Goals as goal
 
-pub start_of-requires : goal.start_of-requires
-start_of-requires c = let (s, thresholds, given, kept, closed) = c.requires in (s, given)
-
-pub others_of-requires : goal.others_of-requires
-others_of-requires c =
+pub few_entries-requires : goal.few_entries-requires
+few_entries-requires c =
     let (s, thresholds, given, kept, closed) = c.requires in
-    let start = c.in_ok-start.ensures.start s given in (
+    let few : length c.args.claim.now.rows + length c.args.questions.now.rows < 2 ^ 32 = omega
+    (arith, c.len.ensures, c.len-many.ensures, c.if-len-many-gt-MOST.false) in
+    (s, thresholds, record { given = given; kept = kept; few = few })
+
+pub over_cases-requires-clause-given : goal.over_cases-requires-clause-given
+over_cases-requires-clause-given c =
+    let (s, thresholds, given, kept, closed) = c.requires in (
       s,
       thresholds,
-      given_there s c.args.store.now c.start_of.new.store c.args.relation.now c.args.questions.now c.start_of.ensures.same given,
-      start.initial,
+      given_there s c.args.store.now c.few_entries.new.store c.args.relation.now c.args.questions.now c.few_entries.ensures.same given,
       kept,
+      closed,
     )
 
-pub returns-clause-proof : goal.returns-clause-proof
-returns-clause-proof c s thresholds given kept closed =
-    let few : length c.args.claim.now.rows + c.len-many.result < 2 ^ 32 = omega (arith, c.len.ensures, c.if-len-many-gt-MOST.false) in
-    let start = c.in_ok-start.ensures.start s given in
-    let there = given_there s c.args.store.now c.start_of.new.store c.args.relation.now c.args.questions.now c.start_of.ensures.same given in
-    let others = c.in_ok-others.ensures.others s thresholds there start.initial kept in
-    c.in_ok-assembled.ensures s (parts_given s thresholds c.args.store.now c.args.relation.now c.args.questions.now c.args.claim.now c.len-many.result
-    c.in_ok-start.start c.in_ok-others.others c.len-many.ensures given kept closed few start others)
+pub returns-in-Some-clause-proof : goal.returns-in-Some-clause-proof
+returns-in-Some-clause-proof c s thresholds given kept closed =
+    let few : length c.args.claim.now.rows + length c.args.questions.now.rows < 2 ^ 32 = omega
+    (arith, c.len.ensures, c.len-many.ensures, c.if-len-many-gt-MOST.false) in
+    rw c.in-Some.is at c.in_ok-claimed.ensures.proof s thresholds (record { given = given; kept = kept; few = few })
+
+pub returns-in-None-clause-proof : goal.returns-in-None-clause-proof
+returns-in-None-clause-proof c s thresholds given kept closed =
+    c.over_cases.ensures.proof s thresholds
+    (given_there s c.args.store.now c.few_entries.new.store c.args.relation.now c.args.questions.now c.few_entries.ensures.same given) kept closed
