@@ -4,7 +4,6 @@ ghost use Rattle.std.specs.Prelude.{◌≡◌, ◌<◌, ℕ, [], Ok, Some, None,
 ghost use Rattle.rv_base.specs.declared.value.Trace.{Trace as TraceModel};
 ghost use Rattle.rv_tree.specs.Tree.{program_tree};
 ghost use Rattle.rv_types.specs.Instances.{name_at};
-ghost use Rattle.rv_instances.specs.Fitting.{Fits};
 ghost use Rattle.rv_agreement.specs.Checks.{constant_fits};
 ghost use Rattle.rv_flat.specs.FlatOf.{IsFlatOf};
 ghost use Rattle.rv_flat.specs.Steps.{AreValues, IsInRange, label_counts};
@@ -15,6 +14,7 @@ ghost use Rattle.rv_falsify.specs.Falsifying.{IsFalsifying};
 use crate::decoding::{input_kinds, memory_kinds};
 use rv_base::{Many, Memory, Trace, Value};
 use rv_flat::Flat;
+use rv_flatten::fitting_sources;
 use rv_instances::Source;
 use rv_probe::falsified_at;
 use rv_replay::flat_traces;
@@ -111,7 +111,6 @@ fn cut(
     flat: &Flat,
     mut trace: Trace,
 ) -> Result<Option<Trace>, Memory>
-    requires fits { Fits (program_tree source.now.program) source.now.typed source.now.order }
     requires flat { IsFlatOf (program_tree source.now.program) (name_at (program_tree source.now.program) source.now.typed.main) flat.now }
     requires trace { IsTrace (program_tree source.now.program) (name_at (program_tree source.now.program) source.now.typed.main) trace }
     ensures falsifies { (t : TraceModel) → result ≡ Ok (Some t)
@@ -138,13 +137,13 @@ pub fn confirmed(
     flat: &Flat,
     trace: Trace,
 ) -> Result<Option<Trace>, Memory>
-    requires fits { Fits (program_tree source.now.program) source.now.typed source.now.order }
     requires flat { IsFlatOf (program_tree source.now.program) (name_at (program_tree source.now.program) source.now.typed.main) flat.now }
     ensures falsifies { (t : TraceModel) → result ≡ Ok (Some t)
         → IsFalsifying (program_tree source.now.program) (name_at (program_tree source.now.program) source.now.typed.main) t }
     ensures missing { result ≡ Ok None → IsTrace (program_tree source.now.program) (name_at (program_tree source.now.program) source.now.typed.main) trace
         → (k : ℕ) → IsFalsifiedAt (program_tree source.now.program) (name_at (program_tree source.now.program) source.now.typed.main) trace k → ⊥ }
 {
+    fitting_sources();
     well_formed_programs();
     flat_traces();
     let is = is_flat_trace(alloc, flat, &trace)?;

@@ -5,7 +5,6 @@ ghost use Rattle.rv_base.specs.declared.value.Trace.{Trace as TraceModel};
 ghost use Rattle.rv_tree.specs.Tree.{ProgramTree, program_tree};
 ghost use Rattle.rv_tree.specs.Places.{Identifier};
 ghost use Rattle.rv_types.specs.Instances.{name_at};
-ghost use Rattle.rv_instances.specs.Fitting.{Fits};
 ghost use Rattle.rv_flat.specs.FlatOf.{IsFlatOf};
 ghost use Rattle.rv_diagram.specs.declared.frozen.Frozen.{Frozen as FrozenModel};
 ghost use Rattle.rv_proofs.specs.Ranges.{IsControlSet};
@@ -19,6 +18,7 @@ use rv_base::{Many, Memory, Trace, Value};
 use rv_control::{runs_are_abstract, spelled_runs};
 use rv_diagram::StoreFault;
 use rv_flat::{Flat, flat_states, runs_are_one};
+use rv_flatten::fitting_sources;
 use rv_instances::Source;
 use rv_meaning::{run_is_instants, states_of_run, typed_instants};
 use rv_paths::Candidate;
@@ -39,7 +39,6 @@ fn find_back(
     layers: &Layers,
 ) -> Result<Option<Trace>, StoreFault>
     requires read { IsRead reading.old }
-    requires fits { Fits (program_tree source.now.program) source.now.typed source.now.order }
     requires flat { IsFlatOf (program_tree source.now.program) (name_at (program_tree source.now.program) source.now.typed.main) (flat_of reading.old) }
     requires columns { HasNoColumns (system_read reading.old) }
     requires sets { (t : ℕ) (set : FrozenModel) → slice_get layers.now.sets t ≡ Some set → IsControlSet (system_read reading.old) set }
@@ -55,6 +54,7 @@ fn find_back(
     ensures same { reading.new ≡ reading.old }
     ensures roomy { IsErrOf result StoreFault.Nodes → (diagrams_of reading.old).limit < 2 ^ (2 ^ (diagrams_of reading.old).variables) }
 {
+    fitting_sources();
     well_formed_programs();
     typed_instants();
     run_is_instants();
@@ -151,7 +151,6 @@ fn find_candidate(
     layers: &Layers,
 ) -> Result<Option<Trace>, StoreFault>
     requires read { IsRead reading.old }
-    requires fits { Fits (program_tree source.now.program) source.now.typed source.now.order }
     requires flat { IsFlatOf (program_tree source.now.program) (name_at (program_tree source.now.program) source.now.typed.main) (flat_of reading.old) }
     requires sets { (t : ℕ) (set : FrozenModel) → slice_get layers.now.sets t ≡ Some set → IsControlSet (system_read reading.old) set }
     ensures falsifies { (t : TraceModel) → result ≡ Ok (Some t)
@@ -183,7 +182,6 @@ pub fn find(
     layers: &Layers,
 ) -> Result<Option<Trace>, StoreFault>
     requires read { IsRead reading.old }
-    requires fits { Fits (program_tree source.now.program) source.now.typed source.now.order }
     requires flat { IsFlatOf (program_tree source.now.program) (name_at (program_tree source.now.program) source.now.typed.main) (flat_of reading.old) }
     requires sets { (t : ℕ) (set : FrozenModel) → slice_get layers.now.sets t ≡ Some set → IsControlSet (system_read reading.old) set }
     ensures falsifies { (t : TraceModel) → result ≡ Ok (Some t)

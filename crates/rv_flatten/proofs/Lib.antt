@@ -57,3 +57,7 @@ pub mod VariableCount
 pub mod Assembled
 pub mod ReadKeeps
 pub mod Reading
+pub mod Searches
+pub mod TreeTruths
+pub mod WeightTruths
+pub mod SourceTruths

@@ -25,6 +25,7 @@ use crate::expressions::number_at;
 use crate::flows::flat_flows;
 use crate::found::{Found, found_in};
 use crate::given::Given;
+use crate::laws::fitting_sources;
 use crate::naming::{inputs_of, labels_of};
 use crate::node_reader::own_tables;
 use crate::remembered::flat_memories;
@@ -67,12 +68,11 @@ struct Told {
 /// The flat system of an accepted source. `Memory` comes where memory runs out. Time grows with the number of expressions of
 /// all instances and with the length of the places in the answer, up to look-ups.
 pub fn flatten(alloc: Global, source: &Source) -> Result<Flat, Memory>
-    // A source keeps this in its type, as a truth only; the call takes the proof that `read_source` gives.
-    requires fits { Fits (program_tree source.now.program) source.now.typed source.now.order }
     ensures flat { IfOk result (IsFlatOf (program_tree source.now.program) (name_at (program_tree source.now.program) source.now.typed.main)) }
     ensures expanded { IfOk result (λ f. f.expanded ≡ expanded (program_tree source.now.program)
         (name_at (program_tree source.now.program) source.now.typed.main)) }
 {
+    fitting_sources();
     flat_of(alloc, &source.program, &source.typed, &source.order)
 }
 

@@ -15,6 +15,7 @@ mod frame;
 mod given;
 mod items;
 mod kept;
+mod laws;
 mod memories;
 mod naming;
 mod node_reader;
@@ -26,3 +27,4 @@ mod ticks;
 mod variables;
 
 pub use build::flatten;
+pub use laws::fitting_sources;

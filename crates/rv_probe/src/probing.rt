@@ -5,7 +5,6 @@ ghost use Rattle.std.specs.List.{Contains};
 ghost use Rattle.rv_base.specs.declared.value.Trace.{Trace as TraceModel};
 ghost use Rattle.rv_tree.specs.Tree.{program_tree};
 ghost use Rattle.rv_types.specs.Instances.{name_at};
-ghost use Rattle.rv_instances.specs.Fitting.{Fits};
 ghost use Rattle.rv_flat.specs.FlatOf.{IsFlatOf};
 ghost use Rattle.rv_flat.specs.Steps.{IsWithin};
 ghost use Rattle.rv_replay.specs.Replays.{IsFalsifiedAt};
@@ -16,6 +15,7 @@ ghost use Rattle.rv_probe.specs.Probes.{have_values as types_have_values};
 use crate::traces::{have_values, probe_trace};
 use rv_base::{Memory, Trace};
 use rv_flat::{Flat, flat_states};
+use rv_flatten::fitting_sources;
 use rv_instances::Source;
 use rv_replay::{ReplayFault, Replayed, flat_traces, replay_flat};
 use rv_types::well_formed_programs;
@@ -29,7 +29,6 @@ pub fn falsified_at(
     flat: &Flat,
     trace: &Trace,
 ) -> Result<Option<u32>, Memory>
-    requires fits { Fits (program_tree source.now.program) source.now.typed source.now.order }
     requires flat { IsFlatOf (program_tree source.now.program) (name_at (program_tree source.now.program) source.now.typed.main) flat.now }
     requires trace { IsTrace (program_tree source.now.program) (name_at (program_tree source.now.program) source.now.typed.main) trace.now }
     ensures found { (k : ℕ) → result ≡ Ok (Some k)
@@ -54,7 +53,6 @@ fn try_probe(
     truth: bool,
     number: i128,
 ) -> Result<Option<Trace>, Memory>
-    requires fits { Fits (program_tree source.now.program) source.now.typed source.now.order }
     requires flat { IsFlatOf (program_tree source.now.program) (name_at (program_tree source.now.program) source.now.typed.main) flat.now }
     requires values { types_have_values flat.now ≡ true }
     requires number { IsWithin number }
@@ -63,6 +61,7 @@ fn try_probe(
     ensures never { result ≡ Ok None
         → NeverFalsifies (program_tree source.now.program) (name_at (program_tree source.now.program) source.now.typed.main) flat.now truth number }
 {
+    fitting_sources();
     well_formed_programs();
     flat_traces();
     let mut trace = probe_trace(alloc, flat, truth, number)?;
@@ -82,7 +81,6 @@ fn try_number(
     flat: &Flat,
     number: i128,
 ) -> Result<Option<Trace>, Memory>
-    requires fits { Fits (program_tree source.now.program) source.now.typed source.now.order }
     requires flat { IsFlatOf (program_tree source.now.program) (name_at (program_tree source.now.program) source.now.typed.main) flat.now }
     requires values { types_have_values flat.now ≡ true }
     requires number { IsWithin number }
@@ -111,7 +109,6 @@ fn try_threshold(
     flat: &Flat,
     number: i128,
 ) -> Result<Option<Trace>, Memory>
-    requires fits { Fits (program_tree source.now.program) source.now.typed source.now.order }
     requires flat { IsFlatOf (program_tree source.now.program) (name_at (program_tree source.now.program) source.now.typed.main) flat.now }
     requires values { types_have_values flat.now ≡ true }
     ensures found { (t : TraceModel) → result ≡ Ok (Some t)
@@ -129,7 +126,6 @@ fn try_threshold(
 
 /// The first probe of a threshold that falsifies, in their order.
 fn try_thresholds(alloc: Global, source: &Source, flat: &Flat) -> Result<Option<Trace>, Memory>
-    requires fits { Fits (program_tree source.now.program) source.now.typed source.now.order }
     requires flat { IsFlatOf (program_tree source.now.program) (name_at (program_tree source.now.program) source.now.typed.main) flat.now }
     requires values { types_have_values flat.now ≡ true }
     ensures found { (t : TraceModel) → result ≡ Ok (Some t)
@@ -153,7 +149,6 @@ fn try_thresholds(alloc: Global, source: &Source, flat: &Flat) -> Result<Option<
 /// rising order, but for one outside -2^63 to 2^63 - 1, which no trace has; each is tried with false and then with true. `flat` is the
 /// flat system of the source. `Memory` comes where memory runs out. Time grows with the probes times the flat system.
 pub fn probe(alloc: Global, source: &Source, flat: &Flat) -> Result<Option<Trace>, Memory>
-    requires fits { Fits (program_tree source.now.program) source.now.typed source.now.order }
     requires flat { IsFlatOf (program_tree source.now.program) (name_at (program_tree source.now.program) source.now.typed.main) flat.now }
     ensures found { (t : TraceModel) → result ≡ Ok (Some t)
         → (b : Bool) × (c : ℤ) × (k : ℕ)
@@ -166,6 +161,7 @@ pub fn probe(alloc: Global, source: &Source, flat: &Flat) -> Result<Option<Trace
     ensures exactly { IfOk result (λ found. (found ≡ None)
         ↔ (HasFalsifyingProbe (program_tree source.now.program) (name_at (program_tree source.now.program) source.now.typed.main) flat.now → ⊥)) }
 {
+    fitting_sources();
     well_formed_programs();
     flat_states();
     if !have_values(flat) {

@@ -4,7 +4,7 @@ use Rattle.std.proofs.Common.{Option, Some, slice_get, None as Nothing}
 use Rattle.std.proofs.{lemmas.List.drop_more, lemmas.Option.get_or_from_slice_get, lemmas.Option.slice_get_within}
 use Rattle.std.specs.Prelude.{Result, Ok, Err}
 use Rattle.rv_base.specs.{declared.value.Place.Place, declared.value.Trace.Trace, declared.value.Value.Value, declared.value.Value.TheVariants.Flag}
-use Rattle.rv_flat.specs.Steps.{AreTaken, IsFlatStart, IsLeastOf}
+use Rattle.rv_flat.specs.Steps.{IsFlatStart, IsLeastOf}
 use Rattle.rv_flat.specs.{declared.flat.Flat.Flat, declared.state.State.State, FlatInstants.is_on, FlatInstants.nth, FlatOf.IsFlatBroken}
 use Rattle.rv_step.specs.{declared.stepped.Stepped.Stepped, Stepping.IsStepped}
 use Rattle.rv_replay.specs.declared.playing.Turn.TheVariants as turn
@@ -17,8 +17,7 @@ use Rattle.rv_replay.specs.{declared.replayed.Replayed.Replayed, declared.replay
 its_truth : (o : Option Value) (b : Bool) → ((x : Bool) × (o ≡ Some (Flag x))) → is_on o ≡ b → o ≡ Some (Flag b)
 its_truth o b there is = there.1 ∙ ap (λ x. Some (Flag x)) (sym (ap is_on there.1) ∙ is)
 
-module _ (f : Flat) (now : State) (inputs : List Value) (k : ℕ) (s : Stepped) (is : IsStepped f now inputs s) (truth : HasTruth f s.values)
-    (taken : AreTaken f now inputs s.values) where
+module _ (f : Flat) (now : State) (inputs : List Value) (k : ℕ) (s : Stepped) (is : IsStepped f now inputs s) (truth : HasTruth f s.values) where
   pub turn_fails : (p : Place) → s.broken ≡ Some p → IsTurn f k now inputs (turn.Ends (AssertionFails k p))
   turn_fails p e = fails s.values p is.instant is.within (subst (IsLeastOf (IsFlatBroken f now inputs s.values)) e is.broken)
 
@@ -37,7 +36,7 @@ module _ (f : Flat) (now : State) (inputs : List Value) (k : ℕ) (s : Stepped) 
       observed = its_truth (nth s.values f.observer) true truth (sym is.observer ∙ on);
       next = is.next;
     },
-    is.state taken,
+    is.state,
   )
 
   pub turn_seen : s.broken ≡ Nothing → IsTurn f k now inputs (cond s.observer (turn.GoesOn s.next) (turn.Ends (Falsified k)))

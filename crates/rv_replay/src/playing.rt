@@ -6,7 +6,7 @@ ghost use Rattle.rv_tree.specs.Tree.{ProgramTree};
 ghost use Rattle.rv_tree.specs.Places.{Identifier};
 ghost use Rattle.rv_flat.specs.declared.flat.Flat.{Flat as FlatModel};
 ghost use Rattle.rv_flat.specs.declared.state.State.{State as StateModel};
-ghost use Rattle.rv_flat.specs.Steps.{AreTaken, AreValues, IsState, input_kinds};
+ghost use Rattle.rv_flat.specs.Steps.{AreValues, IsState, input_kinds};
 ghost use Rattle.rv_step.specs.Stepping.{IsStepped};
 ghost use Rattle.rv_replay.specs.Observers.{HasTruth, IsObserved};
 ghost use Rattle.rv_replay.specs.Playing.{AnswersUnlessMemory, IsEndFault, IsPlayedOf, IsTurn};
@@ -14,7 +14,7 @@ ghost use Rattle.rv_replay.specs.Traces.{IsFlatTrace};
 
 use crate::replayed::{ReplayFault, Replayed};
 use rv_base::{Many, Trace, Value};
-use rv_flat::{Flat, State, flat_states, typed_steps};
+use rv_flat::{Flat, State, flat_states};
 use rv_meaning::typed_instants;
 use rv_step::{StepFault, Stepped, start, step};
 use std::alloc::Global;
@@ -42,7 +42,7 @@ fn seen(number: u32, observer: bool, next: State) -> Turn
 /// What the instant with this number comes to, by what it gives: a false assertion is told before a false observer.
 fn turn_of(number: u32, stepped: Stepped) -> Turn
     ensures { (f : FlatModel) (now : StateModel) (inputs : List ValueModel) → IsStepped f now inputs stepped
-        → HasTruth f stepped.values → AreTaken f now inputs stepped.values → IsTurn f number now inputs result }
+        → HasTruth f stepped.values → IsTurn f number now inputs result }
 {
     let Stepped {
         next,
@@ -70,7 +70,6 @@ fn take_turn(
     ensures turn { IfOk result (IsTurn flat.now number now.now input.now) }
     ensures fault { IfErr result (IsEndFault flat.now number now.now input.now) }
 {
-    typed_steps();
     typed_instants();
     flat_states();
     match step(alloc, flat, now, input) {

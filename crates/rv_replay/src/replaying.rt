@@ -4,7 +4,6 @@ ghost use Rattle.std.specs.Prelude.{◌≡◌, ℕ};
 ghost use Rattle.rv_base.specs.declared.value.Place.{Place as PlaceModel};
 ghost use Rattle.rv_tree.specs.Tree.{program_tree};
 ghost use Rattle.rv_types.specs.Instances.{name_at};
-ghost use Rattle.rv_instances.specs.Fitting.{Fits};
 ghost use Rattle.rv_flat.specs.FlatOf.{IsFlatOf};
 ghost use Rattle.rv_replay.specs.Replays.{FailsAt, IsFalsifiedAt, IsUnlessMemory, NeverEnds, OutgrowsAt};
 ghost use Rattle.rv_replay.specs.Traces.{IsTrace};
@@ -13,7 +12,7 @@ use crate::playing::play;
 use crate::replayed::{ReplayFault, Replayed};
 use rv_base::Trace;
 use rv_flat::{Flat, flat_states, steps_give_run};
-use rv_flatten::flatten;
+use rv_flatten::{fitting_sources, flatten};
 use rv_instances::Source;
 use rv_meaning::{run_is_instants, some_run, states_of_run};
 use rv_types::well_formed_programs;
@@ -26,7 +25,6 @@ use std::alloc::Global;
 /// where the observer is false; `NeverFalse` comes where no instant ends it, and `Memory` where memory runs out. Time grows with
 /// the instants times the flat system, and nothing is kept of earlier instants but the state.
 pub fn replay(alloc: Global, source: &Source, trace: &Trace) -> Result<Replayed, ReplayFault>
-    requires fits { Fits (program_tree source.now.program) source.now.typed source.now.order }
     requires trace { IsTrace (program_tree source.now.program) (name_at (program_tree source.now.program) source.now.typed.main) trace.now }
     ensures falsified { (k : ℕ) → result ≡ Ok (Replayed.Falsified k)
         → IsFalsifiedAt (program_tree source.now.program) (name_at (program_tree source.now.program) source.now.typed.main) trace.now k }
@@ -59,7 +57,6 @@ pub fn replay_flat(
     flat: &Flat,
     trace: &Trace,
 ) -> Result<Replayed, ReplayFault>
-    requires fits { Fits (program_tree source.now.program) source.now.typed source.now.order }
     requires flat { IsFlatOf (program_tree source.now.program) (name_at (program_tree source.now.program) source.now.typed.main) flat.now }
     requires trace { IsTrace (program_tree source.now.program) (name_at (program_tree source.now.program) source.now.typed.main) trace.now }
     ensures falsified { (k : ℕ) → result ≡ Ok (Replayed.Falsified k)
@@ -82,6 +79,7 @@ pub fn replay_flat(
         → OutgrowsAt (program_tree source.now.program) (name_at (program_tree source.now.program) source.now.typed.main) trace.now k p
         → IsUnlessMemory (Err (ReplayFault.Outgrown k p)) result }
 {
+    fitting_sources();
     well_formed_programs();
     run_is_instants();
     states_of_run();

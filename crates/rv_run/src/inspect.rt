@@ -6,7 +6,6 @@ ghost use Rattle.rv_tree.specs.Places.{Identifier};
 ghost use Rattle.rv_tree.specs.Words.{HasPlainNames};
 ghost use Rattle.rv_types.specs.Instances.{IsNode, name_at};
 ghost use Rattle.rv_types.specs.WellFormed.{AreWell};
-ghost use Rattle.rv_instances.specs.Fitting.{Fits};
 ghost use Rattle.rv_meaning.specs.Runs.{IsSafe};
 ghost use Rattle.rv_flat.specs.FlatOf.{IsFlatOf};
 ghost use Rattle.rv_control.specs.Control.{control_of};
@@ -26,7 +25,7 @@ use rv_certificate::accept;
 use rv_control::runs_are_abstract;
 use rv_diagram::StoreFault;
 use rv_flat::Flat;
-use rv_flatten::flatten;
+use rv_flatten::{fitting_sources, flatten};
 use rv_instances::Source;
 use rv_invariant::{documents_fit, read_certificate};
 use rv_proofs::{Certificate, Verdict, certificates_are_safe, one_verdict};
@@ -40,7 +39,6 @@ use std::alloc::Global;
 /// has many diagram variables for the number of nodes that the diagrams may have.
 pub fn report_on_invariant(alloc: Global, source: &Source, document: &[u8], nodes: u32) -> Report
     requires limit { nodes ≤ 33554432 }
-    requires fits { Fits (program_tree source.now.program) source.now.typed source.now.order }
     requires plain { HasPlainNames (program_tree source.now.program) }
     requires short { length document.now ≤ FILE_LIMIT }
     ensures says { (report : ReportModel) → IsInvariantReport report → result ≡ report
@@ -53,6 +51,7 @@ pub fn report_on_invariant(alloc: Global, source: &Source, document: &[u8], node
         → SaysOfInvariant report document.now (program_tree source.now.program) (name_at (program_tree source.now.program) source.now.typed.main)
         → IsUnlessLimit tasks.Check report result }
 {
+    fitting_sources();
     well_formed_programs();
     runs_are_abstract();
     certificates_are_safe();

@@ -8,7 +8,6 @@ ghost use Rattle.rv_tree.specs.Tree.{program_tree};
 ghost use Rattle.rv_tree.specs.Words.{HasPlainNames};
 ghost use Rattle.rv_types.specs.Instances.{name_at};
 ghost use Rattle.rv_types.specs.Variables.{is_integer};
-ghost use Rattle.rv_instances.specs.Fitting.{Fits};
 ghost use Rattle.rv_control.specs.Control.{control_of};
 ghost use Rattle.rv_invariant.specs.Certificates.{IsWithoutLoops};
 ghost use Rattle.rv_meaning.specs.Integers.{IsControl};
@@ -35,7 +34,7 @@ use rv_diagram::StoreFault;
 use rv_falsify::find;
 use rv_fixpoint::{End, Left, Options, analyse};
 use rv_flat::Flat;
-use rv_flatten::flatten;
+use rv_flatten::{fitting_sources, flatten};
 use rv_instances::Source;
 use rv_invariant::write_certificate;
 use rv_invfile::{fitting_traces, told_systems, write_trace};
@@ -56,7 +55,6 @@ use std::alloc::Global;
 /// text.
 pub fn judge(alloc: Global, source: &Source, nodes: u32) -> Result<Verdict, StoreFault>
     requires limit { nodes ≤ 33554432 }
-    requires fits { Fits (program_tree source.now.program) source.now.typed source.now.order }
     requires plain { HasPlainNames (program_tree source.now.program) }
     requires small { HasSmallNumbers (program_tree source.now.program) }
     ensures judged { IfOk result (λ v. IsVerdictOf nodes v (program_tree source.now.program)
@@ -66,6 +64,7 @@ pub fn judge(alloc: Global, source: &Source, nodes: u32) -> Result<Verdict, Stor
     ensures unprobed { IsErrOf result StoreFault.Nodes → LacksProbe (program_tree source.now.program)
         (name_at (program_tree source.now.program) source.now.typed.main) }
 {
+    fitting_sources();
     well_formed_programs();
     runs_are_abstract();
     let flat = flatten(alloc, source)?;
@@ -84,7 +83,6 @@ fn probed(
     nodes: u32,
 ) -> Result<Verdict, StoreFault>
     requires limit { nodes ≤ 33554432 }
-    requires fits { Fits (program_tree source.now.program) source.now.typed source.now.order }
     requires plain { HasPlainNames (program_tree source.now.program) }
     requires known { IsKnown (program_tree source.now.program) (name_at (program_tree source.now.program) source.now.typed.main) flat.now }
     requires thresholds { All (λ t. unsigned_abs t ≤ 2 ^ 41) flat.now.thresholds }
@@ -111,7 +109,6 @@ fn unless_shorter(
     nodes: u32,
 ) -> Result<Verdict, StoreFault>
     requires limit { nodes ≤ 33554432 }
-    requires fits { Fits (program_tree source.now.program) source.now.typed source.now.order }
     requires plain { HasPlainNames (program_tree source.now.program) }
     requires known { IsKnown (program_tree source.now.program) (name_at (program_tree source.now.program) source.now.typed.main) flat.now }
     requires thresholds { All (λ t. unsigned_abs t ≤ 2 ^ 41) flat.now.thresholds }
@@ -137,13 +134,13 @@ fn with_trace(
     flat: &Flat,
     trace: Trace,
 ) -> Result<Verdict, StoreFault>
-    requires fits { Fits (program_tree source.now.program) source.now.typed source.now.order }
     requires plain { HasPlainNames (program_tree source.now.program) }
     requires known { IsKnown (program_tree source.now.program) (name_at (program_tree source.now.program) source.now.typed.main) flat.now }
     requires trace { IsTrace (program_tree source.now.program) (name_at (program_tree source.now.program) source.now.typed.main) trace }
     ensures traced { IfOk result (IsTraced trace (program_tree source.now.program) (name_at (program_tree source.now.program) source.now.typed.main)) }
     ensures memory { IsErrOf result StoreFault.Nodes → ⊥ }
 {
+    fitting_sources();
     told_systems();
     flat_traces();
     fitting_traces();
@@ -155,7 +152,6 @@ fn with_trace(
 /// The verdict on a source by the box pass over its flat system. Where a probe falsifies it, it has no integers.
 fn decided(alloc: Global, source: &Source, flat: &Flat, nodes: u32) -> Result<Verdict, StoreFault>
     requires limit { nodes ≤ 33554432 }
-    requires fits { Fits (program_tree source.now.program) source.now.typed source.now.order }
     requires plain { HasPlainNames (program_tree source.now.program) }
     requires known { IsKnown (program_tree source.now.program) (name_at (program_tree source.now.program) source.now.typed.main) flat.now }
     requires thresholds { All (λ t. unsigned_abs t ≤ 2 ^ 41) flat.now.thresholds }
@@ -179,7 +175,6 @@ fn safe(
     flat: &Flat,
     certificate: Certificate,
 ) -> Result<Verdict, StoreFault>
-    requires fits { Fits (program_tree source.now.program) source.now.typed source.now.order }
     requires plain { HasPlainNames (program_tree source.now.program) }
     requires known { IsKnown (program_tree source.now.program) (name_at (program_tree source.now.program) source.now.typed.main) flat.now }
     requires accepted { IsAccepted (control_of flat.now) certificate }
@@ -188,6 +183,7 @@ fn safe(
         (name_at (program_tree source.now.program) source.now.typed.main)) }
     ensures memory { IsErrOf result StoreFault.Nodes → ⊥ }
 {
+    fitting_sources();
     certificates_are_safe();
     told_systems();
     let _count = flat.memories.len();
@@ -202,7 +198,6 @@ fn not_good(
     reading: &mut Reading,
     layers: &Layers,
 ) -> Result<Verdict, StoreFault>
-    requires fits { Fits (program_tree source.now.program) source.now.typed source.now.order }
     requires plain { HasPlainNames (program_tree source.now.program) }
     requires read { IsRead reading.old }
     requires known { IsKnown (program_tree source.now.program) (name_at (program_tree source.now.program) source.now.typed.main) (flat_of reading.old) }
@@ -240,7 +235,6 @@ fn searched(
     layers: &Layers,
     left: Left,
 ) -> Result<Verdict, StoreFault>
-    requires fits { Fits (program_tree source.now.program) source.now.typed source.now.order }
     requires plain { HasPlainNames (program_tree source.now.program) }
     requires read { IsRead reading.old }
     requires known { IsKnown (program_tree source.now.program) (name_at (program_tree source.now.program) source.now.typed.main) (flat_of reading.old) }
@@ -269,7 +263,6 @@ fn violated(
     reading: &mut Reading,
     layers: &Layers,
 ) -> Result<Verdict, StoreFault>
-    requires fits { Fits (program_tree source.now.program) source.now.typed source.now.order }
     requires plain { HasPlainNames (program_tree source.now.program) }
     requires read { IsRead reading.old }
     requires known { IsKnown (program_tree source.now.program) (name_at (program_tree source.now.program) source.now.typed.main) (flat_of reading.old) }

@@ -4,13 +4,12 @@ ghost use Rattle.std.specs.Prelude.{◌≡◌, ◌≤◌, length, Result};
 ghost use Rattle.rv_tree.specs.Tree.{program_tree};
 ghost use Rattle.rv_tree.specs.Words.{HasPlainNames};
 ghost use Rattle.rv_types.specs.Instances.{name_at};
-ghost use Rattle.rv_instances.specs.Fitting.{Fits};
 ghost use Rattle.rv_run.specs.declared.report.Report.{Report as ReportModel};
 ghost use Rattle.rv_run.specs.Loaded.{file_report, replay_report};
 ghost use Rattle.rv_run.specs.Traced.{IsTraceAnswer, IsTraceReport, IsUnlessNoMemory, SaysOfTrace};
 
 use crate::report::Report;
-use rv_flatten::flatten;
+use rv_flatten::{fitting_sources, flatten};
 use rv_instances::Source;
 use rv_invfile::{FileFault, fitting_traces, one_trace_rule, read_trace, told_systems};
 use rv_replay::{ReplayFault, Replayed, flat_traces, replay};
@@ -23,7 +22,6 @@ pub const FILE_LIMIT: usize = 67_108_864;
 /// The report on the bytes of a trace over an accepted source, in whose text names are letters, digits and `_`. BadFile where they
 /// are the document of no trace of its program, with the first fault. Otherwise what the trace does, as `replay` answers it.
 pub fn report_on_trace(alloc: Global, source: &Source, document: &[u8]) -> Report
-    requires fits { Fits (program_tree source.now.program) source.now.typed source.now.order }
     requires plain { HasPlainNames (program_tree source.now.program) }
     requires short { length document.now ≤ FILE_LIMIT }
     ensures says { (report : ReportModel) → IsTraceReport report → result ≡ report
@@ -33,6 +31,7 @@ pub fn report_on_trace(alloc: Global, source: &Source, document: &[u8]) -> Repor
         → SaysOfTrace report document.now (program_tree source.now.program) (name_at (program_tree source.now.program) source.now.typed.main)
         → IsUnlessNoMemory report result }
 {
+    fitting_sources();
     well_formed_programs();
     told_systems();
     fitting_traces();

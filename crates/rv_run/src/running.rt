@@ -34,7 +34,6 @@ ghost use Rattle.rv_proofs.specs.declared.verdict.Reason.{Reason as ReasonModel}
 ghost use Rattle.rv_tree.specs.Tree.{program_tree};
 ghost use Rattle.rv_tree.specs.Words.{HasPlainNames};
 ghost use Rattle.rv_types.specs.Instances.{name_at};
-ghost use Rattle.rv_instances.specs.Fitting.{Fits};
 ghost use Rattle.rv_falsify.specs.Falsifying.{IsFalsifying};
 ghost use Rattle.rv_source.specs.declared.fault.SourceFault.{SourceFault};
 
@@ -114,7 +113,6 @@ fn report_on_bytes(
     task: Task,
 ) -> Report
     requires limit { nodes ≤ 33554432 }
-    requires fits { Fits (program_tree source.now.program) source.now.typed source.now.order }
     requires plain { HasPlainNames (program_tree source.now.program) }
     requires short { length document.now ≤ FILE_LIMIT }
     ensures says { (report : ReportModel) → IsReportOf task report → result ≡ report

@@ -19,11 +19,12 @@ trace_with-requires-clause-some c =
     let shape = rw c.in-Some.is at c.in_ok-candidate.ensures.shape in
     shape.some
 
-pub confirmed-requires-clause-flat : goal.confirmed-requires-clause-flat
-confirmed-requires-clause-flat c =
-    let p = program_tree c.args.source.now.program in
-    subst (IsFlatOf p (name_at p c.args.source.now.typed.main)) (sym (c.flat-flat.ensures ∙ ap (λ (r : Reading). flat_of r) c.candidate.ensures.same))
-    c.requires.flat
+pub confirmed-requires : goal.confirmed-requires
+confirmed-requires c =
+    let p = program_tree c.args.source.now.program in record {
+      flat = subst (IsFlatOf p (name_at p c.args.source.now.typed.main))
+          (sym (c.flat-flat.ensures ∙ ap (λ (r : Reading). flat_of r) c.candidate.ensures.same)) c.requires.flat;
+    }
 
 pub returns-in_ok-found-in-Some-clause-falsifies : goal.returns-in_ok-found-in-Some-clause-falsifies
 returns-in_ok-found-in-Some-clause-falsifies c = λ t e. c.in_ok-found-in-Some.ensures.falsifies t (cc)

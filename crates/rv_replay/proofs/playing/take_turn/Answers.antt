@@ -15,7 +15,6 @@ returns-in-Ok-clause-turn c =
     c.turn_of.ensures f now inputs is
     (has_truth c.typed_instants.ensures.flows c.flat_states.ensures.states c.flat_states.ensures.inputs of.0 of.1 f of.2 now inputs row c.requires.state
     c.requires.inputs is.instant)
-    (c.typed_steps.ensures of.0 of.1 f now inputs row of.2.well of.2.named of.2.flat c.requires.state c.requires.inputs is.instant)
 
 pub returns-in-Err-Outgrown-clause-fault : goal.returns-in-Err-Outgrown-clause-fault
 returns-in-Err-Outgrown-clause-fault c =

@@ -13,7 +13,7 @@ play-requires-clause-program c =
     let p = program_tree s.program in (
       p,
       name_at p s.typed.main,
-      observed p s.typed s.order c.requires.fits (λ m text settled. c.well_formed_programs.ensures p m s.typed text settled)
+      observed p s.typed s.order (c.fitting_sources.ensures s) (λ m text settled. c.well_formed_programs.ensures p m s.typed text settled)
           c.args.flat.now c.requires.flat,
     )
 
@@ -21,7 +21,7 @@ pub play-requires-clause-trace : goal.play-requires-clause-trace
 play-requires-clause-trace c =
     let s = c.args.source.now in
     let p = program_tree s.program in
-    let of = observed p s.typed s.order c.requires.fits (λ m text settled. c.well_formed_programs.ensures p m s.typed text settled) c.args.flat.now
+    let of = observed p s.typed s.order (c.fitting_sources.ensures s) (λ m text settled. c.well_formed_programs.ensures p m s.typed text settled) c.args.flat.now
     c.requires.flat in
     flat_trace p (name_at p s.typed.main) c.args.trace.now c.requires.trace c.flat_states.ensures.back c.flat_states.ensures.given c.args.flat.now of.well
     of.named of.flat
@@ -50,7 +50,7 @@ said : (c : goal.After-play) (a : Result Replayed ReplayFault) → (a ≡ Err Me
 said c =
     let s = c.args.source.now in
     let p = program_tree s.program in
-    says (laws c) p s.typed s.order c.requires.fits (λ m text settled. c.well_formed_programs.ensures p m s.typed text settled) c.args.flat.now
+    says (laws c) p s.typed s.order (c.fitting_sources.ensures s) (λ m text settled. c.well_formed_programs.ensures p m s.typed text settled) c.args.flat.now
     c.requires.flat c.args.trace.now c.requires.trace c.play.result c.play.ensures
 
 -- and the answer where that is so of the trace
@@ -61,7 +61,7 @@ told : (c : goal.After-play) (a : Result Replayed ReplayFault)
 told c =
     let s = c.args.source.now in
     let p = program_tree s.program in
-    tells (laws c) p s.typed s.order c.requires.fits (λ m text settled. c.well_formed_programs.ensures p m s.typed text settled) c.args.flat.now
+    tells (laws c) p s.typed s.order (c.fitting_sources.ensures s) (λ m text settled. c.well_formed_programs.ensures p m s.typed text settled) c.args.flat.now
     c.requires.flat c.args.trace.now c.requires.trace c.play.result c.play.ensures
 
 pub returns-clause-falsified : goal.returns-clause-falsified

@@ -12,7 +12,7 @@ pub accepted-requires-clause-program : goal.accepted-requires-clause-program
 accepted-requires-clause-program c =
     let s = c.args.source.now in
     let p = program_tree s.program in
-    let fits = c.requires.fits in (
+    let fits = c.fitting_sources.ensures s in (
       p,
       name_at p s.typed.main,
       well p s.typed s.order fits (λ m text settled. c.well_formed_programs.ensures p m s.typed text settled),
@@ -31,11 +31,12 @@ accepted-requires-clause-free c =
 pub returns-in-Ok-read_certificate-clause-says : goal.returns-in-Ok-read_certificate-clause-says
 returns-in-Ok-read_certificate-clause-says c = λ x answer e.
     let s = c.args.source.now in
+    let fits = c.fitting_sources.ensures s in
     let p = program_tree s.program in
     let well_formed : (m : Identifier) → IsSourceTree p → IsSettled p m s.typed
     → AreWell p = λ m text settled. c.well_formed_programs.ensures p m s.typed text settled in
-    let is_well = well p s.typed s.order c.requires.fits well_formed in
-    let named = is_node p s.typed s.order c.requires.fits well_formed in
+    let is_well = well p s.typed s.order fits well_formed in
+    let named = is_node p s.typed s.order fits well_formed in
     verdict_says c.args.nodes c.args.document.now p (name_at p s.typed.main) c.in-Ok.flat c.in-Ok.ensures.flat
     (λ f g first second. c.alike_systems.ensures p (name_at p s.typed.main) f g is_well named first second)
     (λ f g first second. c.alike_documents.ensures.certificate_rules p (name_at p s.typed.main) f g is_well named first second)
@@ -47,7 +48,7 @@ returns-in-Ok-read_certificate-clause-safe c = λ e.
     let s = c.args.source.now in
     let p = program_tree s.program in
     let main = name_at p s.typed.main in
-    let fits = c.requires.fits in
+    let fits = c.fitting_sources.ensures s in
     let f = c.in-Ok.flat in
     verdict_safe c.args.nodes f c.in-Ok-read_certificate.certificate c.accepted.result c.accepted.ensures.exact (sym c.on_accepted.ensures ∙ e)
     c.certificates_are_safe.ensures.safe
@@ -66,11 +67,12 @@ returns-in-Ok-read_certificate-clause-only c = subst (IsAnswerOf Check) (sym c.o
 pub returns-in-Ok-read_certificate-clause-only_says : goal.returns-in-Ok-read_certificate-clause-only_says
 returns-in-Ok-read_certificate-clause-only_says c = λ x h.
     let s = c.args.source.now in
+    let fits = c.fitting_sources.ensures s in
     let p = program_tree s.program in
     let well_formed : (m : Identifier) → IsSourceTree p → IsSettled p m s.typed
     → AreWell p = λ m text settled. c.well_formed_programs.ensures p m s.typed text settled in
-    let is_well = well p s.typed s.order c.requires.fits well_formed in
-    let named = is_node p s.typed s.order c.requires.fits well_formed in
+    let is_well = well p s.typed s.order fits well_formed in
+    let named = is_node p s.typed s.order fits well_formed in
     subst (λ (y : Report). IsUnlessLimit Check x y) (sym c.on_accepted.ensures)
     (verdict_tells c.args.nodes c.args.document.now p (name_at p s.typed.main) c.in-Ok.flat c.in-Ok.ensures.flat
     (λ f g first second. c.alike_systems.ensures p (name_at p s.typed.main) f g is_well named first second)
@@ -82,11 +84,12 @@ returns-in-Ok-read_certificate-clause-only_says c = λ x h.
 pub returns-clause-says : goal.returns-clause-says
 returns-clause-says c = λ x answer e.
     let s = c.args.source.now in
+    let fits = c.fitting_sources.ensures s in
     let p = program_tree s.program in
     let well_formed : (m : Identifier) → IsSourceTree p → IsSettled p m s.typed
     → AreWell p = λ m text settled. c.well_formed_programs.ensures p m s.typed text settled in
-    let is_well = well p s.typed s.order c.requires.fits well_formed in
-    let named = is_node p s.typed s.order c.requires.fits well_formed in
+    let is_well = well p s.typed s.order fits well_formed in
+    let named = is_node p s.typed s.order fits well_formed in
     bad_says c.args.nodes c.args.document.now p (name_at p s.typed.main) c.in-Ok.flat c.in-Ok.ensures.flat
     (λ f g first second. c.alike_systems.ensures p (name_at p s.typed.main) f g is_well named first second)
     (λ f g first second. c.alike_documents.ensures.certificate_rules p (name_at p s.typed.main) f g is_well named first second) c.in-Err.fault
@@ -104,11 +107,12 @@ returns-clause-only c = subst (IsAnswerOf Check) (sym c.on_fault.ensures) (fault
 pub returns-clause-only_says : goal.returns-clause-only_says
 returns-clause-only_says c = λ x h.
     let s = c.args.source.now in
+    let fits = c.fitting_sources.ensures s in
     let p = program_tree s.program in
     let well_formed : (m : Identifier) → IsSourceTree p → IsSettled p m s.typed
     → AreWell p = λ m text settled. c.well_formed_programs.ensures p m s.typed text settled in
-    let is_well = well p s.typed s.order c.requires.fits well_formed in
-    let named = is_node p s.typed s.order c.requires.fits well_formed in
+    let is_well = well p s.typed s.order fits well_formed in
+    let named = is_node p s.typed s.order fits well_formed in
     subst (λ (y : Report). IsUnlessLimit Check x y) (sym c.on_fault.ensures)
     (bad_tells c.args.nodes c.args.document.now p (name_at p s.typed.main) c.in-Ok.flat c.in-Ok.ensures.flat
     (λ f g first second. c.alike_systems.ensures p (name_at p s.typed.main) f g is_well named first second)

@@ -7,12 +7,13 @@ use Rattle.rv_run.proofs.judge.judge.Goals as goal
 pub decided-requires-clause-known : goal.decided-requires-clause-known
 decided-requires-clause-known c =
     let s = c.args.source.now in
+    let fits = c.fitting_sources.ensures s in
     let p = program_tree s.program in
     let main = name_at p s.typed.main in
     let well_formed : (m : Identifier) → IsSourceTree p → IsSettled p m s.typed
     → AreWell p = λ m text settled. c.well_formed_programs.ensures p m s.typed text settled in
-    let is_well = well p s.typed s.order c.requires.fits well_formed in
-    let named = is_node p s.typed s.order c.requires.fits well_formed in
+    let is_well = well p s.typed s.order fits well_formed in
+    let named = is_node p s.typed s.order fits well_formed in
     let flat = c.in_ok-flat.ensures.flat in
     record {
       well = is_well;
@@ -24,12 +25,13 @@ decided-requires-clause-known c =
 pub probed-requires-clause-known : goal.probed-requires-clause-known
 probed-requires-clause-known c =
     let s = c.args.source.now in
+    let fits = c.fitting_sources.ensures s in
     let p = program_tree s.program in
     let main = name_at p s.typed.main in
     let well_formed : (m : Identifier) → IsSourceTree p → IsSettled p m s.typed
     → AreWell p = λ m text settled. c.well_formed_programs.ensures p m s.typed text settled in
-    let is_well = well p s.typed s.order c.requires.fits well_formed in
-    let named = is_node p s.typed s.order c.requires.fits well_formed in
+    let is_well = well p s.typed s.order fits well_formed in
+    let named = is_node p s.typed s.order fits well_formed in
     let flat = c.in_ok-flat.ensures.flat in
     record {
       well = is_well;
@@ -63,7 +65,7 @@ pub returns-clause-wide : goal.returns-clause-wide
 returns-clause-wide c = λ nodes.
     let s = c.args.source.now in
     let p = program_tree s.program in
-    wide p s.typed s.order c.requires.fits (λ m text settled. c.well_formed_programs.ensures p m s.typed text settled) c.args.nodes c.in_ok-flat.flat
+    wide p s.typed s.order (c.fitting_sources.ensures s) (λ m text settled. c.well_formed_programs.ensures p m s.typed text settled) c.args.nodes c.in_ok-flat.flat
     c.in_ok-flat.ensures.flat (c.decided.ensures.wide nodes)
 
 pub returns-clause-unprobed : goal.returns-clause-unprobed

@@ -7,9 +7,10 @@ use Rattle.rv_run.proofs.judge.safe.Goals as goal
 pub write_certificate-requires-clause-told : goal.write_certificate-requires-clause-told
 write_certificate-requires-clause-told c =
     let s = c.args.source.now in
+    let fits = c.fitting_sources.ensures s in
     let p = program_tree s.program in
     let main = name_at p s.typed.main in
-    c.told_systems.ensures p main c.requires.fits.settled.0 s.typed c.args.flat.now c.requires.fits.tree c.requires.plain c.requires.fits.settled.1
+    c.told_systems.ensures p main fits.settled.0 s.typed c.args.flat.now fits.tree c.requires.plain fits.settled.1
     c.requires.known.named c.requires.known.flat
     (omega (arith, c.len-count.type_inv, c.len-count.ensures))
 

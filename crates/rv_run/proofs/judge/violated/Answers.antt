@@ -15,7 +15,6 @@ none_of (Some t) h = absurd (h t refl)
 pub find-requires : goal.find-requires
 find-requires c = record {
   read = c.requires.read;
-  fits = c.requires.fits;
   flat = c.requires.known.flat;
   sets = λ t set is. (c.requires.bad.layers.each t set is).control;
 }

@@ -7,9 +7,10 @@ use Rattle.rv_run.proofs.judge.with_trace.Goals as goal
 pub write_trace-requires-clause-told : goal.write_trace-requires-clause-told
 write_trace-requires-clause-told c =
     let s = c.args.source.now in
+    let fits = c.fitting_sources.ensures s in
     let p = program_tree s.program in
-    c.told_systems.ensures p (name_at p s.typed.main) c.requires.fits.settled.0 s.typed c.args.flat.now c.requires.fits.tree c.requires.plain
-    c.requires.fits.settled.1 c.requires.known.named c.requires.known.flat
+    c.told_systems.ensures p (name_at p s.typed.main) fits.settled.0 s.typed c.args.flat.now fits.tree c.requires.plain
+    fits.settled.1 c.requires.known.named c.requires.known.flat
     (omega (arith, c.len-count.type_inv, c.len-count.ensures))
 
 pub write_trace-requires-clause-fits : goal.write_trace-requires-clause-fits

@@ -16,9 +16,6 @@ use Rattle.rv_run.proofs.prove.report_on_source.Goals as goal
 pub read_source-requires : goal.read_source-requires
 read_source-requires c = c.requires.short
 
-pub judge-requires-clause-fits : goal.judge-requires-clause-fits
-judge-requires-clause-fits c = c.in-Ok.ensures.found.fits
-
 pub judge-requires-clause-limit : goal.judge-requires-clause-limit
 judge-requires-clause-limit c = c.requires.limit
 

@@ -10,23 +10,24 @@ pub read_trace-requires-clause-told : goal.read_trace-requires-clause-told
 read_trace-requires-clause-told c =
     let s = c.args.source.now in
     let p = program_tree s.program in
-    let fits = c.requires.fits in
+    let fits = c.fitting_sources.ensures s in
     let flat = c.in-Ok.ensures.flat in
     c.told_systems.ensures p (name_at p s.typed.main) fits.settled.0 s.typed c.in-Ok.flat fits.tree c.requires.plain fits.settled.1
     (is_node p s.typed s.order fits (λ m text settled. c.well_formed_programs.ensures p m s.typed text settled)) flat
     (few_memories p s.typed s.order c.in-Ok.flat fits flat)
 
-pub replay-requires-clause-trace : goal.replay-requires-clause-trace
-replay-requires-clause-trace c =
+pub replay-requires : goal.replay-requires
+replay-requires c =
     let s = c.args.source.now in
     let p = program_tree s.program in
-    let fits = c.requires.fits in
+    let fits = c.fitting_sources.ensures s in
     let f = c.in-Ok.flat in
-    let t = c.in-Ok-read_trace.trace in
-    c.flat_traces.ensures.back p (name_at p s.typed.main) f t
-    (well p s.typed s.order fits (λ m text settled. c.well_formed_programs.ensures p m s.typed text settled))
-    (is_node p s.typed s.order fits (λ m text settled. c.well_formed_programs.ensures p m s.typed text settled)) c.in-Ok.ensures.flat
-    (of_document f t ((c.fitting_traces.ensures f t).0 c.in-Ok-read_trace.ensures.found.0))
+    let t = c.in-Ok-read_trace.trace in record {
+      trace = c.flat_traces.ensures.back p (name_at p s.typed.main) f t
+          (well p s.typed s.order fits (λ m text settled. c.well_formed_programs.ensures p m s.typed text settled))
+          (is_node p s.typed s.order fits (λ m text settled. c.well_formed_programs.ensures p m s.typed text settled)) c.in-Ok.ensures.flat
+          (of_document f t ((c.fitting_traces.ensures f t).0 c.in-Ok-read_trace.ensures.found.0));
+    }
 
 pub returns-in-Ok-read_trace-clause-says : goal.returns-in-Ok-read_trace-clause-says
 returns-in-Ok-read_trace-clause-says c = λ x answer e.

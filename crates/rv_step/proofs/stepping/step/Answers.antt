@@ -30,7 +30,8 @@ returns-clause-stepped c =
       broken = subst (IsLeastOf (IsFlatBroken f now inputs row)) (sym c.in_ok-broken.ensures)
           (broken_places f now inputs row (option_copied c.broken_place.result) c.broken_place.ensures);
       within = grown_places f now inputs row c.requires.state kept c.in_ok-kept.ensures.kept None c.in_default.ensures;
-      state = next_state f now inputs row c.requires.state kept c.in_ok-kept.ensures.kept c.in_ok-ticked.ticked c.in_ok-ticked.ensures c.in_default.ensures;
+      state = next_state f now inputs row c.requires.state kept c.in_ok-kept.ensures.kept c.in_ok-ticked.ticked c.in_ok-ticked.ensures c.in_default.ensures
+          (are_taken f now inputs row c.requires.state c.requires.inputs c.in_ok-values.ensures.instant);
     }
 
 pub returns-clause-next_state : goal.returns-clause-next_state
