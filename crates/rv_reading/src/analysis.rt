@@ -1,6 +1,6 @@
 //! What is proved of a system that no box claim decides.
 
-ghost use Rattle.std.specs.Prelude.{◌≡◌, ◌<◌, ◌^◌, ℤ, List, [], IfOk, IsErrOf};
+ghost use Rattle.std.specs.Prelude.{◌≡◌, ◌<◌, ◌^◌, ℤ, List, [], IfOk, IfSome, IsErrOf};
 ghost use Rattle.rv_proofs.specs.Systems.{System};
 ghost use Rattle.rv_proofs.specs.Accepted.{IsAccepted};
 ghost use Rattle.rv_proofs.specs.Left.{IsLeftPartition};
@@ -8,6 +8,7 @@ ghost use Rattle.rv_proofs.specs.RowClaims.{HasGoodRows, IsLeastRowClosed};
 ghost use Rattle.rv_symbolic.specs.Represented.{IsRelationOf};
 ghost use Rattle.rv_walk.specs.Plain.{ArePlain};
 ghost use Rattle.rv_claims.specs.Claiming.{claim_of, IsKeptClaim};
+ghost use Rattle.rv_widen.specs.Given.{IsGiven as IsGivenToWiden};
 ghost use Rattle.rv_reading.specs.Analysing.{HasStarts, IsGiven, IsProvedOf};
 
 use rv_base::{Many, Memory};
@@ -15,7 +16,7 @@ use rv_cases::Questions;
 use rv_claimed::{Claimed, certify};
 use rv_claims::Claim;
 use rv_diagram::{Store, StoreFault};
-use rv_proofs::tighter_row_claims;
+use rv_proofs::{Certificate, tighter_row_claims};
 use rv_rise::least_closed;
 use rv_symbolic::Relation;
 use rv_widen::widened;
@@ -28,6 +29,29 @@ pub fn has_initial(store: &Store, relation: &Relation) -> Result<bool, Memory>
 {
     let found = store.pick(relation.parts().initial)?;
     Ok(found.is_some())
+}
+
+/// A certificate by forward iteration with polyhedra, or none, also where the store has no room for the iteration.
+fn widened_or_none(
+    alloc: Global,
+    store: &mut Store,
+    relation: &Relation,
+    questions: &Questions,
+    claim: &Claim,
+) -> Result<Option<Certificate>, StoreFault>
+    requires { (s : System) × (thresholds : List ℤ) × IsGivenToWiden s store.old relation.now questions.now × IsKeptClaim s thresholds claim.now }
+    ensures accepted { (s : System) (thresholds : List ℤ) → IsGivenToWiden s store.old relation.now questions.now
+        → IsKeptClaim s thresholds claim.now → IfOk result (λ o. IfSome o (IsAccepted s)) }
+    ensures plain { (s : System) (thresholds : List ℤ) → IsGivenToWiden s store.old relation.now questions.now
+        → IsKeptClaim s thresholds claim.now → IfOk result (λ o. IfSome o ArePlain) }
+    ensures same { store.new ≡ store.old }
+    ensures roomy { IsErrOf result StoreFault.Nodes → store.old.limit < 2 ^ (2 ^ store.old.variables) }
+{
+    match widened(alloc, store, relation, questions, claim) {
+        Ok(certificate) => Ok(certificate),
+        Err(StoreFault::Nodes) => Ok(None),
+        Err(StoreFault::Memory) => Err(StoreFault::Memory),
+    }
 }
 
 /// What is proved of the least closed row claim, with rows that hold besides where it is not good.
@@ -50,7 +74,7 @@ fn judged(
     if claimed.left.is_empty() {
         return Ok(claimed);
     }
-    match widened(alloc, store, relation, questions, claim)? {
+    match widened_or_none(alloc, store, relation, questions, claim)? {
         Some(certificate) => Ok(Claimed {
             certificate,
             left: Many::new(alloc),

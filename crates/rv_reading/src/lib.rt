@@ -3,11 +3,12 @@
 //! It promises that the references of a `Reading` mean the system of its flat system (`IsRead`), and of each call what it says of
 //! that system: cases, images, preimages, initial states, the walk through the layers, the box pass, the analysis by row claims and polyhedra
 //! (analysis.rt), candidates for traces. It stands on `rv_bits` for the way of a flat system into a store, on `rv_symbolic` for systems in a
-//! store, on `rv_walk`, `rv_boxes`, `rv_open`, `rv_rise`, `rv_claimed`, `rv_widen`, `rv_paths` and `rv_accept` for what is decided of any such system,
-//! and on `rv_control` for what the system of a flat system is. Begin with reading.rt and specs/Read.antt.
+//! store, on `rv_walk`, `rv_least`, `rv_open`, `rv_rise`, `rv_claimed`, `rv_widen`, `rv_paths` and `rv_accept` for what is decided of any such
+//! system, and on `rv_control` for what the system of a flat system is. Begin with reading.rt and specs/Read.antt.
 #![tactic(auto)]
 
 mod analysis;
+mod candidates;
 mod reading;
 
 pub use reading::Reading;

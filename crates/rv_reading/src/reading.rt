@@ -35,17 +35,18 @@ ghost use Rattle.rv_reading.specs.Lending.{LendsStore};
 ghost use Rattle.rv_reading.specs.Read.{flat_of, system_read, diagrams_of, IsRead};
 
 use crate::analysis::{analysed, has_initial};
+use crate::candidates::candidate_or_none;
 use rv_accept::accept;
 use rv_base::Many;
 use rv_bits::{Around, ReadSystem, read_system};
-use rv_boxes::box_pass;
 use rv_cases::{Questions, cases};
 use rv_claimed::Claimed;
 use rv_control::{computed_instants, control_is_a_system};
 use rv_diagram::{Frozen, Store, StoreFault};
 use rv_flat::Flat;
+use rv_least::box_pass;
 use rv_open::open_path;
-use rv_paths::{Candidate, candidate};
+use rv_paths::Candidate;
 use rv_proofs::{Case, Certificate, Layers, Verdict};
 use rv_symbolic::{Parts, Relation, relation_stays};
 use rv_tested::ask_system;
@@ -258,8 +259,8 @@ impl<'a> Reading<'a> {
     /// A candidate for a trace that falsifies the program of the flat system: a word for each instant, with a truth value for each variable of the
     /// flat system, a start value for each integer memory, and a number for each integer input at each instant, all of them numbers that a trace
     /// may have. That it falsifies is for its replay to show, and None promises nothing. Layers are sets of control states, in which the path
-    /// stays after its first instant. The reading is left as it was. `Nodes` comes where the diagrams outgrow their limit, `Memory` where memory
-    /// runs out.
+    /// stays after its first instant. None comes too where the diagrams outgrow their limit on the way. The reading is left as it was. `Memory` comes
+    /// where memory runs out.
     pub fn candidate(
         &mut self,
         alloc: Global,
@@ -273,7 +274,7 @@ impl<'a> Reading<'a> {
         ensures roomy { IsErrOf result StoreFault.Nodes → (diagrams_of self.old).limit < 2 ^ (2 ^ (diagrams_of self.old).variables) }
     {
         let columns = self.flat.columns.len();
-        candidate(
+        candidate_or_none(
             alloc,
             &mut self.store,
             &self.relation,

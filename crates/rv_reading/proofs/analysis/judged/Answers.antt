@@ -11,8 +11,8 @@ certify-requires c =
     let (s, thresholds, given, kept, least) = c.requires in
     (s, thresholds, claiming s c.args.store.now c.args.relation.now c.args.questions.now thresholds given, kept, least.closed, given.small)
 
-pub widened-requires : goal.widened-requires
-widened-requires c =
+pub widened_or_none-requires : goal.widened_or_none-requires
+widened_or_none-requires c =
     let (s, thresholds, given, kept, least) = c.requires in
     let there = given_there s c.args.store.now c.certify.new.store c.args.relation.now c.args.questions.now thresholds c.certify.ensures.same given in
     (s, thresholds, widening s c.certify.new.store c.args.relation.now c.args.questions.now thresholds there, kept)
