@@ -11,11 +11,12 @@ use rv_base::Many;
 use rv_diagram::{Frozen, Ref, Store, StoreFault};
 use std::alloc::Global;
 
-/// How many nodes a part of the relation may take in the making.
-const MOST_MADE: u32 = 2000;
+/// How many nodes a part of the relation may take in the making. In a product the memories that one part alone reads are quantified before the
+/// next part is met: where all parts read the same inputs, a relation in one part is much the cheaper.
+const MOST_MADE: u32 = 4000;
 
 /// How many nodes one more next copy may take in any case. In a row of links each takes some twenty at first and more as the part
-/// grows: a row of 2,000 falls into two parts.
+/// grows.
 const MOST_ADDED: u32 = 256;
 
 /// A relation in which next copy i also has the value of `next`.
