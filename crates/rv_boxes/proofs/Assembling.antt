@@ -9,7 +9,7 @@ use Rattle.rv_proofs.specs.{declared.certificate.Entry.Entry, declared.report.Ca
 use Rattle.rv_walk.specs.Ends.{has}
 use Rattle.rv_boxes.specs.{Built.AreBounds, Built.HasBounds, Built.IsBuiltEntry, Built.IsBuiltLocation, Built.IsBuilt, Rounds.IsSetting, Rounds.IsInCases}
 use Rattle.rv_boxes.specs.{Certifying.IsJudgeable, Certifying.AreEntriesOf, Certifying.IsLocationOf, Certifying.IsPart, Certifying.IsCertifiable}
-use Rattle.rv_boxes.specs.{declared.frame.Frame.Frame, declared.claim.Claim.Claim, declared.rounds.Others.Others, Claiming.claim_of, Passing.IsProof}
+use Rattle.rv_boxes.specs.{declared.frame.Frame.Frame, declared.claim.Claim.Claim, declared.claim.Others.Others, Claiming.claim_of, Passing.IsProof}
 use Rattle.rv_boxes.proofs.{Building.accepted, Building.plain, Rounding.setting_first, Rounding.setting_others, Rounding.in_a_case}
 use Rattle.rv_walk.proofs.Stages.{rest_from}
 use Rattle.rv_base.proofs.Lists.{item_at}
@@ -18,9 +18,6 @@ module _ (s : System) (c : BoxClaim) (from : Frozen) (rows wanted : List Row) (s
     (are : AreCases s from cases)
     (few : length cases < 2 ^ 32) (es : List Entry) (entries : AreEntriesOf s c from rows wanted cases (length cases) es) (l : Location)
     (is : IsLocationOf from rows es l) where
-  state_is : l.state ≡ rows
-  state_is = is.state
-
   in_from : (v : Valuation) → IsIn l.control v → IsIn from v
   in_from v i = subst (λ (f : Frozen). IsIn f v) is.control i
 

@@ -5,31 +5,14 @@ use Rattle.std.proofs.lemmas.List.Elements.{All-append, All-weaker, All-nil, All
 use Rattle.std.proofs.{lemmas.Option.slice_get_within, lemmas.Option.slice_get-get_or, lemmas.List.length-append}
 use Rattle.std.specs.Int.RustNames.{unsigned_abs}
 use Rattle.rv_diagram.specs.{Nodes.Valuation, declared.frozen.Frozen.Frozen}
-use Rattle.rv_rows.specs.{declared.linear.Row.Row, declared.linear.Form.Form, Rows.row_at, Rows.RowWithin, Forms.FormWithin}
+use Rattle.rv_rows.specs.{declared.linear.Row.Row, declared.linear.Form.Form, Rows.row_at, Rows.RowWithin}
 use Rattle.rv_proofs.specs.Systems.{System, IsSystem, IsTestRow, IsUpdate}
 use Rattle.rv_proofs.specs.{Scopes.IsIn, Implied.form_at, Samples.by_none, Boxes.BoxClaim, Boxes.HasUnit, Boxes.IsUnitAt, declared.report.Case.Case}
 use Rattle.rv_proofs.specs.{declared.certificate.Entry.Entry, declared.certificate.EntryKind.TheVariants.Dead, Cases.IsCaseOf}
 use Rattle.rv_proofs.proofs.{Tightened.tight_unit, Rooms.premise_of_test, Rooms.premise_of_kept, Claims.update_at, Claims.updates_long}
-use Rattle.rv_boxes.specs.Opening.{IsFrameOf, IsTold, HasTests, AreUpdates, AreOppositeForms}
+use Rattle.rv_boxes.specs.Opening.{IsFrameOf, IsTold, HasTests}
 use Rattle.rv_boxes.specs.{declared.frame.Frame.Frame, Boxed.ArePremises, Built.nothing, Built.IsToldCase, Built.IsUpperRow, Built.IsLowerRow, Rounds.IsSetting}
 use Rattle.rv_base.proofs.Lists.{found_or_not}
-
--- the opposites of updates can be updates
-pub opposite_updates : (width many : ℕ) (forms opposites : List Form) → AreUpdates width many forms → AreOppositeForms forms opposites
-    → All (FormWithin (2 ^ 41)) opposites → AreUpdates width many opposites
-opposite_updates width many forms opposites are o within = record {
-  size = o.size ∙ are.size;
-  widths = All-from_get_or (λ (g : Form). length g.coefficients ≤ width) opposites none (λ k l.
-      let size = o.size in
-      let inside : k < length forms = omega (arith, l, size) in
-      let same = o.widths k inside in
-      let wide = are.widths k none inside in
-      omega (arith, same, wide));
-  sizes = within;
-}
-  where
-    none : Form
-    none = record { coefficients = []; constant = pos 0 }
 
 -- what a premise is asked for
 abbrev pub IsFit : System → Row → Type 0
@@ -65,29 +48,6 @@ module _ (s : System) (is : IsSystem s) (f : Frame) (frame : IsFrameOf s f) (cas
 
   pub many_updates : length case.updates ≡ s.memories
   many_updates = ap length (sym (of.updates of.some.0 of.some.1)) ∙ updates_long s of.some.0 s.memories
-
-  pub are_updates : AreUpdates f.columns s.memories case.updates
-  are_updates = record {
-    size = many_updates;
-    widths = All-from_get_or (λ (g : Form). length g.coefficients ≤ f.columns) case.updates no_form (λ k l. (each k (omega (arith, l, many_updates))).0);
-    sizes = All-from_get_or (FormWithin (2 ^ 41)) case.updates no_form (λ k l. (each k (omega (arith, l, many_updates))).1);
-  }
-    where
-      no_form : Form
-      no_form = record { coefficients = []; constant = pos 0 }
-
-      each : (k : ℕ) → k < s.memories → (length (form_at case.updates k).coefficients ≤ f.columns) × FormWithin (2 ^ 41) (form_at case.updates k)
-      each k known =
-          let u = is.updates of.some.0 k known in
-          let e = updates_of_case of.some.0 k of.some.1 known in
-          subst (λ (g : Form). (length g.coefficients ≤ f.columns) × FormWithin (2 ^ 41) g) e (
-            omega (arith, u.wide, frame.columns),
-            (
-              All-weaker (λ (c : ℤ). unsigned_abs c ≤ 2 ^ 40) (λ (c : ℤ). unsigned_abs c ≤ 2 ^ 41)
-                  (λ c m. omega (arith, m)) (s.update of.some.0 k).coefficients u.small.0,
-              let m = u.small.1 in omega (arith, m),
-            ),
-          )
 
   pub all_updates : All (IsUpdate s) case.updates
   all_updates = All-from_get_or (IsUpdate s) case.updates (record { coefficients = []; constant = pos 0 }) (λ k l.
@@ -135,21 +95,6 @@ module _ (s : System) (is : IsSystem s) (f : Frame) (frame : IsFrameOf s f) (cas
             ⊎ (((v : Valuation) → IsIn case.condition v → s.row v t ≡ Nothing) × (row_at told t ≡ nothing)) → IsFit s (row_at told t)
         fit t known (inl same) = test_fits s (row_at told t) (is.rows of.some.0 t (row_at told t) known (same of.some.0 of.some.1))
         fit t known (inr (absent, void)) = subst (IsFit s) (sym void) (nothing_fits s)
-
--- the rows of the tests of a case are premises by themselves
-pub told_premises : (s : System) (is : IsSystem s) (f : Frame) (frame : IsFrameOf s f) (case : Case) (of : IsCaseOf s case) (told : List Row)
-    → IsTold f.tests (length case.tests) case.tests case.rows told → ArePremises f.columns told
-told_premises s is f frame case of told is_told =
-    let all : All (IsFit s) told = told_fits s is f frame case of told is_told in
-    let limits = is.limits in
-    let many = limits.tests in
-    subst (λ (n : ℕ). ArePremises n told) (sym frame.columns) (record {
-      few = omega (arith, is_told.size, frame.tests, many);
-      within = All-weaker (IsFit s) (RowWithin (2 ^ 60)) (λ r h. h.0) told all;
-      wide = λ p l. (all p nothing l).1;
-      sizes = λ p l. (all p nothing l).2;
-      units = λ p l. (all p nothing l).3;
-    })
 
 module _ (s : System) (is : IsSystem s) (f : Frame) (frame : IsFrameOf s f) (base : BoxClaim) (from : Frozen) (given : List Row)
     (setting : IsSetting s base from given) where

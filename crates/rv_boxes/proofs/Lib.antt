@@ -17,13 +17,8 @@ pub mod Rounding
 pub mod Taking
 pub mod Entering
 pub mod Narrowing
-pub mod Collecting
 pub mod Assembling
 pub mod Giving
-mod Imagining
 pub mod Reaching
-pub mod Cuts
-pub mod Knowing
-pub mod Noting
 pub mod Ending
 pub mod Relating

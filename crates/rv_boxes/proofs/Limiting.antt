@@ -1,15 +1,15 @@
--- Lists that grow along a loop: copies, rows of limits, loosened limits.
-use Rattle.std.proofs.Common.{◌≡◌, ◌≢◌, ℕ, suc, ◌+◌, ◌^◌, ◌<◌, ◌≤◌, ℤ, pos, negsuc, ◌+ℤ◌, ◌-ℤ◌, ◌*ℤ◌, ◌≤ℤ◌, ◌<ℤ◌, Bool, true, false, ◌||◌, List, [], ◌∷◌, ◌++◌}
-use Rattle.std.proofs.Common.{length, All, Option, Some, arith, refl, sym, ap, ◌∙◌, subst, ◌⊎◌, inl, inr, None as Nothing}
+-- Rows of limits, and how much room limits leave.
+use Rattle.std.proofs.Common.{◌≡◌, ◌≢◌, ℕ, suc, ◌+◌, ◌^◌, ◌<◌, ◌≤◌, ℤ, pos, negsuc, ◌-ℤ◌, ◌*ℤ◌, Bool, true, false, ◌||◌, List, [], ◌∷◌, ◌++◌}
+use Rattle.std.proofs.Common.{length, Option, Some, arith, refl, sym, ap, ◌∙◌, subst, ◌⊎◌, inl, inr, None as Nothing}
 use Rattle.std.proofs.lemmas.List.{length_push, get_or_push, get_or_append_left}
-use Rattle.std.proofs.{lemmas.Int.ints, lemmas.Bool.cases_lt, lemmas.Option.same_Some, lemmas.List.Elements.All-contains, lemmas.List.Elements.All-from_get_or}
+use Rattle.std.proofs.{lemmas.Int.ints, lemmas.Bool.cases_lt, lemmas.Option.same_Some, lemmas.List.Elements.All-from_get_or}
 use Rattle.std.specs.{Int.RustNames.unsigned_abs, Prelude.MatchBool}
-use Rattle.rv_rows.specs.Forms.{value, number, FormWithin, IsMultiple}
-use Rattle.rv_rows.specs.{declared.linear.Row.Row, declared.linear.Form.Form, Rows.row_at, Rows.dot}
+use Rattle.rv_rows.specs.Forms.{number, FormWithin, IsMultiple}
+use Rattle.rv_rows.specs.{declared.linear.Row.Row, declared.linear.Form.Form, Rows.row_at}
 use Rattle.rv_boxes.specs.Bounding.{IsLimitRow, AreLimitRows, IsNoted}
-use Rattle.rv_boxes.specs.Limits.{limit_at, IsLoosened, AreLoosened, HasChanged, room_of, room}
-use Rattle.rv_boxes.specs.{declared.peaks.Peak.Peak, Boxed.IsGreatest, Boxed.IsUnbounded, Orders.IsLeastAbove, Built.nothing}
-use Rattle.rv_proofs.specs.{Implied.form_at, Boxes.IsUnitAt}
+use Rattle.rv_boxes.specs.Limits.{limit_at, HasChanged, room_of, room}
+use Rattle.rv_boxes.specs.{Built.nothing}
+use Rattle.rv_proofs.specs.{Boxes.IsUnitAt}
 
 -- the row of one memory's limit more
 pub limit_noted : (limits : List (Option ℤ)) (memories : ℕ) (sign : ℤ) (n : ℕ) (old new : List Row) → n < memories → AreLimitRows limits memories sign n old
@@ -81,33 +81,6 @@ unfolding room
 room_push [] o = omega arith
 room_push (x ∷ os) o = omega (arith, room_push os o)
 
-closer : (a b : ℤ) → a <ℤ b → b ≤ℤ pos (2 ^ 41) → unsigned_abs (pos (2 ^ 42) -ℤ b) < unsigned_abs (pos (2 ^ 42) -ℤ a)
-closer a b l m = omega (arith, ints)
-
--- A loosened limit leaves less room, or is as before.
-pub loosened_room : (thresholds : List ℤ) (width : ℕ) (rows : List Row) (f : Form) (old new : Option ℤ) → All (λ t. unsigned_abs t ≤ 2 ^ 41) thresholds
-    → IsLoosened thresholds width rows f old new → (new ≡ old) ⊎ (room_of new < room_of old)
-loosened_room thresholds width rows f old new small (inl stayed) = inl stayed.same
-loosened_room thresholds width rows f old new small (inr (inl risen)) =
-    inr (subst (λ (o : Option ℤ). room_of new < room_of o) (sym risen.was) (of new risen.least))
-  where
-    of : (o : Option ℤ) → IsLeastAbove thresholds (value f risen.point) o → room_of o < room_of (Some risen.from)
-    of (Some b) least =
-        let (known, above, _) = least.some in
-        let m : unsigned_abs b ≤ 2 ^ 41 = All-contains (λ (t : ℤ). unsigned_abs t ≤ 2 ^ 41) thresholds b small known in
-        let l = closer risen.from b (chain risen.from (value f risen.point) b risen.past above) (below b m) in
-        omega (arith, l, room_some b, room_some risen.from)
-      where
-        chain : (a x b : ℤ) → a <ℤ x → x ≤ℤ b → a <ℤ b
-        chain a x b l m = omega (arith, ints)
-
-        below : (b : ℤ) → unsigned_abs b ≤ 2 ^ 41 → b ≤ℤ pos (2 ^ 41)
-        below b m = omega (arith, ints)
-    of Nothing least = omega (arith, room_nothing, room_some risen.from)
-loosened_room thresholds width rows f old new small (inr (inr gone)) =
-    inr (subst (λ (o : Option ℤ). room_of new < room_of o) (sym gone.was) (subst (λ (o : Option ℤ). room_of o < room_of (Some gone.from)) (sym gone.gone)
-    (omega (arith, room_nothing, room_some gone.from))))
-
 pub changed_le : (b : Bool) (old new : List (Option ℤ)) → HasChanged b old new → room new ≤ room old
 changed_le true old new h = omega (arith, h)
 changed_le false old new h = let e : room new ≡ room old = ap room h in omega (arith, e)
@@ -120,68 +93,6 @@ changed_more true b olds news old new h (inr l) t u = omega (arith, h, l, room_p
 changed_more false true olds news old new h (inl e) t u = absurd (t refl e)
 changed_more false true olds news old new h (inr l) t u = omega (arith, ap room h, l, room_push olds old, room_push news new)
 changed_more false false olds news old new h s t u = ap (λ (os : List (Option ℤ)). os ++ new ∷ []) h ∙ ap (λ (o : Option ℤ). olds ++ o ∷ []) (u refl)
-
-pub loosened_more : (thresholds : List ℤ) (width : ℕ) (rows : List Row) (forms : List Form) (n : ℕ) (old news : List (Option ℤ)) (o new : Option ℤ) (f : Form)
-    → AreLoosened thresholds width rows forms n old news → limit_at old n ≡ o → form_at forms n ≡ f → IsLoosened thresholds width rows f o new
-    → AreLoosened thresholds width rows forms (n + 1) old (news ++ new ∷ [])
-loosened_more thresholds width rows forms n old news o new f are is is_form here = record {
-  size = let s = are.size in omega (arith, s, length_push news new);
-  each = λ k l. go k l (cases_lt k n);
-}
-  where
-    go : (k : ℕ) → k < n + 1 → (k < n) ⊎ (n ≤ k) → IsLoosened thresholds width rows (form_at forms k) (limit_at old k) (limit_at (news ++ new ∷ []) k)
-    go k l (inl m) =
-        let s = are.size in
-        subst (IsLoosened thresholds width rows (form_at forms k) (limit_at old k))
-        (sym (get_or_append_left news (new ∷ []) Nothing k (omega (arith, m, s)))) (are.each k m)
-    go k l (inr m) =
-        let e : k ≡ n = omega (arith, l, m) in
-        let s = are.size in
-        subst (λ (x : Option ℤ). IsLoosened thresholds width rows (form_at forms k) (limit_at old k) x) (sym (get_or_push news new Nothing k (s ∙ sym e)))
-        (subst (λ (x : Option ℤ). IsLoosened thresholds width rows (form_at forms k) x new) (sym (ap (limit_at old) e ∙ is))
-        (subst (λ (g : Form). IsLoosened thresholds width rows g o new) (sym (ap (form_at forms) e ∙ is_form)) here))
-
--- a limit and the greatest value of a form
-pub limit_risen : (thresholds : List ℤ) (width : ℕ) (rows : List Row) (f : Form) (limit : ℤ) (g : Peak) → IsGreatest width rows f.coefficients g
-    → (v : ℤ) → v ≡ g.bound +ℤ f.constant → (new : Option ℤ) → ((v ≤ℤ limit) × (new ≡ Some limit)) ⊎ ((limit <ℤ v) × IsLeastAbove thresholds v new)
-    → IsLoosened thresholds width rows f (Some limit) new
-limit_risen thresholds width rows f limit g great v is new (inl (low, same)) = inl (record {
-  same = same;
-  held = λ b e point boxed. chain (dot f.coefficients point) f.constant g.bound v limit b is (great.most point boxed) low (same_Some limit b e);
-})
-  where
-    chain : (d k g v l b : ℤ) → v ≡ g +ℤ k → d ≤ℤ g → v ≤ℤ l → l ≡ b → (d +ℤ k) ≤ℤ b
-    chain d k g v l b e m n q = omega (arith, ints)
-limit_risen thresholds width rows f limit g great v is new (inr (past, least)) =
-    let (point, boxed, at) = great.reached in
-    let worth : v ≡ value f point = total (dot f.coefficients point) f.constant g.bound v is at in
-    inr (inl (record {
-      from = limit;
-      was = refl;
-      point = point;
-      boxed = boxed;
-      past = subst (λ (z : ℤ). limit <ℤ z) worth past;
-      most = λ other inside. highest (dot f.coefficients other) f.constant g.bound (dot f.coefficients point) (great.most other inside) at;
-      least = subst (λ (z : ℤ). IsLeastAbove thresholds z new) worth least;
-    }))
-  where
-    total : (d k g v : ℤ) → v ≡ g +ℤ k → d ≡ g → v ≡ d +ℤ k
-    total d k g v e q = omega (arith, ints)
-
-    highest : (e k g d : ℤ) → e ≤ℤ g → d ≡ g → (e +ℤ k) ≤ℤ (d +ℤ k)
-    highest e k g d l q = omega (arith, ints)
-
-pub limit_gone : (thresholds : List ℤ) (width : ℕ) (rows : List Row) (f : Form) (limit : ℤ) → IsUnbounded width rows f.coefficients
-    → IsLoosened thresholds width rows f (Some limit) Nothing
-limit_gone thresholds width rows f limit free = inr (inr (record {
-  from = limit;
-  was = refl;
-  gone = refl;
-  far = λ z. let (point, boxed, m) = free (z -ℤ f.constant) in (point, boxed, above z f.constant (dot f.coefficients point) m);
-}))
-  where
-    above : (z k d : ℤ) → (z -ℤ k) ≤ℤ d → z ≤ℤ (d +ℤ k)
-    above z k d m = omega (arith, ints)
 
 -- the opposite of a form is within the same numbers
 pub multiple_within : (f g : Form) → IsMultiple (negsuc 0) f g → FormWithin (2 ^ 41) f → FormWithin (2 ^ 41) g

@@ -1,11 +1,11 @@
 -- Lists of multipliers and of entries that grow along a loop.
 use Rattle.std.proofs.Common.{◌≡◌, ℕ, ◌+◌, List, [], ◌∷◌, ◌++◌, length, Some, slice_get, arith, sym, ap, ◌∙◌, subst, ◌⊎◌, inl, inr}
-use Rattle.std.proofs.lemmas.Option.{same_Some, slice_get_within, slice_get-get_or, get_or_from_slice_get}
-use Rattle.std.proofs.lemmas.List.{length_push, get_or_append_left}
+use Rattle.std.proofs.lemmas.Option.{same_Some, slice_get_within}
+use Rattle.std.proofs.lemmas.List.{length_push}
 use Rattle.rv_diagram.specs.declared.frozen.Frozen.{Frozen}
 use Rattle.rv_rows.specs.{declared.linear.Row.Row, declared.linear.Form.Form, declared.farkas.Multipliers.Multipliers}
 use Rattle.rv_proofs.specs.{Systems.System, Boxes.BoxClaim, declared.certificate.Entry.Entry, declared.report.Case.Case}
-use Rattle.rv_boxes.specs.{Built.IsReached, Certifying.AreReached, Certifying.AreCasesIn, Certifying.IsEntryOf, Certifying.AreEntriesOf}
+use Rattle.rv_boxes.specs.{Built.IsReached, Certifying.AreReached, Certifying.IsEntryOf, Certifying.AreEntriesOf}
 use Rattle.rv_base.proofs.Lists.{push_cases}
 
 pub reached_more : (width : ℕ) (premises : List Row) (forms : List Form) (wanted : List Row) (n : ℕ) (reach : List Multipliers) (m : Multipliers) (r : Row)
@@ -44,9 +44,3 @@ module _ (s : System) (c : BoxClaim) (from : Frozen) (given wanted : List Row) w
       go j y z (inr (q, same)) (inl z_at) = let n = are.size in let l = slice_get_within es j z z_at in absurd (omega (arith, n, l, q))
       go j y z (inr (q, same)) (inr (p, also)) = subst (λ (u : Case). IsEntryOf s c from given wanted u z) same
           (subst (λ (u : Entry). IsEntryOf s c from given wanted x u) also here)
-
-  pub cases_front : (cases : List Case) (x : Case) → AreCasesIn s from (cases ++ x ∷ []) → AreCasesIn s from cases
-  cases_front cases x are j y at =
-      let l = slice_get_within cases j y at in
-      are j y (slice_get-get_or (cases ++ x ∷ []) j y (omega (arith, l, length_push cases x))
-      ∙ ap Some (get_or_append_left cases (x ∷ []) y j l ∙ get_or_from_slice_get cases j y y at))

@@ -1,11 +1,9 @@
 -- The relation of the valuations that a claim takes.
 use Rattle.std.proofs.Common.{◌≡◌, ℕ, List, refl, sym, ap, ◌∙◌, subst}
-use Rattle.rv_diagram.specs.{Nodes.Diagrams, Nodes.IsRef, Nodes.value_of, declared.frozen.Frozen.Frozen}
-use Rattle.rv_diagram.specs.Growing.{Extends}
-use Rattle.rv_proofs.specs.{Systems.System, Boxes.BoxClaim}
+use Rattle.rv_diagram.specs.{Nodes.Diagrams, Nodes.IsRef, Nodes.value_of}
+use Rattle.rv_proofs.specs.{Systems.System}
 use Rattle.rv_symbolic.specs.{declared.relation.Parts.Parts, Represented.HaveRefs, Represented.AreParts}
-use Rattle.rv_boxes.specs.{Narrowed.narrowed, Layering.IsOpening, Layering.ArePartsWith, declared.frame.Frame.Frame}
-use Rattle.rv_rows.specs.declared.linear.Row.{Row}
+use Rattle.rv_boxes.specs.{Narrowed.narrowed, Layering.ArePartsWith}
 
 parts_same : (a b : Parts) → a.allowed ≡ b.allowed → a.observer ≡ b.observer → a.initial ≡ b.initial → a.next ≡ b.next → a ≡ b
 parts_same a b e f g h =
@@ -39,8 +37,3 @@ parts_narrowed s d p q taken parts w = subst (AreParts (narrowed s (value_of d.n
   initial = parts.initial;
   next = parts.next;
 })
-
--- what is opened in a store is so in a longer one
-pub opening_there : (s : System) (old new : Diagrams) (f : Frame) (c : BoxClaim) (from : Frozen) (given : List Row) → Extends old new
-    → IsOpening s old f c from given → IsOpening s new f c from given
-opening_there s old new f c from given e o = record { system = o.system; frame = o.frame; variables = e.variables ∙ o.variables; setting = o.setting }

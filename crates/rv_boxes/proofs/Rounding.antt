@@ -1,4 +1,4 @@
--- Rounds, and the claim at which they end.
+-- The rows of a claim's bounds, its cases, and the claim that a pass begins with.
 use Rattle.std.proofs.Common.{◌≡◌, ◌≢◌, ℕ, ◌+◌, ◌-◌, ◌*◌, ◌^◌, ◌<◌, ◌≤◌, ℤ, pos, negsuc, ◌-ℤ◌, ◌*ℤ◌, ◌≤ℤ◌, ◌<ℤ◌, Bool, true, false, cond, List, [], length}
 use Rattle.std.proofs.Common.{get_or, All, Option, Some, IsTrue, arith, lit≤, refl, sym, ap, ◌∙◌, subst, ◌⊎◌, inl, inr, None as Nothing}
 use Rattle.std.proofs.lemmas.Option.{same_Some, none-some, slice_get_within, get_or_from_slice_get}
@@ -9,14 +9,14 @@ use Rattle.std.specs.{List.Contains, Int.RustNames.unsigned_abs}
 use Rattle.rv_diagram.specs.{Nodes.Valuation, declared.frozen.Frozen.Frozen}
 use Rattle.rv_rows.specs.{declared.linear.Row.Row, Rows.coefficient, Rows.row_at, Forms.number, Tight.Fits}
 use Rattle.rv_proofs.specs.{Systems.System, Systems.IsSystem, Systems.HasSameState, Scopes.IsIn, Ranges.AreKept, Boxes.BoxClaim, Boxes.IsBoxClaim}
-use Rattle.rv_proofs.specs.{Boxes.IsInBox, Boxes.IsTaken, Boxes.IsClosed, Boxes.IsUnitAt, Cases.AreCases, Cases.IsInitialSet, declared.report.Case.Case}
+use Rattle.rv_proofs.specs.{Boxes.IsTaken, Boxes.IsUnitAt, Cases.AreCases, Cases.IsInitialSet, declared.report.Case.Case}
 use Rattle.rv_proofs.proofs.ControlReads.{control_same}
 use Rattle.rv_walk.specs.Ends.{has}
-use Rattle.rv_boxes.specs.Rounds.{IsSetting, IsHeld, IsKeptClaim, HasGrown, IsInCases, IsRising, IsRound, IsRest, AreFirst, IsLeastClaim, left_of}
+use Rattle.rv_boxes.specs.Rounds.{IsSetting, IsKeptClaim, IsInCases, IsRest, AreFirst, left_of}
 use Rattle.rv_boxes.specs.{declared.frame.Frame.Frame, declared.claim.Claim.Claim, Built.nothing, Built.IsUpperRow, Built.IsLowerRow, Built.AreBounds}
 use Rattle.rv_boxes.specs.{Built.HasBounds, Bounding.IsLimitRow, Bounding.AreBothRows, Orders.IsBelowClosed, Orders.IsLeastAbove, Limits.limit_at}
 use Rattle.rv_boxes.specs.{Limits.AreAmong, Opening.IsFrameOf, Opening.AreOpposite, Claiming.turned, Claiming.claim_with, Claiming.claim_of}
-use Rattle.rv_boxes.proofs.{Composing.turned_back, Composing.held_above, Stepping.opposite_in}
+use Rattle.rv_boxes.proofs.{Composing.turned_back, Stepping.opposite_in}
 use Rattle.rv_walk.proofs.Stages.{rest_from, rest_parts}
 use Rattle.rv_base.proofs.Truths.{clash}
 use Rattle.rv_diagram.proofs.Several.{same_truth}
@@ -135,46 +135,6 @@ module _ (s : System) (is : IsSystem s) (f : Frame) (frame : IsFrameOf s f) (c :
       none : (r : Row) → Nothing ≡ Some r → ⊥
       none r e = cc
 
-  -- Once its cases have been asked in a claim the initial control states are held, whatever claim they are taken in.
-  pub rising_of : IsBelowClosed s f.thresholds (claim_of c) → (from_first : List Case) → AreCases s first from_first → (changed : Bool) (new : Claim)
-      → HasGrown s f (claim_of c) (λ v. IsInCases from_first (length from_first) v × IsIn first v) changed c new → IsRising s f first new
-  rising_of below from_first cases changed new g = record {
-    kept = g.kept;
-    below = g.below below below;
-    held = held;
-  }
-    where
-      off : (v : Valuation) → IsIn first v → v 0 ≡ true → ⊥
-      off v i on = clash (v 0) on (is.unticked v (first_started v i))
-
-      boxed : (base : BoxClaim) (v : Valuation) → IsIn first v → (point : List ℤ) → IsInBox s base v point → IsInBox s (claim_of c) v point
-      boxed base v i point b = record {
-        size = b.size;
-        lower = λ on. absurd (off v i on);
-        upper = λ on. absurd (off v i on);
-        narrow = b.narrow;
-      }
-
-      taken : (base : BoxClaim) (v : Valuation) → IsIn first v → IsTaken s base v → IsTaken s (claim_of c) v
-      taken base v i t = let o = t.is_open in record {
-        allowed = t.allowed;
-        reached = kept.initial v (first_started v i);
-        is_open = record {
-          some = (o.some.0, boxed base v i o.some.0 o.some.1);
-          rows = λ k r known at. let (point, b, holds) = o.rows k r known at in (point, boxed base v i point b, holds);
-        };
-      }
-
-      there : (base : BoxClaim) (v : Valuation) → IsIn first v → IsTaken s base v → IsHeld s (claim_of c) (claim_of new) v
-      there base v i t = let (j, d, at, on) = cases.covered v t.allowed i in g.held v ((j, d, slice_get_within from_first j d at, at, on), i)
-
-      held : (base : BoxClaim) (v : Valuation) → IsIn first v → IsHeld s base (claim_of new) v
-      held base v i = record {
-        next = λ t. let h = there base v i t in h.next (taken base v i t);
-        lower = λ t k b known at point inside. let h = there base v i t in h.lower (taken base v i t) k b known at point (boxed base v i point inside);
-        upper = λ t k b known at point inside. let h = there base v i t in h.upper (taken base v i t) k b known at point (boxed base v i point inside);
-      }
-
   module _ (control : Frozen) (given : List Row) (rest : IsRest s first c control given) where
     apart : (v : Valuation) → IsIn control v → (has c.reached v ≡ true) × (has first v ≡ false)
     apart v i = rest_parts (has c.reached v) (has first v) (sym (rest.exact v) ∙ i)
@@ -221,31 +181,6 @@ module _ (s : System) (is : IsSystem s) (f : Frame) (frame : IsFrameOf s f) (c :
           go (inl i) = let (j, d, at, on) = cases.covered v t.allowed i in inl ((j, d, slice_get_within from_first j d at, at, on), i)
           go (inr n) = inr (in_known v t n)
 
-      -- where nothing has changed by the cases of the others the claim is closed
-      pub round_of : IsRising s f first c → (changed : Bool) (new : Claim)
-          → HasGrown s f (claim_of c) (λ v. IsInCases known (length known) v × IsIn control v) changed c new → IsRound s f first changed c new
-      round_of rising changed new g = record {
-        rising = record {
-          kept = g.kept;
-          below = g.below rising.below rising.below;
-          held = λ base v i. held_above s base c new g.above v (rising.held base v i);
-        };
-        grows = let a = g.above in a.reached;
-        still = g.still;
-        closed = λ e. record {
-          initial = kept.initial;
-          next = λ v t. (held e v t (cases_Bool (has first v))).next t;
-          lower = λ v t. (held e v t (cases_Bool (has first v))).lower t;
-          upper = λ v t. (held e v t (cases_Bool (has first v))).upper t;
-        };
-        less = g.less;
-      }
-        where
-          held : changed ≡ false → (v : Valuation) → IsTaken s (claim_of c) v → (has first v ≡ true) ⊎ (has first v ≡ false)
-              → IsHeld s (claim_of c) (claim_of c) v
-          held e v t (inl i) = rising.held (claim_of c) v i
-          held e v t (inr n) = subst (λ (x : Claim). IsHeld s (claim_of c) (claim_of x) v) (g.still e) (g.held v (in_known v t n))
-
 -- a threshold is one whose opposite is an opposite
 opposite_out : (numbers opposites : List ℤ) → AreOpposite numbers opposites → (b : ℤ) → Contains opposites (pos 0 -ℤ b) → Contains numbers b
 opposite_out numbers opposites are b (k, l, at) =
@@ -263,12 +198,6 @@ kept_claim s f frame c kept = record {
       (λ i. control_same s c.reached w v kept.control (λ x state. sym (same x state)) i);
   lower = λ k b known at. opposite_out f.thresholds f.opposites frame.turned b (kept.lower_among k (pos 0 -ℤ b) (turned_back (limit_at c.lower k) b at));
   upper = λ k b known at. kept.upper_among k b at;
-}
-
-pub least_of : (s : System) (f : Frame) → IsFrameOf s f → (first : Frozen) (c : Claim) → IsRising s f first c → IsClosed s (claim_of c) → IsLeastClaim s f c
-least_of s f frame first c rising closed = record {
-  kept = rising.kept;
-  least = record { claim = kept_claim s f frame c rising.kept; closed = closed; least = rising.below };
 }
 
 -- the claim that the pass begins with
@@ -338,20 +267,3 @@ first_are thresholds memories limits o small above size each = record {
       where
         apart : (t : ℤ) → negsuc 2199023255551 ≤ℤ t → t <ℤ negsuc 2199023255551 → ⊥
         apart t l m = omega (arith, ints)
-
--- each round leaves less, or is the last
-pub round_smaller : (s : System) (f : Frame) (first : Frozen) (n : ℕ) (more was : Bool) (old new : Claim) → n ≡ s.states → was ≡ true
-    → IsRound s f first more old new
-    → left_of n new (λ x. false) + cond more 1 0 < left_of n old (λ x. false) + cond was 1 0
-round_smaller s f first n more true old new e on r = go more refl
-  where
-    go : (b : Bool) → more ≡ b → left_of n new (λ x. false) + cond b 1 0 < left_of n old (λ x. false) + 1
-    go true is =
-        let l : left_of s.states new (λ x. false) < left_of s.states old (λ x. false) = r.less is (λ x. false) in
-        let m : left_of n new (λ x. false) < left_of n old (λ x. false) = subst (λ (k : ℕ). left_of k new (λ x. false) < left_of k old (λ x. false))
-        (sym e) l in
-        omega (arith, m)
-    go false is =
-        let q : left_of n new (λ x. false) ≡ left_of n old (λ x. false) = ap (λ (c : Claim). left_of n c (λ x. false)) (r.still is) in
-        omega (arith, q)
-round_smaller s f first n more false old new e on r = cc

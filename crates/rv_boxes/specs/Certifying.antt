@@ -7,7 +7,7 @@ use Rattle.rv_proofs.specs.{Systems.System, Systems.IsSystem, Scopes.IsIn, Range
 use Rattle.rv_proofs.specs.{declared.certificate.Location.Location, declared.certificate.Entry.Entry, declared.report.Case.Case}
 use Rattle.rv_boxes.specs.Built.{AreBounds, IsReached, IsBuiltEntry, IsBuiltLocation}
 use Rattle.rv_boxes.specs.Rounds.{IsCaseIn, IsStart, AreOthers, IsLeastClaim}
-use Rattle.rv_boxes.specs.{declared.frame.Frame.Frame, Boxed.IsUnbounded, declared.claim.Claim.Claim, declared.rounds.Others.Others, Opening.IsFrameOf}
+use Rattle.rv_boxes.specs.{declared.frame.Frame.Frame, Boxed.IsUnbounded, declared.claim.Claim.Claim, declared.claim.Others.Others, Opening.IsFrameOf}
 
 -- The wanted row can be taken before the updates, has small coefficients there, and its left side is bounded over the box.
 pub record CanReach (width : ℕ) (premises : List Row) (forms : List Form) (r : Row) : Type 0 where

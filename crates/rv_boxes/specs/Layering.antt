@@ -1,22 +1,9 @@
 -- Where a claim takes a valuation, in a store.
-use Rattle.std.specs.Prelude.{◌≡◌, ◌⊎◌, ◌↔◌, ℕ, Bool, true, List}
-use Rattle.rv_diagram.specs.{Nodes.Valuation, Nodes.Diagrams, Nodes.IsRef, Nodes.value_of, declared.frozen.Frozen.Frozen}
-use Rattle.rv_rows.specs.declared.linear.Row.{Row}
-use Rattle.rv_proofs.specs.{Systems.System, Systems.IsSystem, Boxes.BoxClaim, Boxes.IsTaken}
+use Rattle.std.specs.Prelude.{◌≡◌, ◌↔◌, ℕ, Bool, true}
+use Rattle.rv_diagram.specs.{Nodes.Valuation, Nodes.Diagrams, Nodes.IsRef, Nodes.value_of}
+use Rattle.rv_proofs.specs.{Systems.System, Boxes.BoxClaim, Boxes.IsTaken}
 use Rattle.rv_symbolic.specs.{declared.relation.Parts.Parts, declared.relation.Relation.Relation, Represented.IsRelationOf}
-use Rattle.rv_boxes.specs.{declared.frame.Frame.Frame, Narrowed.narrowed, Opening.IsFrameOf, Rounds.IsSetting}
-
--- Control states of a claim with the rows of its bounds, in a store with the variables of the system.
-pub record IsOpening (s : System) (d : Diagrams) (f : Frame) (c : BoxClaim) (from : Frozen) (given : List Row) : Type 0 where
-  pub system : IsSystem s
-  pub frame : IsFrameOf s f
-  pub variables : d.variables ≡ s.variables
-  pub setting : IsSetting s c from given
-
--- The reference is true exactly where the old one was, or where this holds.
-pub record IsCollected (old new : Diagrams) (sum : ℕ) (holds : Valuation → Type 0) (r : ℕ) : Type 0 where
-  pub found : IsRef new.nodes r
-  pub exact : (v : Valuation) → (value_of new.nodes r v ≡ true) ↔ ((value_of old.nodes sum v ≡ true) ⊎ holds v)
+use Rattle.rv_boxes.specs.{Narrowed.narrowed}
 
 -- The reference is true exactly where the claim takes the valuation.
 pub record IsTakenAt (s : System) (d : Diagrams) (c : BoxClaim) (r : ℕ) : Type 0 where

@@ -2,16 +2,12 @@ pub mod Ends
 pub mod Weighing
 pub mod Boxed
 pub mod Orders
-pub mod Cutting
 pub mod Built
 pub mod Limits
 pub mod Bounding
 pub mod Opening
 pub mod Claiming
-pub mod Imaging
 pub mod Rounds
-pub mod Marking
-pub mod Knowing
 pub mod Certifying
 pub mod Narrowed
 pub mod Layering

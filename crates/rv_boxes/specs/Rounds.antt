@@ -1,16 +1,16 @@
--- Rounds over the cases of a claim's control states, each of which loosens the claim.
+-- What a pass is given, what a claim holds of valuations, and how it grows.
 use Rattle.std.specs.Prelude.{◌≡◌, ◌⊎◌, ℕ, ◌+◌, ◌<◌, ◌≤◌, ℤ, ◌≤ℤ◌, List, [], length, Option, Bool, true, false, not, ◌&&◌, ◌||◌, Some, IsTrue, slice_get}
 use Rattle.std.specs.List.{Contains}
 use Rattle.rv_diagram.specs.{Nodes.Valuation, Nodes.Diagrams, declared.frozen.Frozen.Frozen}
 use Rattle.rv_rows.specs.{declared.linear.Row.Row, Forms.value}
-use Rattle.rv_proofs.specs.Boxes.{BoxClaim, IsInBox, IsTaken, IsClosed}
+use Rattle.rv_proofs.specs.Boxes.{BoxClaim, IsInBox, IsTaken}
 use Rattle.rv_proofs.specs.{Systems.System, Scopes.IsIn, Ranges.IsControlSet, Ranges.AreKept, Reached.IsLeastClosed, Cases.IsCaseOf, Cases.AreCases}
 use Rattle.rv_proofs.specs.{Cases.IsInitialSet, declared.certificate.Location.Location, declared.report.Case.Case}
 use Rattle.rv_symbolic.specs.{declared.relation.Relation.Relation, Represented.IsRelationOf}
 use Rattle.rv_cases.specs.{declared.asking.Questions.Questions, Questions.AreQuestions}
 use Rattle.rv_walk.specs.{Ends.has, Walks.missing}
 use Rattle.rv_boxes.specs.Limits.{AreAmong, HaveNotFallen, limit_at, room}
-use Rattle.rv_boxes.specs.{declared.frame.Frame.Frame, declared.claim.Claim.Claim, declared.rounds.Others.Others, Bounding.AreBothRows, Built.IsClaimedAt}
+use Rattle.rv_boxes.specs.{declared.frame.Frame.Frame, declared.claim.Claim.Claim, declared.claim.Others.Others, Bounding.AreBothRows, Built.IsClaimedAt}
 use Rattle.rv_boxes.specs.{Built.AreBounds, Orders.IsBelowClosed, Opening.IsFrameOf, Claiming.claim_of}
 
 -- What is given throughout a pass: a system, its relation and its questions in a store, its columns and tests, and thresholds.
@@ -85,32 +85,9 @@ pub record IsCaseIn (s : System) (from : Frozen) (c : Case) : Type 0 where
   pub case : IsCaseOf s c
   pub within : (v : Valuation) → IsIn c.condition v → IsIn from v
 
--- Each is a case of the system.
-abbrev pub AreCasesOf : System → List Case → Type 0
-AreCasesOf s cases = (j : ℕ) (c : Case) → slice_get cases j ≡ Some c → IsCaseOf s c
-
--- The case has a valuation whose control state is in the set.
-abbrev pub IsMet : Frozen → Case → Type 0
-IsMet from c = (v : Valuation) × IsIn c.condition v × IsIn from v
-
 -- The valuation is in one of the first n cases.
 abbrev pub IsInCases : List Case → ℕ → Valuation → Type 0
 IsInCases cases n v = (j : ℕ) × (c : Case) × (j < n) × (slice_get cases j ≡ Some c) × IsIn c.condition v
-
--- A claim under way: it is below each closed one, and holds what initial control states do. No bound counts there, so the claim that they are
--- taken in does not matter.
-pub record IsRising (s : System) (f : Frame) (first : Frozen) (c : Claim) : Type 0 where
-  pub kept : IsKeptClaim s f c
-  pub below : IsBelowClosed s f.thresholds (claim_of c)
-  pub held : (base : BoxClaim) (v : Valuation) → IsIn first v → IsHeld s base (claim_of c) v
-
--- The claim has grown by a round: nothing has changed only where it is closed.
-pub record IsRound (s : System) (f : Frame) (first : Frozen) (changed : Bool) (old new : Claim) : Type 0 where
-  pub rising : IsRising s f first new
-  pub grows : (v : Valuation) → IsIn old.reached v → IsIn new.reached v
-  pub still : changed ≡ false → new ≡ old
-  pub closed : changed ≡ false → IsClosed s (claim_of old)
-  pub less : changed ≡ true → (v : Valuation) → left_of s.states new v < left_of s.states old v
 
 -- The initial control states and their cases.
 pub record IsStart (s : System) (first : Frozen) (from_first : List Case) : Type 0 where

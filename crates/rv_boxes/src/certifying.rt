@@ -10,10 +10,9 @@ ghost use Rattle.rv_boxes.specs.Certifying.{IsBad};
 ghost use Rattle.rv_boxes.specs.Passing.{IsProof};
 
 use crate::bounding::bound_rows;
-use crate::claim::Claim;
+use crate::claim::{Claim, Others};
 use crate::frame::Frame;
 use crate::locations::certify;
-use crate::rounds::Others;
 use rv_base::Many;
 use rv_cases::{Questions, cases};
 use rv_diagram::{Frozen, Store, StoreFault};

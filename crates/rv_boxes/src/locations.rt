@@ -14,9 +14,9 @@ ghost use Rattle.rv_boxes.specs.Certifying.{IsJudgeable, IsBad, IsLocationOf, Is
 ghost use Rattle.rv_boxes.specs.Passing.{IsProof};
 
 use crate::bounding::copy_rows;
+use crate::claim::Others;
 use crate::entries::entries;
 use crate::frame::Frame;
-use crate::rounds::Others;
 use rv_base::{Many, Memory};
 use rv_diagram::Frozen;
 use rv_proofs::{Case, Certificate, Entry, Location};

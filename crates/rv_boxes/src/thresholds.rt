@@ -4,7 +4,7 @@ ghost use Rattle.rv_boxes.specs.Orders.{IsLeastAbove};
 use rv_base::Many;
 
 /// Whether one number is below another.
-pub fn is_below(a: i128, b: i128) -> bool
+fn is_below(a: i128, b: i128) -> bool
     ensures { MatchBool result (a <ℤ b) (b ≤ℤ a) }
 {
     a < b
