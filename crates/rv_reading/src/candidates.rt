@@ -26,6 +26,7 @@ pub fn candidate_or_none(
     ensures range { IfOk result (λ o. IfSome o IsInRange) }
     ensures same { store.new ≡ store.old }
     ensures roomy { IsErrOf result StoreFault.Nodes → store.old.limit < 2 ^ (2 ^ store.old.variables) }
+    ensures never { IsErrOf result StoreFault.Nodes → ⊥ }
 {
     match candidate(alloc, store, relation, questions, columns, layers) {
         Ok(found) => Ok(found),

@@ -272,6 +272,7 @@ impl<'a> Reading<'a> {
         ensures range { IfOk result (λ o. IfSome o HasTraceNumbers) }
         ensures same { self.new ≡ self.old }
         ensures roomy { IsErrOf result StoreFault.Nodes → (diagrams_of self.old).limit < 2 ^ (2 ^ (diagrams_of self.old).variables) }
+        ensures never { IsErrOf result StoreFault.Nodes → ⊥ }
     {
         let columns = self.flat.columns.len();
         candidate_or_none(
