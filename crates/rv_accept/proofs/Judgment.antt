@@ -1,5 +1,6 @@
 -- How entries, locations and partitions stand.
-use Rattle.std.proofs.Common.{ℕ, ◌+◌, ◌<◌, ◌≤◌, ◌≡◌, ◌⊎◌, inl, inr, ◌↔◌, ◌&&◌, ◌||◌, Bool, true, false, List, [], ◌∷◌, ◌++◌, length, refl, sym, ap, ◌∙◌, subst, ⊎_elim, arith, Option, MatchOption, Some, slice_get, get_or}
+use Rattle.std.proofs.Common.{ℕ, ◌+◌, ◌<◌, ◌≤◌, ◌≡◌, ◌⊎◌, inl, inr, ◌↔◌, ◌&&◌, ◌||◌, Bool, true, false, List, [], ◌∷◌, ◌++◌, length, refl, sym, ap, ◌∙◌, subst}
+use Rattle.std.proofs.Common.{⊎_elim, arith, Option, MatchOption, Some, slice_get, get_or}
 use Rattle.std.specs.Prelude.{IsSome}
 use Rattle.rv_diagram.specs.declared.frozen.Frozen.{Frozen}
 use Rattle.std.proofs.Common.{None as Nothing_here}
@@ -17,7 +18,8 @@ use Rattle.rv_proofs.specs.Left.{IsNeverObserved, IsFailingStep, IsUnrefuted, Is
 use Rattle.rv_proofs.specs.{Ranges.IsInRange, declared.certificate.Certificate.Certificate, declared.certificate.Location.Location}
 use Rattle.rv_proofs.specs.{declared.certificate.Entry.Entry, declared.certificate.EntryKind.EntryKind}
 use Rattle.rv_accept.specs.{Steps.IsLeastWord, Held.IsScope, Passing.Passes, Passing.AllPass, Passing.IsFirstUnimplied}
-use Rattle.rv_accept.specs.Judging.{IsLenient, IsUsing, IsAsking, Stands, IsLeftAt, IsLocated, AreApart, IsMarked, IsSeen, worse_of, added_if, AreStanding, located_by, AreLocated}
+use Rattle.rv_accept.specs.Judging.{IsLenient, IsUsing, IsAsking, Stands, IsLeftAt, IsLocated, AreApart, IsMarked, IsSeen, worse_of, added_if, AreStanding}
+use Rattle.rv_accept.specs.Judging.{located_by, AreLocated}
 use Rattle.rv_accept.specs.declared.judging.Standing.{Standing}
 use Rattle.rv_accept.specs.declared.judging.Standing.TheVariants.{Sound, Using, Asking, Unfit}
 use Rattle.rv_accept.specs.declared.judging.Seen.TheVariants.{Nothing, Never, Somewhere}

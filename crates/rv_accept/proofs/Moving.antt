@@ -1,7 +1,8 @@
 -- A set of control states before a step, node by node.
 use Rattle.std.proofs.Common.{ℕ, ◌+◌, ◌-◌, ◌/◌, ◌<◌, ◌≤◌, ◌≡◌, Bool, if◌then◌else◌, List, [], ◌∷◌, ◌++◌, length, sym, ap, ◌∙◌, subst, ⊎_elim, arith}
 use Rattle.std.proofs.Common.{Result, Ok, Err, IfOk, Some, slice_get, refl}
-use Rattle.std.proofs.{lemmas.Bool.cases_lt, lemmas.List.get_or_append_left, Math.Seq.get_or-append_seam, Math.ListN.get_or-eq_default, Math.Path.fun_ext, lemmas.Option.same_Some}
+use Rattle.std.proofs.{lemmas.Bool.cases_lt, lemmas.List.get_or_append_left, Math.Seq.get_or-append_seam, Math.ListN.get_or-eq_default, Math.Path.fun_ext}
+use Rattle.std.proofs.{lemmas.Option.same_Some}
 use Rattle.rv_diagram.specs.Nodes.{Valuation, Diagrams, Answers, IsExpanded, IsRef, value_of, choice, node_at}
 use Rattle.rv_diagram.specs.{declared.Triple.Triple, declared.frozen.Frozen.Frozen, Several.ref_at, Several.UsesNeeded}
 use Rattle.rv_diagram.proofs.Several.{unused_ignored}

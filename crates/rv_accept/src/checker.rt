@@ -82,7 +82,8 @@ fn entries_fault(
     ensures same { store.new ≡ store.old }
     ensures roomy { IsErrOf result StoreFault.Nodes → store.old.limit < 2 ^ (2 ^ store.old.variables) }
     ensures exact { IfOk result (λ o. (s : System) → IsGiven s store.old parts.now questions.now certificate.now → IsWithin s location.now store.old within
-        → AreLedInto s certificate.now store.old led.now → MatchOption o ((j : ℕ) (e : Entry) → slice_get location.now.entries j ≡ Some e → Passes s certificate.now location.now e)
+        → AreLedInto s certificate.now store.old led.now → MatchOption o ((j : ℕ) (e : Entry) → slice_get location.now.entries j ≡ Some e
+            → Passes s certificate.now location.now e)
         (λ r. NoneBefore s certificate.now (1 ∷ k ∷ []) → IsIncluded location.now → IsCovered s location.now → IsFirst s certificate.now r)) }
 {
     for j in 0..location.entries.len() {
@@ -120,7 +121,8 @@ fn location_fault_in(
     ensures extends { Extends store.old store.new }
     ensures roomy { IsErrOf result StoreFault.Nodes → store.old.limit < 2 ^ (2 ^ store.old.variables) }
     ensures exact { IfOk result (λ o. (s : System) → IsGiven s store.old parts.now questions.now certificate.now
-        → AreLedInto s certificate.now store.old led.now → MatchOption o (AllPass s certificate.now location.now) (λ r. NoneBefore s certificate.now (1 ∷ k ∷ []) → IsFirst s certificate.now r)) }
+        → AreLedInto s certificate.now store.old led.now → MatchOption o (AllPass s certificate.now location.now)
+            (λ r. NoneBefore s certificate.now (1 ∷ k ∷ []) → IsFirst s certificate.now r)) }
 {
     if let Some(row) = first_not_included(location) {
         return Ok(Some(Reason::Inclusion(k, row)));
@@ -158,7 +160,8 @@ fn location_fault(
     ensures same { store.new ≡ store.old }
     ensures roomy { IsErrOf result StoreFault.Nodes → store.old.limit < 2 ^ (2 ^ store.old.variables) }
     ensures exact { IfOk result (λ o. (s : System) → IsGiven s store.old parts.now questions.now certificate.now
-        → AreLedInto s certificate.now store.old led.now → MatchOption o (AllPass s certificate.now location.now) (λ r. NoneBefore s certificate.now (1 ∷ k ∷ []) → IsFirst s certificate.now r)) }
+        → AreLedInto s certificate.now store.old led.now → MatchOption o (AllPass s certificate.now location.now)
+            (λ r. NoneBefore s certificate.now (1 ∷ k ∷ []) → IsFirst s certificate.now r)) }
 {
     let mark = store.mark();
     let answer = location_fault_in(

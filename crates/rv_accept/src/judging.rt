@@ -1,6 +1,7 @@
 //! The judge of partitions: which of their locations are left, because an entry of theirs uses one of the two exceptions of a left partition.
 
-ghost use Rattle.std.specs.Prelude.{◌≡◌, ◌⊎◌, ℕ, ◌<◌, ◌^◌, [], true, false, List, Option, Some, IsSome, None, ◌&&◌, ◌||◌, IfOk, OnOk, IsErrOf, MatchOption, MatchBool, length, slice_get};
+ghost use Rattle.std.specs.Prelude.{◌≡◌, ◌⊎◌, ℕ, ◌<◌, ◌^◌, [], true, false, List, Option, Some, IsSome, None, ◌&&◌, ◌||◌, IfOk, OnOk, IsErrOf, MatchOption};
+ghost use Rattle.std.specs.Prelude.{MatchBool, length, slice_get};
 ghost use Rattle.rv_diagram.specs.Nodes.{Valuation, value_of, IsRef, IsOrderedOver};
 ghost use Rattle.rv_diagram.specs.Growing.{Extends};
 ghost use Rattle.rv_proofs.specs.Systems.{System, IsSystem};
@@ -256,7 +257,8 @@ fn entry_standing_in(
     ensures extends { Extends store.old store.new }
     ensures roomy { IsErrOf result StoreFault.Nodes → store.old.limit < 2 ^ (2 ^ store.old.variables) }
     ensures exact { IfOk result (λ st. (s : System) → IsGiven s store.old parts.now questions.now certificate.now → IsWithin s location.now store.old within
-        → AreLedInto s certificate.now store.old led.now → (e : Entry) → slice_get location.now.entries j ≡ Some e → Stands s certificate.now location.now e st) }
+        → AreLedInto s certificate.now store.old led.now → (e : Entry) → slice_get location.now.entries j ≡ Some e
+            → Stands s certificate.now location.now e st) }
 {
     let entry = location.entries.at(j as usize);
     let scope = sets::both(store, within, &entry.condition)?;
@@ -295,7 +297,8 @@ fn entry_standing(
     ensures same { store.new ≡ store.old }
     ensures roomy { IsErrOf result StoreFault.Nodes → store.old.limit < 2 ^ (2 ^ store.old.variables) }
     ensures exact { IfOk result (λ st. (s : System) → IsGiven s store.old parts.now questions.now certificate.now → IsWithin s location.now store.old within
-        → AreLedInto s certificate.now store.old led.now → (e : Entry) → slice_get location.now.entries j ≡ Some e → Stands s certificate.now location.now e st) }
+        → AreLedInto s certificate.now store.old led.now → (e : Entry) → slice_get location.now.entries j ≡ Some e
+            → Stands s certificate.now location.now e st) }
 {
     let mark = store.mark();
     let answer = entry_standing_in(
@@ -542,7 +545,8 @@ fn left_among(
     ensures same { store.new ≡ store.old }
     ensures roomy { IsErrOf result StoreFault.Nodes → store.old.limit < 2 ^ (2 ^ store.old.variables) }
     ensures exact { IfOk result (λ o. (s : System) → IsGiven s store.old parts.now questions.now certificate.now
-        → AreLedInto s certificate.now store.old led.now → MatchOption o ((k : ℕ) × (l : Location) × (slice_get certificate.now.locations k ≡ Some l) × IsLocated s certificate.now l None)
+        → AreLedInto s certificate.now store.old led.now → MatchOption o
+            ((k : ℕ) × (l : Location) × (slice_get certificate.now.locations k ≡ Some l) × IsLocated s certificate.now l None)
         (AreLocated s certificate.now (length certificate.now.locations))) }
 {
     let mut left = Many::new(alloc);

@@ -1,9 +1,11 @@
 -- What a search is given in a store that has grown, and what follows from what it finds.
 use Rattle.std.proofs.Common.{◌≡◌, ℕ, ◌<◌, ℤ, Bool, true, false, List, [], length, MatchBool, refl, sym, ap, ◌∙◌, subst, arith, if◌then◌else◌}
-use Rattle.rv_diagram.specs.{Nodes.Diagrams, Nodes.IsMeant, Nodes.IsRef, Nodes.value_of, Nodes.Valuation, Nodes.Answers, Nodes.choice, Growing.Extends, declared.frozen.Frozen.Frozen}
+use Rattle.rv_diagram.specs.{Nodes.Diagrams, Nodes.IsMeant, Nodes.IsRef, Nodes.value_of, Nodes.Valuation, Nodes.Answers, Nodes.choice, Growing.Extends}
+use Rattle.rv_diagram.specs.{declared.frozen.Frozen.Frozen}
 use Rattle.rv_proofs.specs.{Systems.System, Accepted.IsAccepted, Left.IsLeftPartition, Ranges.IsControlSet}
 use Rattle.rv_proofs.specs.{RowClaims.RowClaim, RowClaims.IsRowGood, declared.certificate.Certificate.Certificate}
-use Rattle.rv_symbolic.specs.{declared.relation.Relation.Relation, declared.relation.Parts.Parts, Represented.parts_of, Represented.HaveRefs, Represented.AreParts}
+use Rattle.rv_symbolic.specs.{declared.relation.Relation.Relation, declared.relation.Parts.Parts, Represented.parts_of, Represented.HaveRefs}
+use Rattle.rv_symbolic.specs.{Represented.AreParts}
 use Rattle.rv_symbolic.proofs.Scheduling.{relation_after}
 use Rattle.rv_cases.specs.declared.asking.Questions.{Questions}
 use Rattle.rv_cases.proofs.Keeping.{questions_later}
@@ -127,5 +129,6 @@ module _ (old new : Diagrams) (whole none part rest : ℕ) (off : (v : Valuation
   pub is_within_not : (v : Valuation) → value_of new.nodes rest v ≡ true
       → (w : Valuation) × (value_of old.nodes part w ≡ true) × (value_of old.nodes whole w ≡ false)
   is_within_not v on =
-      let p = within_not (value_of old.nodes whole v) (value_of old.nodes part v) (value_of old.nodes none v) (value_of new.nodes rest v) (a.means v) (off v) on in
+      let p = within_not (value_of old.nodes whole v) (value_of old.nodes part v) (value_of old.nodes none v) (value_of new.nodes rest v) (a.means v)
+          (off v) on in
       (v, p.0, p.1)

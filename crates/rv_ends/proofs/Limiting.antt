@@ -22,7 +22,8 @@ pub record AreLimited (old new : List Triple) (upper lower : List (Option ℤ)) 
   pub cut : (k : ℕ) (b a : Ends) → slice_get before k ≡ Some b → slice_get after k ≡ Some a → (v : Valuation)
       → IsCut (interval_of old v b) (interval_of new v a) (λ x. value_of old ticked v ≡ true → IsLimited (limit_at upper k) (limit_at lower k) x)
 
-pub limited_none : (nodes : List Triple) (upper lower : List (Option ℤ)) (ticked : ℕ) (before : List Ends) → AreLimited nodes nodes upper lower ticked 0 before []
+pub limited_none : (nodes : List Triple) (upper lower : List (Option ℤ)) (ticked : ℕ) (before : List Ends)
+    → AreLimited nodes nodes upper lower ticked 0 before []
 limited_none nodes upper lower ticked before = record {
   size = refl;
   high = λ k e h. absurd (none-some e h);
@@ -160,7 +161,8 @@ ends_of_limits s is old mid new ticked upper lower tests ends x many tick are up
           upper = λ on k c known e. absurd (none-some c e);
           narrow = b.narrow;
         } in
-        let w : IsWithin (box_at mid.nodes tests v) point = subst (λ (l : List Interval). IsWithin l point) (sym (same v)) ((are.exact reached v some point).0 bare) in
+        let w : IsWithin (box_at mid.nodes tests v) point = subst (λ (l : List Interval). IsWithin l point) (sym (same v))
+            ((are.exact reached v some point).0 bare) in
         let i = within_each mid.nodes tests v point w in
         within_from new.nodes ends v point (record { size = i.size ∙ sym long; each = λ k e g. each i k e g })
       where

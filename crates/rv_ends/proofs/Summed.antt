@@ -28,7 +28,8 @@ sum_small z by b n h l m =
     omega (arith, h, p, s)
 
 nothing_times : (by x : ℤ) → x ≡ pos 0 → unsigned_abs (by *ℤ x) < 2 ^ 110
-nothing_times by x e = subst (λ (y : ℤ). unsigned_abs (by *ℤ y) < 2 ^ 110) (sym e) (subst (λ (y : ℤ). unsigned_abs y < 2 ^ 110) (sym (*ℤ-zero by)) (omega arith))
+nothing_times by x e = subst (λ (y : ℤ). unsigned_abs (by *ℤ y) < 2 ^ 110) (sym e)
+    (subst (λ (y : ℤ). unsigned_abs y < 2 ^ 110) (sym (*ℤ-zero by)) (omega arith))
 
 pub can_scale : (by : ℤ) (f : Form) → length f.coefficients ≡ 0 → unsigned_abs by ≤ 2 ^ 41 → unsigned_abs f.constant ≤ 2 ^ 60 → CanScale by f
 can_scale by f none l m = record {
@@ -57,7 +58,8 @@ sum_sides false b y x by = refl
 
 -- a side whose term is a sum and that is there where both are
 module _ (old mid new : Diagrams) (so_far side s : Side) (by : ℤ) (part : List Part) (x : Extends old mid) (y : Extends mid new)
-    (is : IsSide old.nodes (2 ^ 60) side) (scaled : IsTermOf old.nodes (term_width side.end.parts) (λ v. form_times by (form_at old.nodes side.end.parts v)) part)
+    (is : IsSide old.nodes (2 ^ 60) side) (scaled : IsTermOf old.nodes (term_width side.end.parts) (λ v. form_times by (form_at old.nodes side.end.parts v))
+        part)
     (summed : IsTermOf mid.nodes (term_width so_far.end.parts) (λ v. form_sum (form_at old.nodes so_far.end.parts v) (form_at old.nodes part v)) s.end.parts)
     (found : IsRef new.nodes s.there)
     (there : (v : Valuation) → value_of new.nodes s.there v ≡ (value_of mid.nodes so_far.there v && value_of mid.nodes side.there v)) where
@@ -84,6 +86,7 @@ module _ (old mid new : Diagrams) (so_far side s : Side) (by : ℤ) (part : List
 
   pub sum_side : (n : ℕ) → unsigned_abs by ≤ 2 ^ 41 → IsSide old.nodes (n * 2 ^ 101) so_far → IsSide new.nodes ((n + 1) * 2 ^ 101) s
   sum_side n small was =
-      side_from new.nodes ((n + 1) * 2 ^ 101) s (λ v. form_sum (form_at old.nodes so_far.end.parts v) (form_times by (form_at old.nodes side.end.parts v))) found
+      side_from new.nodes ((n + 1) * 2 ^ 101) s (λ v. form_sum (form_at old.nodes so_far.end.parts v) (form_times by (form_at old.nodes side.end.parts v)))
+          found
       (term_later mid new 0 s.end.parts y (narrow (n * 2 ^ 101) was).term) (end_is (n * 2 ^ 101) was)
       (λ v. sum_small (form_at old.nodes so_far.end.parts v).constant by (form_at old.nodes side.end.parts v).constant n (was.small v) small (is.small v))

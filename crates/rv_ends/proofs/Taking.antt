@@ -7,7 +7,8 @@ use Rattle.rv_diagram.specs.{declared.Triple.Triple, Nodes.Valuation, Nodes.Diag
 use Rattle.rv_rows.specs.{declared.linear.Row.Row, Rows.Holds}
 use Rattle.rv_proofs.specs.{Systems.System, Systems.IsSystem, Systems.IsTestRow, Boxes.HasOneColumn, Boxes.IsInBox}
 use Rattle.rv_proofs.proofs.Tightened.{tight_unit}
-use Rattle.rv_cases.specs.{declared.asking.Questions.Questions, Conditions.is_in, Conditions.AreRefs, Conditions.list_at, Questions.rows_at, Questions.AreQuestions}
+use Rattle.rv_cases.specs.{declared.asking.Questions.Questions, Conditions.is_in, Conditions.AreRefs, Conditions.list_at, Questions.rows_at}
+use Rattle.rv_cases.specs.{Questions.AreQuestions}
 use Rattle.rv_ends.specs.{declared.ends.Ends.Ends, Claiming.claim_with, Columns.HoldsAlone, Columns.IsFit, Intervals.IsWithin}
 use Rattle.rv_ends.specs.Cuts.{AreCut, MeetsFirst, MeetsTests, IsFree}
 use Rattle.rv_ends.specs.Sides.{box_at, AreEnds, AreEndsOf}

@@ -53,7 +53,8 @@ below_more old mid new parts n bound r q part is same exact h = record { some = 
             )
 
 -- of all parts it is the one that holds
-pub below_all : (old new : List Triple) (width : ℕ) (parts : List Part) (n : ℕ) (bound : ℤ) (r : ℕ) → IsTerm old width parts → length parts ≤ n → n ≤ length parts
+pub below_all : (old new : List Triple) (width : ℕ) (parts : List Part) (n : ℕ) (bound : ℤ) (r : ℕ) → IsTerm old width parts → length parts ≤ n
+    → n ≤ length parts
     → IsBelowAmong old new parts n bound r → (v : Valuation) → (value_of new r v ≡ true) ↔ ((form_at old parts v).constant <ℤ bound)
 below_all old new width parts n bound r term long short h v = (to, from)
   where

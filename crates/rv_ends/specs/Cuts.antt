@@ -3,7 +3,8 @@ use Rattle.std.specs.Prelude.{◌≡◌, ◌↔◌, ℕ, ◌+◌, ◌<◌, ℤ, 
 use Rattle.rv_diagram.specs.{declared.Triple.Triple, Nodes.Valuation}
 use Rattle.rv_rows.specs.declared.linear.Row.{Row}
 use Rattle.rv_cases.specs.{declared.asking.Questions.Questions, Conditions.is_in, Conditions.list_at, Questions.rows_at}
-use Rattle.rv_ends.specs.{declared.ends.Ends.Ends, Columns.HoldsAlone, Intervals.Interval, Intervals.IsAtMost, Intervals.IsInside, Intervals.IsWithin, Intervals.free}
+use Rattle.rv_ends.specs.{declared.ends.Ends.Ends, Columns.HoldsAlone, Intervals.Interval, Intervals.IsAtMost, Intervals.IsInside, Intervals.IsWithin}
+use Rattle.rv_ends.specs.{Intervals.free}
 use Rattle.rv_ends.specs.Sides.{IsSide, interval_of, box_at}
 
 -- the numbers in the new interval are those in the old one of which this is so

@@ -6,7 +6,8 @@ use Rattle.std.specs.List.{Contains, flat_map}
 use Rattle.rv_tree.specs.Tree.{ConstantTree, NodeTree, ProgramTree}
 use Rattle.rv_tree.specs.Places.{Identifier, Sites, flows, is_among, is_same}
 use Rattle.rv_tree.specs.{Delays.Delay, Delays.IsNumbered, SitedParts.node_parts, SourceTrees.IsSourceTree}
-use Rattle.rv_types.specs.Instances.{CallTree, calls, callee, Instance, place, IsInstance, is_callee, is_main, IsNode, all_instances, main_instance, name_at, unrolled}
+use Rattle.rv_types.specs.Instances.{CallTree, calls, callee, Instance, place, IsInstance, is_callee, is_main, IsNode, all_instances, main_instance, name_at}
+use Rattle.rv_types.specs.Instances.{unrolled}
 use Rattle.rv_types.specs.{declared.typed.Typed.Typed, Lists.sites_of, Needs.IsAmongFirst, Needs.IsSequence, Needs.needs_of}
 use Rattle.rv_types.specs.{Settled.IsAnswer, Settled.IsSettled, WellFormed.AreSited, WellFormed.AreWell}
 use Rattle.rv_instances.specs.{declared.answer.Instance.Instance as Numbered, declared.answer.Order.Order, AllInstances.AreCounted, AllInstances.AreInstances}
@@ -17,7 +18,8 @@ use Rattle.rv_flatten.proofs.{Assembled.is_named, GivenParts.main_name, Searches
 use Rattle.rv_flatten.proofs.{Searches.site_again, TreeTruths.same_tree, WeightTruths.light_again}
 
 -- what is unrolled from an instance are instances
-only_instances : (p : ProgramTree) (main : Identifier) (levels : ℕ) (a i : Instance) → IsInstance p main a → Contains (unrolled p levels a) i → IsInstance p main i
+only_instances : (p : ProgramTree) (main : Identifier) (levels : ℕ) (a i : Instance) → IsInstance p main a → Contains (unrolled p levels a) i
+    → IsInstance p main i
 only_instances p main zero a i is w = nothing_in i w
 only_instances p main (suc levels) a i is w = elim (cons_cases a (flat_map (λ (c : CallTree). unrolled p levels (callee p a c)) (calls a.node)) i w) [
   | inl same ↦ subst (IsInstance p main) same is

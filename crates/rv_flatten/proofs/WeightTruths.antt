@@ -1,5 +1,6 @@
 -- Where it is a truth that no expression is too wide, there are weights by which none is: those that all weights of the flows agree on.
-use Rattle.std.proofs.Common.{◌≡◌, ℕ, zero, suc, ◌<◌, ◌≤◌, ◌*◌, inl, inr, max, Bool, true, false, cond, nat_lt, nat_abs, List, [], ◌∷◌, length, get_or, refl, sym, ◌∙◌, ap}
+use Rattle.std.proofs.Common.{◌≡◌, ℕ, zero, suc, ◌<◌, ◌≤◌, ◌*◌, inl, inr, max, Bool, true, false, cond, nat_lt, nat_abs, List, [], ◌∷◌, length, get_or, refl}
+use Rattle.std.proofs.Common.{sym, ◌∙◌, ap}
 use Rattle.std.proofs.Common.{subst, arith, unwrap_or, Option, ◌+◌, ◌++◌}
 use Rattle.std.proofs.{Math.Logic.∥∥₁_elim, Props.props, lemmas.Nat.mul-le, lemmas.List.get_or_default, lemmas.Bool.Decides.nat_tests}
 use Rattle.std.proofs.lemmas.List.Elements.{All-contains, Contains-append_cases, Contains-append_left, Contains-append_right}
@@ -7,11 +8,13 @@ use Rattle.std.specs.List.{Contains}
 use mathlib.Core.HLevel.{Σ_prop_path}
 use Rattle.rv_base.specs.Limits.{heaviest}
 use Rattle.rv_tree.specs.Places.{Identifier, Sites, is_among, is_flow}
-use Rattle.rv_tree.specs.{declared.tree.Op.Op, Tree.Tree, Tree.Node, Tree.Named, Tree.Minus, Tree.Current, Tree.When, Tree.Binary, Tree.If, Tree.Call, Tree.ProgramTree}
+use Rattle.rv_tree.specs.{declared.tree.Op.Op, Tree.Tree, Tree.Node, Tree.Named, Tree.Minus, Tree.Current, Tree.When, Tree.Binary, Tree.If, Tree.Call}
+use Rattle.rv_tree.specs.{Tree.ProgramTree}
 use Rattle.rv_tree.specs.declared.tree.Op.TheVariants as op
 use Rattle.rv_types.specs.Instances.{Body, Output, Instance, place, absolute, clock_of, clock_taken, clock_of_arguments, output_place, IsNode}
 use Rattle.rv_types.specs.Needs.{flow_of, needs, form_needs, needs_of, Giver, Given, Of, Gives, IsAmongFirst, IsSequence}
-use Rattle.rv_types.specs.{declared.typed.Clock.Clock, declared.typed.Clock.TheVariants.Base, Constants.whole_in, Scopes.constant_value, Scopes.node_scope, Types.is_constant}
+use Rattle.rv_types.specs.{declared.typed.Clock.Clock, declared.typed.Clock.TheVariants.Base, Constants.whole_in, Scopes.constant_value, Scopes.node_scope}
+use Rattle.rv_types.specs.{Types.is_constant}
 use Rattle.rv_types.specs.WellFormed.{AreWell}
 use Rattle.rv_instances.specs.{declared.answer.Instance.Instance as Numbered, Expanded.IsExpanded}
 use Rattle.rv_instances.specs.Weights.{constant_size, weight, form_weight, weighed, weight_of_giver, too_wide, AreWeights, IsTooWide, AreLight}
@@ -26,7 +29,8 @@ module _ (p : ProgramTree) (i : Instance) (f g : Sites → ℕ) where
   abbrev AreAlike : List Sites → Type 0
   AreAlike qs = (q : Sites) → Contains qs q → f q ≡ g q
 
-  name_alike : (c : Clock) (site : Option ℕ) (x : Identifier) (b : Bool) → is_flow i.node x ≡ b → AreAlike (flow_of (absolute i c) ++ form_needs p i c site (Named x))
+  name_alike : (c : Clock) (site : Option ℕ) (x : Identifier) (b : Bool) → is_flow i.node x ≡ b
+      → AreAlike (flow_of (absolute i c) ++ form_needs p i c site (Named x))
       → cond b (f (place i x)) (nat_abs (whole_in (constant_value p x))) ≡ cond b (g (place i x)) (nat_abs (whole_in (constant_value p x)))
   name_alike c site x true is alike =
       let q : Sites = place i x in
@@ -69,7 +73,8 @@ module _ (p : ProgramTree) (i : Instance) (f g : Sites → ℕ) where
   weighs_alike c (Node at site _) alike = refl
 
 -- what gives a flow gives it the same weight
-giver_alike : (p : ProgramTree) (f g : Sites → ℕ) (h : Giver) → ((q : Sites) → Contains (needs_of p h) q → f q ≡ g q) → weight_of_giver p f h ≡ weight_of_giver p g h
+giver_alike : (p : ProgramTree) (f g : Sites → ℕ) (h : Giver) → ((q : Sites) → Contains (needs_of p h) q → f q ≡ g q)
+    → weight_of_giver p f h ≡ weight_of_giver p g h
 giver_alike p f g (Given j) alike = refl
 giver_alike p f g (Of i k (Body e)) alike = weighs_alike p i f g (clock_taken i k e) e alike
 giver_alike p f g (Of i k (Output c j)) alike =
@@ -121,7 +126,8 @@ module _ (p : ProgramTree) (f g : Sites → ℕ) (less : (q : Sites) → g q ≤
       let old : List ℕ = cond (nat_lt heaviest (v e)) (a ∷ []) [] in
       let new : List ℕ = cond (nat_lt heaviest (w e)) (a ∷ []) [] in
       elim (Contains-append_cases old (too_wide v es) at there) [
-        | inl here ↦ Contains-append_left new (too_wide w es) at (one_wide a (v e) (w e) (le e) (nat_lt heaviest (v e)) (nat_lt heaviest (w e)) refl refl at here)
+        | inl here ↦ Contains-append_left new (too_wide w es) at
+            (one_wide a (v e) (w e) (le e) (nat_lt heaviest (v e)) (nat_lt heaviest (w e)) refl refl at here)
         | inr rest ↦ Contains-append_right new (too_wide w es) at (more_wide v w le es at rest)
       ]
 
@@ -197,4 +203,5 @@ module _ (p : ProgramTree) (main : Identifier) (well : AreWell p) (named : IsNod
 
     -- so it is no truth alone
     pub light_again : AreLight p main
-    light_again = (weights, are_weights, λ at wide. refuted truth (λ light. light.2 at (wide_still p light.0 weights (weight_less light.0 light.1) main at wide)))
+    light_again = (weights, are_weights, λ at wide. refuted truth (λ light. light.2 at
+        (wide_still p light.0 weights (weight_less light.0 light.1) main at wide)))

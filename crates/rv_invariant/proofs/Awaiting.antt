@@ -1,5 +1,6 @@
 -- Wherever a record of a certificate is awaited some record is right, so a record is awaited exactly where it begins a document.
-use Rattle.std.proofs.Common.{◌≡◌, ◌+◌, ◌-◌, ◌*◌, ◌%◌, ◌^◌, ◌<◌, ◌≤◌, ℕ, zero, suc, Bool, true, false, cond, List, [], ◌∷◌, ◌++◌, length, get_or, refl, sym, ap, ◌∙◌}
+use Rattle.std.proofs.Common.{◌≡◌, ◌+◌, ◌-◌, ◌*◌, ◌%◌, ◌^◌, ◌<◌, ◌≤◌, ℕ, zero, suc, Bool, true, false, cond, List, [], ◌∷◌, ◌++◌, length, get_or, refl, sym, ap}
+use Rattle.std.proofs.Common.{◌∙◌}
 use Rattle.std.proofs.Common.{subst, arith}
 use Rattle.std.proofs.{lemmas.Int.ints, lemmas.List.get_or-replicate, lemmas.List.length-replicate}
 use Rattle.std.specs.Prelude.{◌&&◌, ◌↔◌, nat_eq, nat_le, ℤ, pos, Option, Some, None, is_some, codes, decimal, replicate, ⊤}
@@ -11,20 +12,25 @@ use Rattle.rv_proofs.specs.{declared.certificate.Certificate.Certificate, declar
 use Rattle.rv_invfile.specs.declared.fault.Why.TheVariants as why
 use Rattle.rv_invfile.specs.Rules.{Fields, Form, Rule, done, await, form_of, fault_in, fault_by, fault_after, is_plain, HasNoFault, IsDocument}
 use Rattle.rv_invfile.specs.Forms.{field, word_of, counts, exactly, names, lists}
-use Rattle.rv_invfile.specs.{Parts.bind, Parts.times, Parts.either, Parts.turns, Spells.Spells, Spells.IsAlive, Spells.BeginsDocument, Texts.natural, Told.IsTold}
+use Rattle.rv_invfile.specs.{Parts.bind, Parts.times, Parts.either, Parts.turns, Spells.Spells, Spells.IsAlive, Spells.BeginsDocument, Texts.natural}
+use Rattle.rv_invfile.specs.{Told.IsTold}
 use Rattle.rv_invfile.proofs.ReadBack.{is_plain_text, right-fault, decimal-plain, name-plain, pair-plain, exactly-right, names-right, lists-right, counts-right}
 use Rattle.rv_invfile.proofs.{Begins.alive-bind, Begins.alive-times, Begins.awaited-begins, Decimals.same-bytes, Decimals.within, Written.Right}
-use Rattle.rv_invariant.specs.Pieces.{a_diagram, a_list, a_proof, a_row, by_form, diagram, is_divisor, is_node_field, is_pair_field, is_root, multipliers_of, row_record}
+use Rattle.rv_invariant.specs.Pieces.{a_diagram, a_list, a_proof, a_row, by_form, diagram, is_divisor, is_node_field, is_pair_field, is_root, multipliers_of}
+use Rattle.rv_invariant.specs.Pieces.{row_record}
 use Rattle.rv_invariant.specs.Certificates.{known_at, learn, low_of, high_of, after_entry, row_lists, after_proofs, after_lists, after_control, front_rule}
-use Rattle.rv_invariant.specs.Certificates.{reach_rule, go_entry, dead_entry, go_rule, dead_rule, entry_rule, entry_forms, entries_rule, location_of, after_front}
+use Rattle.rv_invariant.specs.Certificates.{reach_rule, go_entry, dead_entry, go_rule, dead_rule, entry_rule, entry_forms, entries_rule, location_of}
+use Rattle.rv_invariant.specs.Certificates.{after_front}
 use Rattle.rv_invariant.specs.Certificates.{location_rule, locations_rule, first_record, last_record, bits_rule, columns_rule, head_rule, all_locations}
 use Rattle.rv_invariant.specs.Certificates.{certificate_records, certificate_rule, BeginsCertificate}
 use Rattle.rv_invariant.specs.Naming.{bit_text, bit_texts, column_text, column_texts}
-use Rattle.rv_invariant.specs.{declared.counts.Shape.Shape, declared.fronts.Front.Front, declared.fronts.Lists.Lists, Continues.Known, Continues.Then, Shapes.shape}
+use Rattle.rv_invariant.specs.{declared.counts.Shape.Shape, declared.fronts.Front.Front, declared.fronts.Lists.Lists, Continues.Known, Continues.Then}
+use Rattle.rv_invariant.specs.{Shapes.shape}
 use Rattle.rv_invariant.proofs.Documented.{bit-plain, column-plain, each-plain}
 use Rattle.rv_invariant.proofs.Going.{entries-none, entries-suc, locations-none, locations-suc}
 use Rattle.rv_invariant.proofs.Grouping.{all-right, two, three}
-use Rattle.rv_invariant.proofs.{Choices.form-left, Choices.form-right, Fitting.documents-fit, Fitting.documents-written, Knowing.front-fits, Located.document-exists}
+use Rattle.rv_invariant.proofs.{Choices.form-left, Choices.form-right, Fitting.documents-fit, Fitting.documents-written, Knowing.front-fits}
+use Rattle.rv_invariant.proofs.{Located.document-exists}
 use Rattle.rv_invariant.proofs.{Ranging.KeptRow, Spelling.below-right, Standing.by-kind, Standing.row-right}
 
 -- ---- Rules that are alive.

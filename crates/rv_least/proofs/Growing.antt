@@ -1,5 +1,6 @@
 -- A claim grows by what all valuations do that it takes, until it is closed.
-use Rattle.std.proofs.Common.{◌≡◌, ℕ, ◌+◌, ◌<◌, ◌≤◌, ℤ, pos, negsuc, ◌-ℤ◌, ◌*ℤ◌, ◌≤ℤ◌, Bool, true, false, ◌||◌, cond, List, length, Option, Some, IsTrue, arith, refl, sym}
+use Rattle.std.proofs.Common.{◌≡◌, ℕ, ◌+◌, ◌<◌, ◌≤◌, ℤ, pos, negsuc, ◌-ℤ◌, ◌*ℤ◌, ◌≤ℤ◌, Bool, true, false, ◌||◌, cond, List, length, Option, Some, IsTrue, arith}
+use Rattle.std.proofs.Common.{refl, sym}
 use Rattle.std.proofs.Common.{ap, ◌∙◌, subst, ◌⊎◌, ⊎_elim, inl, inr, None as Nothing}
 use Rattle.std.proofs.{lemmas.Int.ints, lemmas.Bool.cases_lt, lemmas.Bool.cases_Bool, lemmas.Bool.or_parts, lemmas.Option.none-some, lemmas.List.get_or_past}
 use Rattle.std.specs.List.{Contains}
@@ -18,7 +19,8 @@ use Rattle.rv_least.specs.Rounds.{AreSteps, IsRound, IsSettled, IsLeastOf}
 use Rattle.rv_base.proofs.Truths.{either_then}
 
 -- risen limits stay among the thresholds, none has fallen, and each holds afterwards
-module _ (s : System) (c : BoxClaim) (thresholds : List ℤ) (sign : ℤ) (old new : List (Option ℤ)) (are : AreRisen s c thresholds sign (length old) old new) where
+module _ (s : System) (c : BoxClaim) (thresholds : List ℤ) (sign : ℤ) (old new : List (Option ℤ))
+    (are : AreRisen s c thresholds sign (length old) old new) where
   none_past : (k : ℕ) (b : ℤ) → length old ≤ k → limit_at new k ≡ Some b → ⊥
   none_past k b m at = let size = are.size in none-some b (sym (get_or_past new k Nothing (omega (arith, size, m))) ∙ at)
 

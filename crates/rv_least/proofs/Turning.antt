@@ -2,7 +2,8 @@
 use Rattle.std.proofs.Common.{◌≡◌, ℕ, ◌+◌, ◌<◌, ◌≤◌, ◌^◌, ℤ, pos, ◌*ℤ◌, List, [], ◌∷◌, ◌++◌, length, true, false, Some, slice_get, arith, sym, ap, ◌∙◌}
 use Rattle.std.proofs.Common.{subst, Bool, get_or, refl, ◌⊎◌, inl, inr}
 use Rattle.std.proofs.lemmas.Option.{get_or_from_slice_get}
-use Rattle.std.proofs.lemmas.{Bool.cases_lt, List.length_push, List.get_or_push, List.get_or_append_left, List.Elements.All-nil, List.Elements.All-weaker, List.Elements.All-from_get_or, Int.ints}
+use Rattle.std.proofs.lemmas.{Bool.cases_lt, List.length_push, List.get_or_push, List.get_or_append_left, List.Elements.All-nil, List.Elements.All-weaker}
+use Rattle.std.proofs.lemmas.{List.Elements.All-from_get_or, Int.ints}
 use Rattle.std.specs.Int.RustNames.{unsigned_abs}
 use Rattle.rv_diagram.specs.{declared.Triple.Triple, Nodes.Valuation, Nodes.Diagrams, Nodes.value_of, Several.ref_at}
 use Rattle.rv_diagram.specs.Growing.{Extends}

@@ -189,7 +189,8 @@ module _ (f : Flat) (now : State) (inputs : List Value) (row : Row) (state : IsS
       let own : slice_get (map (λ (x : Kept). x.kind) (map (kept_of f.memories) f.memories)) m ≡ Some j = ap (λ ks. slice_get ks m) same_kinds ∙ is in
       let test = subst (λ xs. item_fits (system_of f) (length (flow_items f)) j (nth_item xs m) ≡ true) (items_kept f.memories f.memories)
       (memory_test (system_of f) (map (kept_of f.memories) f.memories) m j f.memories_fit own) in
-      let parts = both_of (clock_fits (system_of f) (length (flow_items f)) body.clock) (fits (system_of f) (length (flow_items f)) body.clock j body.body) test in
+      let parts = both_of (clock_fits (system_of f) (length (flow_items f)) body.clock) (fits (system_of f) (length (flow_items f)) body.clock j body.body)
+          test in
       value_fits (system_of f) (found_at now inputs) row kept_fits given_fits (length (flow_items f)) (λ c low. clock_there c (omega (arith, many, low)))
       (λ c i low. flows_are_fit c (omega (arith, many, low)) i)
       body.clock j body.body parts.1 on

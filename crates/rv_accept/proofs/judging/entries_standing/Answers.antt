@@ -35,4 +35,5 @@ loop-j-preserved c = record {
 
 pub returns-clause-exact : goal.returns-clause-exact
 returns-clause-exact c = λ s g w li. subst (λ (n : ℕ). AreStanding s c.args.certificate.now c.args.location.now n c.loop-j.worst)
-    (let e : c.loop-j.j ≡ length c.args.location.now.entries = omega (arith, c.loop-j-test.false, c.len-j-end.ensures) in e) (c.loop-j.invariant.standing s g w li)
+    (let e : c.loop-j.j ≡ length c.args.location.now.entries = omega (arith, c.loop-j-test.false, c.len-j-end.ensures) in e)
+        (c.loop-j.invariant.standing s g w li)

@@ -11,7 +11,8 @@ returns-clause-left c = map_ok c.judgment.result (λ o. (s : System) → IsGiven
     (λ o h s g. left_when s c.args.certificate.now o (h s g)) c.judgment.ensures.exact
 
 pub returns-clause-accepted : goal.returns-clause-accepted
-returns-clause-accepted c = map_ok c.judgment.result (λ o. (s : System) → IsGiven s c.args.store.now c.args.parts.now c.args.questions.now c.args.certificate.now
+returns-clause-accepted c = map_ok c.judgment.result (λ o. (s : System)
+    → IsGiven s c.args.store.now c.args.parts.now c.args.questions.now c.args.certificate.now
     → MatchOption o ((left : List ℕ) → IsMarked s c.args.certificate.now left → ⊥) (IsMarked s c.args.certificate.now)) _
     (λ o h s g. accepted_when s c.args.certificate.now o (h s g)) c.judgment.ensures.exact
 

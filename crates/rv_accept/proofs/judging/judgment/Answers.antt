@@ -24,7 +24,8 @@ left_locations-requires c = let (s, g) = c.requires.given in record {
 }
 
 pub returns-in-Some-clause-exact : goal.returns-in-Some-clause-exact
-returns-in-Some-clause-exact c = λ s g left m. not_initial s c.args.certificate.now c.in-Some.field-0 (rw c.in-Some.is at (c.in_ok-missing.ensures.exact s g.held g.range))
+returns-in-Some-clause-exact c = λ s g left m. not_initial s c.args.certificate.now c.in-Some.field-0
+    (rw c.in-Some.is at (c.in_ok-missing.ensures.exact s g.held g.range))
     m.partition.initial
 
 pub returns-then-not-apart-clause-exact : goal.returns-then-not-apart-clause-exact

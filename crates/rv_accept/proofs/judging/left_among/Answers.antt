@@ -5,7 +5,8 @@ use Rattle.rv_accept.proofs.Judgment.{located_start, located_more}
 use Rattle.rv_accept.proofs.judging.left_among.Goals as goal
 
 pub loop-k-init : goal.loop-k-init
-loop-k-init c = record { same = refl; located = λ s g li. subst (λ (l : List ℕ). AreLocated s c.args.certificate.now 0 l) (sym c.new-left.ensures) (located_start s c.args.certificate.now) }
+loop-k-init c = record { same = refl; located = λ s g li. subst (λ (l : List ℕ). AreLocated s c.args.certificate.now 0 l) (sym c.new-left.ensures)
+    (located_start s c.args.certificate.now) }
 
 pub location_standing-requires-clause-given : goal.location_standing-requires-clause-given
 location_standing-requires-clause-given c = let (s, g, li) = c.requires.given in (

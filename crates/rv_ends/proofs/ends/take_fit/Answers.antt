@@ -15,7 +15,8 @@ returns-clause-exact c =
     let test = simp to_z-of_z at c.is_below-is_high.ensures in
     let exact = simp to_z-of_z at c.bound_column.ensures.exact in
     let old = c.args.store.now.nodes in
-    let here : MatchBool c.is_below-is_high.result (pos 0 <ℤ coefficient c.in-Some.column c.args.row.now) (coefficient c.in-Some.column c.args.row.now ≤ℤ pos 0) =
+    let here : MatchBool c.is_below-is_high.result (pos 0 <ℤ coefficient c.in-Some.column c.args.row.now)
+        (coefficient c.in-Some.column c.args.row.now ≤ℤ pos 0) =
     subst (λ (z : ℤ). MatchBool c.is_below-is_high.result (pos 0 <ℤ z) (z ≤ℤ pos 0)) c.number_at.ensures test in
     on_ok_weaker c.bound_column.result
     (cut_as old c.bound_column.new.store.nodes c.args.ends.now c.bound_column.new.ends

@@ -9,7 +9,8 @@ cut-requires-clause-trace c =
     let s = c.args.source.now in
     let f = c.args.flat.now in
     let p = program_tree s.program in
-    let of = observed p s.typed s.order (c.fitting_sources.ensures s) (λ m text settled. c.well_formed_programs.ensures p m s.typed text settled) f c.requires.flat in
+    let of = observed p s.typed s.order (c.fitting_sources.ensures s) (λ m text settled. c.well_formed_programs.ensures p m s.typed text settled) f
+        c.requires.flat in
     c.flat_traces.ensures.back p (name_at p s.typed.main) f c.args.trace of.well of.named of.flat (c.in_ok-is.ensures.trace c.if-is.true)
 
 pub returns-then-is-clause-missing : goal.returns-then-is-clause-missing
@@ -20,6 +21,7 @@ returns-clause-missing c e trace k falsified =
     let s = c.args.source.now in
     let f = c.args.flat.now in
     let p = program_tree s.program in
-    let of = observed p s.typed s.order (c.fitting_sources.ensures s) (λ m text settled. c.well_formed_programs.ensures p m s.typed text settled) f c.requires.flat in
+    let of = observed p s.typed s.order (c.fitting_sources.ensures s) (λ m text settled. c.well_formed_programs.ensures p m s.typed text settled) f
+        c.requires.flat in
     let is = c.in_ok-is.ensures.only (c.flat_traces.ensures.flat p (name_at p s.typed.main) f c.args.trace of.well of.named of.flat trace) in
     absurd (true≢false (sym is ∙ c.if-is.false))

@@ -26,7 +26,8 @@ returns-in_ok-trace-in-Some-clause-falsifies c = λ t e.
     let p = program_tree s.program in
     let f : Flat = c.args.reading.now.flat.now in
     let words : List (List Bool) = c.in-Some.words in
-    let of = observed p s.typed s.order (c.fitting_sources.ensures s) (λ m text settled. c.well_formed_programs.ensures p m s.typed text settled) f c.requires.flat in
+    let of = observed p s.typed s.order (c.fitting_sources.ensures s) (λ m text settled. c.well_formed_programs.ensures p m s.typed text settled) f
+        c.requires.flat in
     let laws : Laws = record {
       instants = record { instant = c.run_is_instants.ensures.instant; assertions = c.run_is_instants.ensures.assertions };
       states = record { some = c.states_of_run.ensures.some; start = c.states_of_run.ensures.start; next = c.states_of_run.ensures.next };
@@ -51,7 +52,8 @@ returns-in_ok-trace-in-Some-clause-shortest c = λ t thresholds bad e.
     let p = program_tree s.program in
     let f : Flat = c.args.reading.now.flat.now in
     let words : List (List Bool) = c.in-Some.words in
-    let of = observed p s.typed s.order (c.fitting_sources.ensures s) (λ m text settled. c.well_formed_programs.ensures p m s.typed text settled) f c.requires.flat in
+    let of = observed p s.typed s.order (c.fitting_sources.ensures s) (λ m text settled. c.well_formed_programs.ensures p m s.typed text settled) f
+        c.requires.flat in
     let laws : Laws = record {
       instants = record { instant = c.run_is_instants.ensures.instant; assertions = c.run_is_instants.ensures.assertions };
       states = record { some = c.states_of_run.ensures.some; start = c.states_of_run.ensures.start; next = c.states_of_run.ensures.next };
@@ -75,7 +77,8 @@ returns-in_ok-trace-in-Some-clause-exactly c = λ thresholds bad.
     let p = program_tree s.program in
     let f : Flat = c.args.reading.now.flat.now in
     let words : List (List Bool) = c.in-Some.words in
-    let of = observed p s.typed s.order (c.fitting_sources.ensures s) (λ m text settled. c.well_formed_programs.ensures p m s.typed text settled) f c.requires.flat in
+    let of = observed p s.typed s.order (c.fitting_sources.ensures s) (λ m text settled. c.well_formed_programs.ensures p m s.typed text settled) f
+        c.requires.flat in
     let laws : Laws = record {
       instants = record { instant = c.run_is_instants.ensures.instant; assertions = c.run_is_instants.ensures.assertions };
       states = record { some = c.states_of_run.ensures.some; start = c.states_of_run.ensures.start; next = c.states_of_run.ensures.next };

@@ -19,4 +19,5 @@ returns-clause-taken c s f is frame variables kept steps =
     let n = steps.next in
     let took = c.in_ok-fresh.ensures.taken s variables kept.control n.control in
     round_taken s is f frame c.args.claim.now c.take_set.new.claim c.take_limits-changed.new.claim kept c.args.steps steps c.in_ok-fresh.fresh took
-    c.take_limits-changed.ensures.reached c.take_limits-changed.ensures.upper c.take_limits-changed.ensures.lower c.take_limits-changed.result c.take_limits-changed.ensures.changed
+    c.take_limits-changed.ensures.reached c.take_limits-changed.ensures.upper c.take_limits-changed.ensures.lower c.take_limits-changed.result
+        c.take_limits-changed.ensures.changed

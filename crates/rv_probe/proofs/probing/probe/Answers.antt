@@ -11,7 +11,8 @@ returns-then-not-have_values-clause-exactly c =
     let s = c.args.source.now in
     let p = program_tree s.program in (
       λ e h.
-          let have = some_values p s.typed s.order (c.fitting_sources.ensures s) (λ m text settled. c.well_formed_programs.ensures p m s.typed text settled) c.args.flat.now
+          let have = some_values p s.typed s.order (c.fitting_sources.ensures s) (λ m text settled. c.well_formed_programs.ensures p m s.typed text settled)
+              c.args.flat.now
           c.requires.flat
           c.flat_states.ensures.back c.flat_states.ensures.given h in
           grind arith,

@@ -24,7 +24,8 @@ returns-in-Some-clause-found c = λ t e.
     let f = c.args.flat.now in
     let p = program_tree s.program in
     let made = c.in_ok-trace.ensures ∙ ap (probe_of f c.args.truth) (to_z-of_z w128 c.args.number c.ranges.number) in
-    let whole = whole_trace p s.typed s.order (c.fitting_sources.ensures s) (λ m text settled. c.well_formed_programs.ensures p m s.typed text settled) f c.requires.flat
+    let whole = whole_trace p s.typed s.order (c.fitting_sources.ensures s) (λ m text settled. c.well_formed_programs.ensures p m s.typed text settled) f
+        c.requires.flat
     c.flat_traces.ensures.back c.args.truth
     c.args.number c.requires.values c.requires.number in
     cut_probe p (name_at p s.typed.main) f c.args.truth c.args.number whole c.in_ok-trace.trace made c.in-Some.last

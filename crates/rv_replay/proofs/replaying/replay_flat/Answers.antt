@@ -21,7 +21,8 @@ pub play-requires-clause-trace : goal.play-requires-clause-trace
 play-requires-clause-trace c =
     let s = c.args.source.now in
     let p = program_tree s.program in
-    let of = observed p s.typed s.order (c.fitting_sources.ensures s) (λ m text settled. c.well_formed_programs.ensures p m s.typed text settled) c.args.flat.now
+    let of = observed p s.typed s.order (c.fitting_sources.ensures s) (λ m text settled. c.well_formed_programs.ensures p m s.typed text settled)
+        c.args.flat.now
     c.requires.flat in
     flat_trace p (name_at p s.typed.main) c.args.trace.now c.requires.trace c.flat_states.ensures.back c.flat_states.ensures.given c.args.flat.now of.well
     of.named of.flat

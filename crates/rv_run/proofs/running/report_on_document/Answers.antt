@@ -4,7 +4,8 @@ use Rattle.rv_tree.specs.{Tree.ProgramTree, Tree.program_tree, Places.Identifier
 use Rattle.rv_types.specs.{Instances.name_at, Lists.sites_of}
 use Rattle.rv_meaning.specs.Runs.{IsSafe}
 use Rattle.rv_run.specs.{Answers.IsRefusalUnlessCutOff, declared.report.Report.TheVariants.Memory, declared.report.Report.TheVariants.ReadFault}
-use Rattle.rv_run.specs.{Checked.IsDocumentAnswer, Checked.IsDocumentReport, Checked.IsReportOf, Checked.SaysOf, Programs.HasManyVariables, Programs.IsProgram, Programs.WithRuns}
+use Rattle.rv_run.specs.{Checked.IsDocumentAnswer, Checked.IsDocumentReport, Checked.IsReportOf, Checked.SaysOf, Programs.HasManyVariables, Programs.IsProgram}
+use Rattle.rv_run.specs.{Programs.WithRuns}
 use Rattle.rv_run.proofs.Attached.{document_said, document_told, long-not_said, long_said, whole-not_long}
 use Rattle.rv_run.proofs.Judging.{with_runs}
 use Rattle.rv_run.proofs.Reported.{answer-of_document, answer-reports, cut_memory, cut_read_fault, document-not_long, document-not_read_fault}
