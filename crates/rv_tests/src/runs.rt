@@ -38,7 +38,8 @@ const CHECK: &str = "reaver check f m t";
 /// `replay`: the text of `f` and that of `t`, whose trace is replayed over the node `m` of `f`, where nothing fails. In a trace a
 /// `^` stands for a carriage return;
 /// `check`: the same of an invariant, which is checked;
-/// `found`: the text of `f`, whose node `m` is proved, and what is shown of it checked where it is Safe, and else replayed;
+/// `found`: the text of `f`, whose node `m` is proved, and what is shown of it checked where it is Safe, and else replayed, with `last`
+/// behind what is shown where that is Falsified at the trace's last instant;
 /// `changed`: the text of `f`, and changes of what is proved of its node `m`, each the number of a record, a `=` and what stands in its place;
 /// the file with each change is checked;
 /// `replaylong`: what `replay` does, the trace told by its front, a part, how often it is repeated, and the back;
@@ -190,17 +191,32 @@ fn done_over(
     ran_failing(alloc, &words, &[], &[], &mut files)
 }
 
-/// What the check or the replay of what `prove` shows of these bytes of a source does.
+/// What the check or the replay of what `prove` shows of these bytes of a source does. Of a trace it is told besides where its replay
+/// says Falsified at its last instant.
 fn found_again(alloc: Global, source: &[u8]) -> Result<String, Memory> {
     let words = words_of(alloc, PROVE)?;
     let mut files = files_of(alloc, source)?;
     let mut out = MemorySink::new(alloc);
     let outcome = run_in_memory(alloc, &words, &mut files, &mut out);
-    let command = match outcome.report {
-        Report::Safe(_) => CHECK,
-        _ => REPLAY,
-    };
-    done_over(alloc, command, source, out.bytes())
+    match &outcome.report {
+        Report::Safe(_) => done_over(alloc, CHECK, source, out.bytes()),
+        Report::Violated(trace) => {
+            let answer = done_over(alloc, REPLAY, source, out.bytes())?;
+            told_last(alloc, answer, trace.instants.len())
+        }
+        _ => done_over(alloc, REPLAY, source, out.bytes()),
+    }
+}
+
+/// The answer on a trace of so many instants, with a word more where it is Falsified at the last of them.
+fn told_last(alloc: Global, answer: String, instants: usize) -> Result<String, Memory> {
+    let last = instants.saturating_sub(1);
+    let wanted = format!(in alloc; "falsified whole 0 reaver,falsified,{last}`")?;
+    let mut text = answer;
+    if text.as_bytes() == wanted.as_bytes() {
+        text.push_str("last")?;
+    }
+    Ok(text)
 }
 
 /// What the check of what `prove` shows of a source does where a record is changed, for each of the changes.
