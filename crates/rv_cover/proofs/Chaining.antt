@@ -41,7 +41,7 @@ cover_later a b f n c e is = record {
 }
 
 -- one entry more
-pub short_more : (f : Frame) (n : ℕ) (es more : List Entry) (condition : Frozen) (kind : EntryKind) → AreShortEntries f n es → length es < 4096
+pub short_more : (f : Frame) (n : ℕ) (es more : List Entry) (condition : Frozen) (kind : EntryKind) → AreShortEntries f n es → length es < 16384
     → IsReadable f condition → IsPlainKind n kind → more ≡ es ++ (record { condition = condition; kind = kind }) ∷ [] → AreShortEntries f n more
 short_more f n es more condition kind are low read plain is = subst (AreShortEntries f n) (sym is) (record {
   few = let size = length_push es new in omega (arith, low, size);

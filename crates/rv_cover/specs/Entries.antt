@@ -21,9 +21,9 @@ pub record IsPlainEntry (f : Frame) (n : ℕ) (e : Entry) : Type 0 where
   pub condition : IsReadable f e.condition
   pub kind : IsPlainKind n e.kind
 
--- At most 4,096 such entries.
+-- At most 16,384 such entries.
 pub record AreShortEntries (f : Frame) (n : ℕ) (es : List Entry) : Type 0 where
-  pub few : length es ≤ 4096
+  pub few : length es ≤ 16384
   pub each : (j : ℕ) (e : Entry) → slice_get es j ≡ Some e → IsPlainEntry f n e
 
 -- What happens somewhere, with multipliers on so many premises, and answers in a list of nodes.

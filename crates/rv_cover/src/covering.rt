@@ -23,10 +23,10 @@ use rv_rows::Row;
 use std::alloc::Global;
 
 /// As many entries as a location may have here.
-const MOST: usize = 4_096;
+const MOST: usize = 16_384;
 
 /// As many turns as may be needed to find these entries, and that nothing is left.
-const TURNS: usize = 4_097;
+const TURNS: usize = 16_385;
 
 /// Entries, and what they leave of a location's scope.
 #[derive(Drop)]
