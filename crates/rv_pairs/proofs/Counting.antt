@@ -1,9 +1,12 @@
 -- Rows that count at a valuation.
-use Rattle.std.proofs.Common.{◌≡◌, ◌≢◌, ℕ, zero, suc, ◌+◌, ◌<◌, ◌≤◌, ◌^◌, Bool, true, false, cond, List, [], ◌∷◌, ◌++◌, length, map, take, drop, slice_get, Some, All, if◌then◌else◌}
-use Rattle.std.proofs.Common.{Option, pos, arith, refl, sym, ap, ◌∙◌, subst, ◌⊎◌, inl, inr, None as Nothing}
+use Rattle.std.proofs.Common.{◌≡◌, ◌≢◌, ℕ, zero, suc, ◌+◌, ◌<◌, ◌≤◌, ◌^◌, Bool, true, false, cond, List, [], ◌∷◌, ◌++◌, length, map, take, drop, slice_get}
+use Rattle.std.proofs.Common.{Some, if◌then◌else◌}
+use Rattle.std.proofs.Common.{pos, arith, refl, sym, ap, ◌∙◌, subst, ◌⊎◌, inl, inr}
 use Rattle.std.proofs.lemmas.List.{append-nil, append_assoc, map-append, take-append-drop}
-use Rattle.std.proofs.lemmas.List.Elements.{All-weaker, All-head, All-tail, All-nil, All-push, filter-append, Contains-push_cases, Contains-push, Contains-append_left}
-use Rattle.std.proofs.{lemmas.Bool.cases_eq, lemmas.Bool.cases_lt, lemmas.Bool.cases_Bool, lemmas.Bool.false_from_ne_true, lemmas.Option.slice_get-get_or, lemmas.Option.get_or_from_slice_get, lemmas.Option.slice_get_within}
+use Rattle.std.proofs.lemmas.List.Elements.{All-weaker, All-head, All-tail, All-push, filter-append, Contains-push_cases, Contains-push}
+use Rattle.std.proofs.lemmas.List.Elements.{Contains-append_left}
+use Rattle.std.proofs.{lemmas.Bool.cases_eq, lemmas.Bool.cases_lt, lemmas.Bool.false_from_ne_true, lemmas.Option.slice_get-get_or}
+use Rattle.std.proofs.{lemmas.Option.get_or_from_slice_get, lemmas.Option.slice_get_within}
 use Rattle.std.specs.List.{filter, Contains}
 use Rattle.rv_rows.specs.{declared.linear.Row.Row, Rows.row_at, Rows.RowWithin}
 use Rattle.rv_diagram.specs.{declared.Triple.Triple, Nodes.Valuation, Nodes.Diagrams, Nodes.IsRef, Nodes.value_of, Growing.Extends}
@@ -25,7 +28,8 @@ pub active_push : (nodes : List Triple) (labels : List Labelled) (l : Labelled) 
     → active nodes (labels ++ l ∷ []) v ≡ active nodes labels v ++ row_where (value_of nodes l.under v) l.row
 active_push nodes labels l v =
     ap (λ (ls : List Labelled). map (λ (x : Labelled). x.row) ls) (filter-append (λ (x : Labelled). value_of nodes x.under v) labels (l ∷ []))
-    ∙ map-append (λ (x : Labelled). x.row) (filter (λ (x : Labelled). value_of nodes x.under v) labels) (filter (λ (x : Labelled). value_of nodes x.under v) (l ∷ []))
+    ∙ map-append (λ (x : Labelled). x.row) (filter (λ (x : Labelled). value_of nodes x.under v) labels)
+    (filter (λ (x : Labelled). value_of nodes x.under v) (l ∷ []))
     ∙ ap (λ (rs : List Row). active nodes labels v ++ rs) (one_active nodes l v)
 
 pub active_more : (nodes : List Triple) (labels : List Labelled) (n : ℕ) (l : Labelled) (v : Valuation) → slice_get labels n ≡ Some l
@@ -76,8 +80,10 @@ active_stays old new (l ∷ ls) e are v = go (value_of new.nodes l.under v) (val
     (active_stays old new ls e (All-tail (IsLabel old.nodes) l ls are) v)
   where
     go : (a b : Bool) → a ≡ b → active new.nodes ls v ≡ active old.nodes ls v
-        → map (λ (x : Labelled). x.row) (cond a (l ∷ filter (λ (x : Labelled). value_of new.nodes x.under v) ls) (filter (λ (x : Labelled). value_of new.nodes x.under v) ls))
-        ≡ map (λ (x : Labelled). x.row) (cond b (l ∷ filter (λ (x : Labelled). value_of old.nodes x.under v) ls) (filter (λ (x : Labelled). value_of old.nodes x.under v) ls))
+        → map (λ (x : Labelled). x.row) (cond a (l ∷ filter (λ (x : Labelled). value_of new.nodes x.under v) ls)
+        (filter (λ (x : Labelled). value_of new.nodes x.under v) ls))
+        ≡ map (λ (x : Labelled). x.row) (cond b (l ∷ filter (λ (x : Labelled). value_of old.nodes x.under v) ls)
+        (filter (λ (x : Labelled). value_of old.nodes x.under v) ls))
     go true true same h = ap (λ (rs : List Row). l.row ∷ rs) h
     go false false same h = h
     go true false same h = cc
@@ -109,7 +115,8 @@ one_answered p f j (suc n) l here others = go (cases_eq n j) (λ (m : j < n). on
   where
     go : (n ≡ j) ⊎ (n ≢ j) → (j < n → answered p f n ≡ f j ∷ []) → answered p f (suc n) ≡ f j ∷ []
     go (inl e) before =
-        ap (λ (rs : List Row). rs ++ row_where (p n) (f n)) (none_answered p f n (λ k m. others k (omega (arith, m)) (λ (same : k ≡ j). absurd (omega (arith, m, same, e)))))
+        ap (λ (rs : List Row). rs ++ row_where (p n) (f n)) (none_answered p f n
+        (λ k m. others k (omega (arith, m)) (λ (same : k ≡ j). absurd (omega (arith, m, same, e)))))
         ∙ ap (λ (b : Bool). [] ++ row_where b (f n)) (ap p e ∙ here) ∙ ap (λ (k : ℕ). f k ∷ []) e
     go (inr ne) before =
         ap (λ (b : Bool). answered p f n ++ row_where b (f n)) (others n (omega arith) ne) ∙ append-nil (answered p f n)

@@ -1,13 +1,15 @@
 -- A left side that is moved column by column, and what is shown of it after the updates.
-use Rattle.std.proofs.Common.{◌≡◌, ◌⊎◌, ℕ, zero, suc, ◌+◌, ◌*◌, ◌<◌, ◌≤◌, ◌^◌, ℤ, pos, ◌+ℤ◌, ◌-ℤ◌, ◌*ℤ◌, ◌≤ℤ◌, Bool, true, ◌&&◌, List, [], ◌∷◌, ◌++◌, length, map, take, get_or, All, Option, Some, slice_get}
+use Rattle.std.proofs.Common.{◌≡◌, ◌⊎◌, ℕ, zero, suc, ◌+◌, ◌*◌, ◌<◌, ◌≤◌, ◌^◌, ℤ, pos, ◌+ℤ◌, ◌-ℤ◌, ◌*ℤ◌, ◌≤ℤ◌, Bool, true, ◌&&◌, List, [], ◌∷◌, ◌++◌, length}
+use Rattle.std.proofs.Common.{map, take, get_or, All, Option, Some, slice_get}
 use Rattle.std.proofs.Common.{arith, refl, sym, ap, ◌∙◌, subst, inl, inr}
-use Rattle.std.proofs.{lemmas.Int.ints, lemmas.Int.unsigned_abs-mul, lemmas.Bool.cases_lt, lemmas.Bool.cases_eq, lemmas.Bool.and_parts, lemmas.Bool.and_from, Math.IntN.zero-*ℤ, Math.IntN.+ℤ_assoc, lemmas.Option.get_or_from_slice_get, lemmas.Option.slice_get_within}
+use Rattle.std.proofs.{lemmas.Int.ints, lemmas.Int.unsigned_abs-mul, lemmas.Bool.cases_lt, lemmas.Bool.cases_eq, lemmas.Bool.and_parts, lemmas.Bool.and_from}
+use Rattle.std.proofs.{Math.IntN.zero-*ℤ, Math.IntN.+ℤ_assoc, lemmas.Option.get_or_from_slice_get, lemmas.Option.slice_get_within}
 use Rattle.std.proofs.lemmas.List.{length-map, get_or-map, get_or_past, take_all}
 use Rattle.std.proofs.lemmas.List.Elements.{All-weaker, All-from_get_or}
 use Rattle.std.specs.Int.RustNames.{unsigned_abs}
 use Rattle.rv_base.specs.Limits.{heaviest}
 use Rattle.rv_rows.specs.Multipliers.{ShowsAtOnce, by_none, by_one, by_two}
-use Rattle.rv_rows.specs.{declared.linear.Row.Row, declared.linear.Form.Form, Rows.coefficient, Rows.dot, Rows.row_at}
+use Rattle.rv_rows.specs.{declared.linear.Row.Row, declared.linear.Form.Form, Rows.coefficient, Rows.dot}
 use Rattle.rv_rows.specs.{Forms.number, Forms.FormWithin, Forms.IsSubstituted, Forms.forms_width, Forms.IsSum, Forms.IsMultiple, Forms.CanAdd, Forms.CanScale}
 use Rattle.rv_rows.specs.Arithmetic.{zeros}
 use Rattle.rv_diagram.specs.{declared.Triple.Triple, Nodes.Valuation, Nodes.Diagrams, Nodes.IsRef, Nodes.value_of, Growing.Extends}
@@ -228,88 +230,95 @@ added_within m n a b f (sides, constant) (others, other) is = (
   subst (λ (c : ℤ). unsigned_abs c ≤ m + n) (sym is.constant) (abs_sum a.constant b.constant m n constant other),
 )
 
--- WHERE THE REFERENCE IS TRUE
+-- WHERE BOTH REFERENCES ARE TRUE
 
-pub form_shows : (s : System) (nodes : List Triple) (labels : List Labelled) (inside : ℕ) (numbers : List ℤ) (first column : ℕ) (f : Form) (z : ℤ)
+pub form_shows : (s : System) (nodes : List Triple) (labels : List Labelled) (taken inside : ℕ) (numbers : List ℤ) (first column : ℕ) (f : Form) (z : ℤ)
     → IsSystem s → 0 < s.memories → length numbers ≡ s.memories → first ≤ column → column ≡ length numbers
-    → ((k : ℕ) → first ≤ k → k < column → number k numbers ≡ pos 0) → IsMovedIn s nodes inside numbers first f → ShowForm nodes labels inside f z
-    → HoldsAfter s nodes labels inside numbers z
-form_shows s nodes labels inside numbers first column f z system some many l e none moved h v on =
+    → ((k : ℕ) → first ≤ k → k < column → number k numbers ≡ pos 0) → IsMovedIn s nodes inside numbers first f → ShowForm nodes labels taken inside f z
+    → HoldsAfter s nodes labels taken inside numbers z
+form_shows s nodes labels taken inside numbers first column f z system some many l e none moved h v there on =
     shown_after s v numbers f (active nodes labels v) z system some
     (subst (λ (ns : List ℤ). IsMoved s v ns f) (take_all column numbers (omega (arith, e)))
-    (moved_skip s v numbers first column f many l (omega (arith, e)) none (moved v on))) (h v on)
+    (moved_skip s v numbers first column f many l (omega (arith, e)) none (moved v on))) (h v there on)
 
-pub shows_form : (s : System) (nodes : List Triple) (labels : List Labelled) (inside : ℕ) (numbers : List ℤ) (first column : ℕ) (f : Form) (z : ℤ)
+pub shows_form : (s : System) (nodes : List Triple) (labels : List Labelled) (taken inside : ℕ) (numbers : List ℤ) (first column : ℕ) (f : Form) (z : ℤ)
     → length numbers ≡ s.memories → first ≤ column → column ≡ length numbers
     → ((k : ℕ) → first ≤ k → k < column → number k numbers ≡ pos 0) → IsMovedIn s nodes inside numbers first f
-    → HoldsAfter s nodes labels inside numbers z → ShowForm nodes labels inside f z
-shows_form s nodes labels inside numbers first column f z many l e none moved h v on =
+    → HoldsAfter s nodes labels taken inside numbers z → ShowForm nodes labels taken inside f z
+shows_form s nodes labels taken inside numbers first column f z many l e none moved h v there on =
     after_shown s v numbers f (active nodes labels v) z
     (subst (λ (ns : List ℤ). IsMoved s v ns f) (take_all column numbers (omega (arith, e)))
-    (moved_skip s v numbers first column f many l (omega (arith, e)) none (moved v on))) (h v on)
+    (moved_skip s v numbers first column f many l (omega (arith, e)) none (moved v on))) (h v there on)
 
 -- one answer more
-pub holds_up : (s : System) (nodes : List Triple) (labels : List Labelled) (inside : ℕ) (numbers : List ℤ) (answers : List ℕ) (n : ℕ) (a b : ℤ) → a ≤ℤ b
-    → HoldsAmong s nodes labels inside numbers answers n a → HoldsAmong s nodes labels inside numbers answers n b
-holds_up s nodes labels inside numbers answers n a b l h i low v on here =
-    after_up s v numbers (active nodes labels v) a b l (h i low v on here)
+pub holds_up : (s : System) (nodes : List Triple) (labels : List Labelled) (taken inside : ℕ) (numbers : List ℤ) (answers : List ℕ) (n : ℕ) (a b : ℤ) → a ≤ℤ b
+    → HoldsAmong s nodes labels taken inside numbers answers n a → HoldsAmong s nodes labels taken inside numbers answers n b
+holds_up s nodes labels taken inside numbers answers n a b l h i low v there on here =
+    after_up s v numbers (active nodes labels v) a b l (h i low v there on here)
 
 -- the next answer, in a later store where `one` is where it is given and the reference true
-pub answer_holds : (s : System) (old new : Diagrams) (labels : List Labelled) (inside one : ℕ) (numbers : List ℤ) (answers : List ℕ) (n : ℕ) (z : ℤ)
-    → Extends old new → AreLabels old.nodes labels
+pub answer_holds : (s : System) (old new : Diagrams) (labels : List Labelled) (taken inside one : ℕ) (numbers : List ℤ) (answers : List ℕ) (n : ℕ) (z : ℤ)
+    → Extends old new → AreLabels old.nodes labels → IsRef old.nodes taken
     → ((v : Valuation) → value_of new.nodes one v ≡ (value_of old.nodes inside v && is_in old.nodes answers n v))
-    → HoldsAfter s new.nodes labels one numbers z → (v : Valuation) → value_of old.nodes inside v ≡ true → is_in old.nodes answers n v ≡ true
+    → HoldsAfter s new.nodes labels taken one numbers z → (v : Valuation) → value_of old.nodes taken v ≡ true → value_of old.nodes inside v ≡ true
+    → is_in old.nodes answers n v ≡ true
     → (row : Row) × IsSubstituted (bounded numbers z) (updates_of s v) row × ShowsAtOnce (active old.nodes labels v) row
-answer_holds s old new labels inside one numbers answers n z e are both h v on here =
-    let (row, sub, shows) = h v (both v ∙ and_from (value_of old.nodes inside v) (is_in old.nodes answers n v) on here) in
+answer_holds s old new labels taken inside one numbers answers n z e are found both h v there on here =
+    let (row, sub, shows) = h v (e.kept taken (omega (arith, found)) v ∙ there)
+    (both v ∙ and_from (value_of old.nodes inside v) (is_in old.nodes answers n v) on here) in
     (row, sub, subst (λ (rs : List Row). ShowsAtOnce rs row) (active_stays old new labels e are v) shows)
 
-pub holds_answer : (s : System) (old new : Diagrams) (labels : List Labelled) (inside one : ℕ) (numbers : List ℤ) (answers : List ℕ) (n : ℕ) (z : ℤ)
-    → Extends old new → AreLabels old.nodes labels
+pub holds_answer : (s : System) (old new : Diagrams) (labels : List Labelled) (taken inside one : ℕ) (numbers : List ℤ) (answers : List ℕ) (n : ℕ) (z : ℤ)
+    → Extends old new → AreLabels old.nodes labels → IsRef old.nodes taken
     → ((v : Valuation) → value_of new.nodes one v ≡ (value_of old.nodes inside v && is_in old.nodes answers n v))
-    → ((v : Valuation) → value_of old.nodes inside v ≡ true → is_in old.nodes answers n v ≡ true
+    → ((v : Valuation) → value_of old.nodes taken v ≡ true → value_of old.nodes inside v ≡ true → is_in old.nodes answers n v ≡ true
     → (row : Row) × IsSubstituted (bounded numbers z) (updates_of s v) row × ShowsAtOnce (active old.nodes labels v) row)
-    → HoldsAfter s new.nodes labels one numbers z
-holds_answer s old new labels inside one numbers answers n z e are both h v on =
-    let parts : (value_of old.nodes inside v ≡ true) × (is_in old.nodes answers n v ≡ true) = and_parts (value_of old.nodes inside v) (is_in old.nodes answers n v) (sym (both v) ∙ on) in
-    let (row, sub, shows) = h v parts.0 parts.1 in
+    → HoldsAfter s new.nodes labels taken one numbers z
+holds_answer s old new labels taken inside one numbers answers n z e are found both h v there on =
+    let parts : (value_of old.nodes inside v ≡ true) × (is_in old.nodes answers n v ≡ true) = and_parts (value_of old.nodes inside v)
+    (is_in old.nodes answers n v) (sym (both v) ∙ on) in
+    let (row, sub, shows) = h v (sym (e.kept taken (omega (arith, found)) v) ∙ there) parts.0 parts.1 in
     (row, sub, subst (λ (rs : List Row). ShowsAtOnce rs row) (sym (active_stays old new labels e are v)) shows)
 
-pub answers_risen : (s : System) (old new : Diagrams) (labels : List Labelled) (inside one : ℕ) (numbers : List ℤ) (answers : List ℕ) (n : ℕ)
-    (thresholds : List ℤ) (limit held : ℤ) (next : Option ℤ) → Extends old new → AreLabels old.nodes labels
+pub answers_risen : (s : System) (old new : Diagrams) (labels : List Labelled) (taken inside one : ℕ) (numbers : List ℤ) (answers : List ℕ) (n : ℕ)
+    (thresholds : List ℤ) (limit held : ℤ) (next : Option ℤ) → Extends old new → AreLabels old.nodes labels → IsRef old.nodes taken
     → ((v : Valuation) → value_of new.nodes one v ≡ (value_of old.nodes inside v && is_in old.nodes answers n v))
-    → IsRisen thresholds (HoldsAmong s old.nodes labels inside numbers answers n) (Some limit) (Some held)
-    → IsRisen thresholds (HoldsAfter s new.nodes labels one numbers) (Some held) next
-    → IsRisen thresholds (HoldsAmong s old.nodes labels inside numbers answers (n + 1)) (Some limit) next
-answers_risen s old new labels inside one numbers answers n thresholds limit held next e are both before step =
-    risen_as thresholds (λ b. HoldsAmong s old.nodes labels inside numbers answers n b × HoldsAfter s new.nodes labels one numbers b)
-    (HoldsAmong s old.nodes labels inside numbers answers (n + 1)) (Some limit) next
+    → IsRisen thresholds (HoldsAmong s old.nodes labels taken inside numbers answers n) (Some limit) (Some held)
+    → IsRisen thresholds (HoldsAfter s new.nodes labels taken one numbers) (Some held) next
+    → IsRisen thresholds (HoldsAmong s old.nodes labels taken inside numbers answers (n + 1)) (Some limit) next
+answers_risen s old new labels taken inside one numbers answers n thresholds limit held next e are found both before step =
+    risen_as thresholds (λ b. HoldsAmong s old.nodes labels taken inside numbers answers n b × HoldsAfter s new.nodes labels taken one numbers b)
+    (HoldsAmong s old.nodes labels taken inside numbers answers (n + 1)) (Some limit) next
     (λ b (first, last) i low. go b first last i low (cases_lt i n))
-    (λ b h. ((λ i low. h i (omega (arith, low))), holds_answer s old new labels inside one numbers answers n b e are both (h n (omega arith))))
-    (risen_both thresholds (HoldsAmong s old.nodes labels inside numbers answers n) (HoldsAfter s new.nodes labels one numbers) (Some limit) (Some held) next
-    (λ a b l h. holds_up s old.nodes labels inside numbers answers n a b l h) before step)
+    (λ b h. ((λ i low. h i (omega (arith, low))), holds_answer s old new labels taken inside one numbers answers n b e are found both (h n (omega arith))))
+    (risen_both thresholds (HoldsAmong s old.nodes labels taken inside numbers answers n) (HoldsAfter s new.nodes labels taken one numbers) (Some limit)
+    (Some held) next (λ a b l h. holds_up s old.nodes labels taken inside numbers answers n a b l h) before step)
   where
-    go : (b : ℤ) → HoldsAmong s old.nodes labels inside numbers answers n b → HoldsAfter s new.nodes labels one numbers b → (i : ℕ) → i < n + 1
-        → (i < n) ⊎ (n ≤ i) → (v : Valuation) → value_of old.nodes inside v ≡ true → is_in old.nodes answers i v ≡ true
+    go : (b : ℤ) → HoldsAmong s old.nodes labels taken inside numbers answers n b → HoldsAfter s new.nodes labels taken one numbers b → (i : ℕ) → i < n + 1
+        → (i < n) ⊎ (n ≤ i) → (v : Valuation) → value_of old.nodes taken v ≡ true → value_of old.nodes inside v ≡ true
+        → is_in old.nodes answers i v ≡ true
         → (row : Row) × IsSubstituted (bounded numbers b) (updates_of s v) row × ShowsAtOnce (active old.nodes labels v) row
     go b first last i low (inl less) = first i less
     go b first last i low (inr more) =
         let same : n ≡ i = omega (arith, low, more) in
-        subst (λ (k : ℕ). (v : Valuation) → value_of old.nodes inside v ≡ true → is_in old.nodes answers k v ≡ true
+        subst (λ (k : ℕ). (v : Valuation) → value_of old.nodes taken v ≡ true → value_of old.nodes inside v ≡ true → is_in old.nodes answers k v ≡ true
         → (row : Row) × IsSubstituted (bounded numbers b) (updates_of s v) row × ShowsAtOnce (active old.nodes labels v) row) same
-        (answer_holds s old new labels inside one numbers answers n b e are both last)
+        (answer_holds s old new labels taken inside one numbers answers n b e are found both last)
 
 -- all answers
-pub all_answers : (s : System) (nodes : List Triple) (labels : List Labelled) (inside : ℕ) (numbers : List ℤ) (answers : List ℕ) (n : ℕ) (z : ℤ)
-    → AreAnswers nodes answers → n ≡ length answers → HoldsAmong s nodes labels inside numbers answers n z → HoldsAfter s nodes labels inside numbers z
-all_answers s nodes labels inside numbers answers n z are e h v on = let (i, low, here) = are.covered v in h i (omega (arith, low, e)) v on here
+pub all_answers : (s : System) (nodes : List Triple) (labels : List Labelled) (taken inside : ℕ) (numbers : List ℤ) (answers : List ℕ) (n : ℕ) (z : ℤ)
+    → AreAnswers nodes answers → n ≡ length answers → HoldsAmong s nodes labels taken inside numbers answers n z
+    → HoldsAfter s nodes labels taken inside numbers z
+all_answers s nodes labels taken inside numbers answers n z are e h v there on =
+    let (i, low, here) = are.covered v in h i (omega (arith, low, e)) v there on here
 
-pub each_answer : (s : System) (nodes : List Triple) (labels : List Labelled) (inside : ℕ) (numbers : List ℤ) (answers : List ℕ) (n : ℕ) (z : ℤ)
-    → HoldsAfter s nodes labels inside numbers z → HoldsAmong s nodes labels inside numbers answers n z
-each_answer s nodes labels inside numbers answers n z h i low v on here = h v on
+pub each_answer : (s : System) (nodes : List Triple) (labels : List Labelled) (taken inside : ℕ) (numbers : List ℤ) (answers : List ℕ) (n : ℕ) (z : ℤ)
+    → HoldsAfter s nodes labels taken inside numbers z → HoldsAmong s nodes labels taken inside numbers answers n z
+each_answer s nodes labels taken inside numbers answers n z h i low v there on here = h v there on
 
 -- the sum with one memory more, where its answer is given
-pub moved_on : (s : System) (old : Diagrams) (q : Questions) (new : List Triple) (inside here first column place : ℕ) (side : List ℤ) (form other g : Form) (by : ℤ)
+pub moved_on : (s : System) (old : Diagrams) (q : Questions) (new : List Triple) (inside here first column place : ℕ) (side : List ℤ) (form other g : Form)
+    (by : ℤ)
     → AreQuestions s old q → length side ≡ s.memories → column < length side → first ≤ column
     → ((k : ℕ) → first ≤ k → k < column → number k side ≡ pos 0) → number column side ≡ by → slice_get (forms_at q.forms column) place ≡ Some other
     → ((v : Valuation) → value_of new here v ≡ (value_of old.nodes inside v && is_in old.nodes (memory_answers q column) place v))
@@ -324,7 +333,8 @@ moved_on s old q new inside here first column place side form other g by asked m
     (sides v on) (constant v on) (moved_skip s v side first column form many l (omega (arith, low)) none (moved v parts.0))
 
 -- a form whose answer is given somewhere
-pub form_given : (s : System) (old : Diagrams) (q : Questions) (new : List Triple) (inside here column place : ℕ) (other form : Form) (v : Valuation) → IsSystem s
+pub form_given : (s : System) (old : Diagrams) (q : Questions) (new : List Triple) (inside here column place : ℕ) (other form : Form) (v : Valuation)
+    → IsSystem s
     → AreQuestions s old q → column < s.memories → slice_get (forms_at q.forms column) place ≡ Some other
     → ((w : Valuation) → value_of new here w ≡ (value_of old.nodes inside w && is_in old.nodes (memory_answers q column) place w))
     → length form.coefficients ≡ s.columns → value_of new here v ≡ true
@@ -344,7 +354,8 @@ answer_found s old q column place r asked low at =
     ((asked.answers.one (length q.rows + column) (omega (arith, asked.answers.many, asked.many_memories, low))).found place
     (slice_get_within (memory_answers q column) place r at))
 
-pub answer_both : (s : System) (old mid : Diagrams) (q : Questions) (new : List Triple) (inside here column place r : ℕ) → Extends old mid → AreQuestions s old q
+pub answer_both : (s : System) (old mid : Diagrams) (q : Questions) (new : List Triple) (inside here column place r : ℕ) → Extends old mid
+    → AreQuestions s old q
     → column < s.memories → slice_get (memory_answers q column) place ≡ Some r → IsRef old.nodes inside
     → ((v : Valuation) → value_of new here v ≡ (value_of mid.nodes inside v && value_of mid.nodes r v))
     → (v : Valuation) → value_of new here v ≡ (value_of old.nodes inside v && is_in old.nodes (memory_answers q column) place v)

@@ -1,5 +1,8 @@
 pub mod Counting
-pub mod Lowering
+pub mod Keying
+pub mod Placing
+pub mod Hinting
+pub mod Silent
 pub mod Pairing
 pub mod Raising
 pub mod Following

@@ -1,16 +1,17 @@
 -- What rows show at once with one row more.
-use Rattle.std.proofs.Common.{◌≡◌, ◌↔◌, ◌⊎◌, ℕ, ◌+◌, ◌<◌, ◌≤◌, ℤ, pos, negsuc, ◌+ℤ◌, ◌≤ℤ◌, ◌<ℤ◌, Bool, true, false, ◌&&◌, List, [], ◌∷◌, ◌++◌, length, take, slice_get, Some}
-use Rattle.std.proofs.Common.{arith, refl, sym, ap, ◌∙◌, subst, inl, inr, length-append, None as Nothing}
+use Rattle.std.proofs.Common.{◌≡◌, ◌↔◌, ◌⊎◌, ℕ, ◌+◌, ◌<◌, ◌≤◌, ℤ, pos, ◌+ℤ◌, ◌≤ℤ◌, Bool, true, false, List, [], ◌∷◌, ◌++◌, length, take}
+use Rattle.std.proofs.Common.{slice_get, Some}
+use Rattle.std.proofs.Common.{arith, refl, sym, ap, ◌∙◌, subst, inl, inr, length-append}
 use Rattle.std.proofs.lemmas.List.{append-nil, get_or_append_left, get_or_push, get_or_default, get_or_past, take_all}
-use Rattle.std.proofs.lemmas.List.Elements.{Contains-get_or, Contains-append_left, All-take}
-use Rattle.std.proofs.{lemmas.Int.ints, lemmas.Bool.cases_lt, lemmas.Bool.and_parts, lemmas.Bool.and_from, lemmas.Option.none-some}
+use Rattle.std.proofs.lemmas.List.Elements.{Contains-get_or, Contains-append_left, Contains-push, Contains-push_cases, All-take, All-weaker, All-contains}
+use Rattle.std.proofs.{lemmas.Int.ints, lemmas.Bool.cases_lt}
 use Rattle.std.specs.List.{Contains}
-use Rattle.rv_rows.specs.Multipliers.{ShowsAtOnce, AreShutAtOnce, by_none, by_one, by_two}
+use Rattle.rv_rows.specs.Multipliers.{ShowsAtOnce, by_none, by_one, by_two}
 use Rattle.rv_rows.specs.{declared.linear.Row.Row, Rows.coefficient, Rows.row_at, Forms.number}
-use Rattle.rv_diagram.specs.{declared.Triple.Triple, Nodes.Valuation, Nodes.Diagrams, Nodes.value_of, Growing.Extends}
+use Rattle.rv_diagram.specs.{declared.Triple.Triple, Nodes.Valuation, Nodes.Diagrams, Nodes.IsRef, Nodes.value_of, Growing.Extends}
 use Rattle.rv_seek.specs.Least.{bounded}
-use Rattle.rv_ends.specs.{declared.sides.Side.Side, Sides.side_at}
-use Rattle.rv_pairs.specs.Bounds.{IsAllowed, IsLeastShown, IsSumOf, SumShows, BothShow, ShowsWith}
+use Rattle.rv_pairs.specs.{declared.hints.Hint.Hint, Hints.AreHints, Hints.IsHintAt, Hints.IsHinted, Hints.AreHintsOf}
+use Rattle.rv_pairs.specs.Shown.{IsSumOf, SumShows, BothShow, ShowsWith}
 use Rattle.rv_pairs.specs.{declared.labels.Labelled.Labelled, Labels.active, Labels.row_where, Labels.IsLabel, Labels.AreLabels}
 use Rattle.rv_pairs.proofs.Counting.{active_more, active_stays, has_cases, has_last}
 
@@ -39,6 +40,9 @@ sum_more numbers a b n below here k l = go (cases_lt k n)
     go (inl less) = below k less
     go (inr more) =
         let e : n ≡ k = omega (arith, l, more) in subst (λ (i : ℕ). number i numbers ≡ coefficient i a +ℤ coefficient i b) e here
+
+pub no_label : Labelled
+no_label = record { row = nothing; under = 0 }
 
 -- no rows at all
 pub shown_by_none : (w : Row) → ShowsAtOnce [] w ↔ SumShows nothing nothing w
@@ -265,38 +269,9 @@ module _ (nodes : List Triple) (v : Valuation) (labels : List Labelled) (n : ℕ
       from (inl b) = back (one.0 b)
       from (inr s) = inr (inr s)
 
--- a bound below 0
-pub below_zero : (nodes : List Triple) (s : Side) (v : Valuation) → IsAllowed nodes s v (negsuc 0) ↔ ((b : ℤ) × (side_at nodes s v ≡ Some b) × (b <ℤ pos 0))
-below_zero nodes s v = (λ (b, is, l). (b, is, down b l), λ (b, is, l). (b, is, up b l))
-  where
-    down : (b : ℤ) → b ≤ℤ negsuc 0 → b <ℤ pos 0
-    down b l = omega (arith, ints)
-
-    up : (b : ℤ) → b <ℤ pos 0 → b ≤ℤ negsuc 0
-    up b l = omega (arith, ints)
-
 -- THE LOOPS
 
--- both rows, where they sum to the numbers
-pub both_is : (nodes : List Triple) (v : Valuation) (a b : Labelled) (numbers : List ℤ) (under : Bool) (bound z : ℤ)
-    → IsSumOf numbers a.row b.row → bound ≡ a.row.bound +ℤ b.row.bound → under ≡ (value_of nodes a.under v && value_of nodes b.under v)
-    → (A B : Type 0) → B ↔ (A ⊎ ((under ≡ true) × (bound ≤ℤ z))) → B ↔ (A ⊎ BothShow nodes v a b (bounded numbers z))
-both_is nodes v a b numbers under bound z sum is both A B h = (λ x. to (h.0 x), λ x. h.1 (from x))
-  where
-    to : A ⊎ ((under ≡ true) × (bound ≤ℤ z)) → A ⊎ BothShow nodes v a b (bounded numbers z)
-    to (inl x) = inl x
-    to (inr (on, l)) =
-        let parts : (value_of nodes a.under v ≡ true) × (value_of nodes b.under v ≡ true) = and_parts (value_of nodes a.under v) (value_of nodes b.under v) (sym both ∙ on) in
-        inr (record { one = parts.0; other = parts.1; shows = record { sides = sum; bounds = subst (λ (x : ℤ). x ≤ℤ z) is l } })
-
-    from : A ⊎ BothShow nodes v a b (bounded numbers z) → A ⊎ ((under ≡ true) × (bound ≤ℤ z))
-    from (inl x) = inl x
-    from (inr b_shows) = inr (
-      both ∙ and_from (value_of nodes a.under v) (value_of nodes b.under v) b_shows.one b_shows.other,
-      subst (λ (x : ℤ). x ≤ℤ z) (sym is) b_shows.shows.bounds,
-    )
-
--- and where they do not
+-- rows that do not sum to the numbers
 pub both_not : (nodes : List Triple) (v : Valuation) (a b : Labelled) (numbers : List ℤ) (z : ℤ) (A : Type 0) → ¬ IsSumOf numbers a.row b.row
     → A ↔ (A ⊎ BothShow nodes v a b (bounded numbers z))
 both_not nodes v a b numbers z A never = (λ x. inl x, from)
@@ -328,10 +303,10 @@ pub by_both : (A B C : Type 0) → A ↔ B → B ↔ C → A ↔ C
 by_both A B C f g = (λ a. g.0 (f.0 a), λ x. f.1 (g.1 x))
 
 -- no rows: two that are none, and no bound before
-pub least_none : (nodes : List Triple) (v : Valuation) (a b : Labelled) (numbers : List ℤ) (z : ℤ) (A B : Type 0) → (A → ⊥) → a.row ≡ nothing → b.row ≡ nothing
+pub hints_none : (nodes : List Triple) (v : Valuation) (a b : Labelled) (numbers : List ℤ) (z : ℤ) (A B : Type 0) → (A → ⊥) → a.row ≡ nothing → b.row ≡ nothing
     → value_of nodes a.under v ≡ true → value_of nodes b.under v ≡ true → B ↔ (A ⊎ BothShow nodes v a b (bounded numbers z))
     → ShowsAtOnce [] (bounded numbers z) ↔ B
-least_none nodes v a b numbers z A B never is_a is_b on_a on_b h = (
+hints_none nodes v a b numbers z A B never is_a is_b on_a on_b h = (
   λ s. h.1 (inr (record {
     one = on_a;
     other = on_b;
@@ -346,43 +321,87 @@ least_none nodes v a b numbers z A B never is_a is_b on_a on_b h = (
     from (inr s) = (shown_by_none (bounded numbers z)).1 (subst (λ (x : Row). SumShows nothing x (bounded numbers z)) is_b
         (subst (λ (x : Row). SumShows x b.row (bounded numbers z)) is_a s.shows))
 
-pub least_all : (nodes new : List Triple) (labels : List Labelled) (n : ℕ) (numbers : List ℤ) (s : Side) → n ≡ length labels
-    → IsLeastShown nodes (take n labels) numbers new s → IsLeastShown nodes labels numbers new s
-least_all nodes new labels n numbers s e h =
-    subst (λ (ls : List Labelled). IsLeastShown nodes ls numbers new s) (take_all n labels (omega (arith, e))) h
-
-pub not_allowed : (nodes : List Triple) (s : Side) (v : Valuation) (z : ℤ) → side_at nodes s v ≡ Nothing → IsAllowed nodes s v z → ⊥
-not_allowed nodes s v z none (b, is, l) = none-some b (sym none ∙ is)
-
-pub first_as : (A B P C : Type 0) → A ↔ B → C ↔ (A ⊎ P) → C ↔ (B ⊎ P)
-first_as A B P C same h = (λ x. to (h.0 x), λ x. h.1 (from x))
-  where
-    to : A ⊎ P → B ⊎ P
-    to (inl a) = inl (same.0 a)
-    to (inr p) = inr p
-
-    from : B ⊎ P → A ⊎ P
-    from (inl b) = inl (same.1 b)
-    from (inr p) = inr p
-
--- one row more, in a store that has grown
-least_moved : (old new : Diagrams) (later : List Triple) (labels : List Labelled) (numbers : List ℤ) (s : Side) → Extends old new → AreLabels old.nodes labels
-    → IsLeastShown old.nodes labels numbers later s → IsLeastShown new.nodes labels numbers later s
-least_moved old new later labels numbers s e are h v z =
-    subst (λ (rs : List Row). ShowsAtOnce rs (bounded numbers z) ↔ IsAllowed later s v z) (sym (active_stays old new labels e are v)) (h v z)
-
-least_back : (old new : Diagrams) (later : List Triple) (labels : List Labelled) (numbers : List ℤ) (s : Side) → Extends old new → AreLabels old.nodes labels
-    → IsLeastShown new.nodes labels numbers later s → IsLeastShown old.nodes labels numbers later s
-least_back old new later labels numbers s e are h v z =
-    subst (λ (rs : List Row). ShowsAtOnce rs (bounded numbers z) ↔ IsAllowed later s v z) (active_stays old new labels e are v) (h v z)
-
-pub least_later : (old mid : Diagrams) (new : List Triple) (labels : List Labelled) (n : ℕ) (numbers : List ℤ) (side s : Side) → Extends old mid
-    → AreLabels old.nodes labels
-    → (IsLeastShown mid.nodes (take n labels) numbers mid.nodes side → IsLeastShown mid.nodes (take (n + 1) labels) numbers new s)
-    → IsLeastShown old.nodes (take n labels) numbers mid.nodes side → IsLeastShown old.nodes (take (n + 1) labels) numbers new s
-least_later old mid new labels n numbers side s e are step h =
-    least_back old mid new (take (n + 1) labels) numbers s e (All-take (IsLabel old.nodes) (n + 1) labels are)
-    (step (least_moved old mid mid.nodes (take n labels) numbers side e (All-take (IsLabel old.nodes) n labels are) h))
+pub hints_all : (nodes : List Triple) (labels : List Labelled) (n : ℕ) (numbers : List ℤ) (s : List Hint) → n ≡ length labels
+    → AreHintsOf nodes (take n labels) numbers s → AreHintsOf nodes labels numbers s
+hints_all nodes labels n numbers s e h =
+    subst (λ (ls : List Labelled). AreHintsOf nodes ls numbers s) (take_all n labels (omega (arith, e))) h
 
 pub turned : (A B : Type 0) → A ↔ B → B ↔ A
 turned A B h = (h.1, h.0)
+
+-- no hints, and hints in a store that has grown
+pub hinted_none : (nodes : List Triple) (hints : List Hint) (v : Valuation) (z : ℤ) → hints ≡ [] → IsHinted nodes hints v z → ⊥
+hinted_none nodes hints v z e (h, has, is) = let (i, low, same) = subst (λ (hs : List Hint). Contains hs h) e has in absurd (omega (arith, low))
+
+pub hints_stay : (old new : Diagrams) (hints : List Hint) → Extends old new → AreHints old.nodes hints → AreHints new.nodes hints
+hints_stay old new hints e are = All-weaker (λ (h : Hint). IsRef old.nodes h.one × IsRef old.nodes h.other)
+    (λ (h : Hint). IsRef new.nodes h.one × IsRef new.nodes h.other)
+    (λ h (one, other). (omega (arith, one, e.longer), omega (arith, other, e.longer))) hints are
+
+pub hint_kept : (old new : Diagrams) (h : Hint) (v : Valuation) (z : ℤ) → Extends old new → IsRef old.nodes h.one → IsRef old.nodes h.other
+    → IsHintAt new.nodes v z h ↔ IsHintAt old.nodes v z h
+hint_kept old new h v z e one other = (
+  λ s. record { one = sym first ∙ s.one; other = sym second ∙ s.other; low = s.low },
+  λ s. record { one = first ∙ s.one; other = second ∙ s.other; low = s.low },
+)
+  where
+    first : value_of new.nodes h.one v ≡ value_of old.nodes h.one v
+    first = e.kept h.one (omega (arith, one)) v
+
+    second : value_of new.nodes h.other v ≡ value_of old.nodes h.other v
+    second = e.kept h.other (omega (arith, other)) v
+
+pub hinted_stays : (old new : Diagrams) (hints : List Hint) (v : Valuation) (z : ℤ) → Extends old new → AreHints old.nodes hints
+    → IsHinted new.nodes hints v z ↔ IsHinted old.nodes hints v z
+hinted_stays old new hints v z e are = (
+  λ (h, has, s). (h, has, (kept h has).0 s),
+  λ (h, has, s). (h, has, (kept h has).1 s),
+)
+  where
+    kept : (h : Hint) → Contains hints h → IsHintAt new.nodes v z h ↔ IsHintAt old.nodes v z h
+    kept h has = let (one, other) = All-contains (λ (x : Hint). IsRef old.nodes x.one × IsRef old.nodes x.other) hints h are has in
+        hint_kept old new h v z e one other
+
+-- one hint more
+pub hinted_push : (nodes : List Triple) (hints : List Hint) (last : Hint) (v : Valuation) (z : ℤ)
+    → IsHinted nodes (hints ++ last ∷ []) v z ↔ (IsHinted nodes hints v z ⊎ IsHintAt nodes v z last)
+hinted_push nodes hints last v z = (λ (h, has, s). split h s (Contains-push_cases hints last h has), from)
+  where
+    split : (h : Hint) → IsHintAt nodes v z h → Contains hints h ⊎ (last ≡ h) → IsHinted nodes hints v z ⊎ IsHintAt nodes v z last
+    split h s (inl has) = inl (h, has, s)
+    split h s (inr e) = inr (subst (IsHintAt nodes v z) (sym e) s)
+
+    from : IsHinted nodes hints v z ⊎ IsHintAt nodes v z last → IsHinted nodes (hints ++ last ∷ []) v z
+    from (inl (h, has, s)) = (h, Contains-append_left hints (last ∷ []) h has, s)
+    from (inr s) = (last, Contains-push hints last, s)
+
+-- both rows, as a hint, and where the hints have it already
+pub both_hint : (nodes : List Triple) (v : Valuation) (a b : Labelled) (numbers : List ℤ) (bound z : ℤ) (hints : List Hint) → IsSumOf numbers a.row b.row
+    → bound ≡ a.row.bound +ℤ b.row.bound
+    → IsHinted nodes (hints ++ record { bound = bound; one = a.under; other = b.under } ∷ []) v z
+    ↔ (IsHinted nodes hints v z ⊎ BothShow nodes v a b (bounded numbers z))
+both_hint nodes v a b numbers bound z hints sum is = (
+  λ h. to ((hinted_push nodes hints last v z).0 h),
+  λ h. (hinted_push nodes hints last v z).1 (from h),
+)
+  where
+    last : Hint
+    last = record { bound = bound; one = a.under; other = b.under }
+
+    to : IsHinted nodes hints v z ⊎ IsHintAt nodes v z last → IsHinted nodes hints v z ⊎ BothShow nodes v a b (bounded numbers z)
+    to (inl h) = inl h
+    to (inr s) = inr (record { one = s.one; other = s.other; shows = record { sides = sum; bounds = subst (λ (x : ℤ). x ≤ℤ z) is s.low } })
+
+    from : IsHinted nodes hints v z ⊎ BothShow nodes v a b (bounded numbers z) → IsHinted nodes hints v z ⊎ IsHintAt nodes v z last
+    from (inl h) = inl h
+    from (inr s) = inr (record { one = s.one; other = s.other; low = subst (λ (x : ℤ). x ≤ℤ z) (sym is) s.shows.bounds })
+
+pub both_covered : (nodes : List Triple) (v : Valuation) (a b : Labelled) (numbers : List ℤ) (bound z : ℤ) (hints : List Hint)
+    → bound ≡ a.row.bound +ℤ b.row.bound
+    → (value_of nodes a.under v ≡ true → value_of nodes b.under v ≡ true → bound ≤ℤ z → IsHinted nodes hints v z)
+    → IsHinted nodes hints v z ↔ (IsHinted nodes hints v z ⊎ BothShow nodes v a b (bounded numbers z))
+both_covered nodes v a b numbers bound z hints is covers = (λ h. inl h, from)
+  where
+    from : IsHinted nodes hints v z ⊎ BothShow nodes v a b (bounded numbers z) → IsHinted nodes hints v z
+    from (inl h) = h
+    from (inr s) = covers s.one s.other (subst (λ (x : ℤ). x ≤ℤ z) (sym is) s.shows.bounds)

@@ -1,6 +1,6 @@
 //! Rows that count where a reference is true: those of the order tests under their answers, and a claim's own where the main tick is true.
 
-ghost use Rattle.std.specs.Prelude.{◌≡◌, ℕ, ◌+◌, ◌<◌, ◌≤◌, ◌^◌, ◌++◌, true, length, All, IfOk, OnOk, IsErrOf, if◌then◌else◌, []};
+ghost use Rattle.std.specs.Prelude.{◌≡◌, ◌⊎◌, ◌∷◌, ℕ, List, ◌+◌, ◌<◌, ◌≤◌, ◌^◌, ◌++◌, true, length, All, IfOk, OnOk, IsErrOf, if◌then◌else◌, []};
 ghost use Rattle.std.specs.Int.RustNames.{unsigned_abs};
 ghost use Rattle.rv_diagram.specs.Nodes.{Valuation, IsRef, value_of};
 ghost use Rattle.rv_diagram.specs.Growing.{Extends};
@@ -11,12 +11,15 @@ ghost use Rattle.rv_cases.specs.Conditions.{is_in, AreAnswers};
 ghost use Rattle.rv_cases.specs.Questions.{AreQuestions, AreTestAnswers};
 ghost use Rattle.rv_pairs.specs.Labels.{active, row_where, IsLabel, AreLabels};
 ghost use Rattle.rv_pairs.specs.Taking.{ArePremises};
+ghost use Rattle.rv_pairs.specs.Telling.{IsZero, Tells};
+ghost use Rattle.rv_diagram.specs.declared.Triple.{Triple};
 
+use crate::indexed::LabelledRows;
 use rv_base::{Many, Memory};
 use rv_cases::Questions;
 use rv_diagram::{Ref, Store, StoreFault};
 use rv_ends::main_tick;
-use rv_rows::Row;
+use rv_rows::{Row, number_at};
 use std::alloc::Global;
 
 /// A row, and where it counts.
@@ -86,8 +89,8 @@ fn label_test(
     Ok(())
 }
 
-/// The rows of all order tests, in order, each under its answer.
-fn label_tests(
+/// The rows of all order tests, in order, each under its answer. The only error is want of memory.
+pub fn label_tests(
     alloc: Global,
     store: &Store,
     questions: &Questions,
@@ -135,7 +138,7 @@ pub fn premises(
     store: &mut Store,
     questions: &Questions,
     given: &Many<Row>,
-) -> Result<Many<Labelled>, StoreFault>
+) -> Result<LabelledRows, StoreFault>
     requires questions { (s : System) × IsSystem s × AreQuestions s store.old questions.now }
     requires given { All (RowWithin (2 ^ 60)) given.now }
     ensures extends { Extends store.old store.new }
@@ -147,5 +150,86 @@ pub fn premises(
     let ticked = main_tick(store)?;
     let mut labels = label_tests(alloc, store, questions)?;
     label_given(alloc, store, &mut labels, ticked, given)?;
-    Ok(labels)
+    Ok(LabelledRows::new(alloc, labels)?)
+}
+
+/// Whether all numbers of the left side are 0.
+fn is_zero(row: &Row) -> bool
+    ensures { result ≡ true → IsZero row.now }
+{
+    for column in 0..row.coefficients.len() {
+        if number_at(&row.coefficients, column) != 0 {
+            return false;
+        }
+    }
+    true
+}
+
+/// The same row under the same reference.
+fn copy_label(alloc: Global, label: &Labelled) -> Result<Labelled, Memory>
+    ensures { IfOk result (λ l. l ≡ label.now) }
+{
+    let row = copy_row(alloc, &label.row)?;
+    Ok(Labelled {
+        row,
+        under: label.under,
+    })
+}
+
+/// Adds the same row under the same reference, where its left side has a number other than 0.
+fn tell_row(alloc: Global, told: &mut Many<Labelled>, label: &Labelled) -> Result<(), Memory>
+    ensures { OnOk result ((told.new ≡ told.old ++ label.now ∷ []) ⊎ ((told.new ≡ told.old) × IsZero label.now.row)) }
+{
+    if is_zero(&label.row) {
+        return Ok(());
+    }
+    let copy = copy_label(alloc, label)?;
+    told.push(copy)?;
+    Ok(())
+}
+
+/// The rows whose left sides have a number other than 0. Where no row is shut at once the others show nothing. The only error is want of memory.
+pub fn telling(alloc: Global, labels: &Many<Labelled>) -> Result<Many<Labelled>, Memory>
+    ensures labels { (nodes : List Triple) → AreLabels nodes labels.now → IfOk result (AreLabels nodes) }
+    ensures told { IfOk result (λ told. (nodes : List Triple) (v : Valuation) → Tells (active nodes labels.now v) (active nodes told v)) }
+{
+    let mut told = Many::new(alloc);
+    for place in 0..labels.len() {
+        tell_row(alloc, &mut told, labels.at(place))?;
+    }
+    Ok(told)
+}
+
+/// The same labelled rows.
+fn copied(alloc: Global, labels: &Many<Labelled>) -> Result<Many<Labelled>, Memory>
+    ensures { IfOk result (λ all. all ≡ labels.now) }
+{
+    let mut all = Many::new(alloc);
+    for place in 0..labels.len() {
+        let copy = copy_label(alloc, labels.at(place))?;
+        all.push(copy)?;
+    }
+    Ok(all)
+}
+
+/// The given labelled rows, and then a claim's own where the main tick is true. Nodes comes where the store has no room for what is built, never where
+/// its limit holds every function of its variables, and Memory where there is none; what was built is left, after a fault too.
+pub fn with_claim(
+    alloc: Global,
+    store: &mut Store,
+    labels: &Many<Labelled>,
+    given: &Many<Row>,
+) -> Result<LabelledRows, StoreFault>
+    requires labels { AreLabels store.old.nodes labels.now }
+    requires given { All (RowWithin (2 ^ 60)) given.now }
+    ensures extends { Extends store.old store.new }
+    ensures roomy { IsErrOf result StoreFault.Nodes → store.old.limit < 2 ^ (2 ^ store.old.variables) }
+    ensures labels { IfOk result (AreLabels store.new.nodes) }
+    ensures rows { 0 < store.old.variables → IfOk result (λ all. (v : Valuation) → active store.new.nodes all v
+        ≡ active store.old.nodes labels.now v ++ (if v 0 then given.now else [])) }
+{
+    let ticked = main_tick(store)?;
+    let mut all = copied(alloc, labels)?;
+    label_given(alloc, store, &mut all, ticked, given)?;
+    Ok(LabelledRows::new(alloc, all)?)
 }

@@ -12,9 +12,9 @@ ghost use Rattle.rv_proofs.specs.Systems.{System, IsSystem};
 ghost use Rattle.rv_cases.specs.Questions.{AreQuestions, memory_answers, forms_at};
 ghost use Rattle.rv_ends.specs.Risen.{IsRisen};
 ghost use Rattle.rv_pairs.specs.Labels.{AreLabels};
-ghost use Rattle.rv_pairs.specs.Moves.{IsMovedIn, HoldsAfter};
+ghost use Rattle.rv_pairs.specs.Moves.{IsMovedIn, HoldsAfter, HoldsWhere};
 
-use crate::labels::Labelled;
+use crate::indexed::LabelledRows;
 use crate::rising::risen_by;
 use rv_base::{Many, Memory};
 use rv_cases::Questions;
@@ -97,16 +97,18 @@ fn forms_of(questions: &Questions, column: usize) -> &Many<Form>
     questions.forms.at(column)
 }
 
-/// The limit, risen by all forms that the left side's memories have from a column on, where the reference is true. `form` is the sum so far, of
+/// The limit, risen by all forms that the left side's memories have from a column on, where both references are true. `form` is the sum so far, of
 /// the memories before that column. It calls itself once for each memory of the left side.
 fn risen_from(
     alloc: Global,
     store: &mut Store,
     questions: &Questions,
-    labels: &Many<Labelled>,
+    labels: &LabelledRows,
     side: &Many<i128>,
     first: usize,
-    inside: Ref,
+    sure: Ref,
+    taken: Ref,
+    path: Ref,
     form: &Form,
     thresholds: &Many<i128>,
     limit: i128,
@@ -116,7 +118,10 @@ fn risen_from(
     requires labels { AreLabels store.old.nodes labels.now }
     requires side { All (λ c. unsigned_abs c ≤ 1) side.now }
     requires first { first ≤ length side.now }
-    requires inside { IsRef store.old.nodes inside }
+    requires sure { IsRef store.old.nodes sure }
+    requires taken { IsRef store.old.nodes taken }
+    requires within { (v : Valuation) → value_of store.old.nodes taken v ≡ true → value_of store.old.nodes sure v ≡ true }
+    requires path { IsRef store.old.nodes path }
     requires form { FormWithin (first * heaviest) form.now }
     requires thresholds { All (λ t. unsigned_abs t ≤ 2 ^ 41) thresholds.now }
     requires limit { unsigned_abs limit ≤ 2 ^ 41 }
@@ -124,17 +129,19 @@ fn risen_from(
     ensures roomy { IsErrOf result StoreFault.Nodes → store.old.limit < 2 ^ (2 ^ store.old.variables) }
     ensures small { IfOk result (λ o. IfSome o (λ b. unsigned_abs b ≤ 2 ^ 41)) }
     ensures risen { IfOk result (λ o. (s : System) → IsSystem s → AreQuestions s store.old questions.now → length side.now ≡ s.memories → 0 < s.memories
-        → IsMovedIn s store.old.nodes inside side.now first form.now
-        → IsRisen thresholds.now (HoldsAfter s store.old.nodes labels.now inside side.now) (Some limit) o) }
+        → IsMovedIn s store.old.nodes path side.now first form.now
+        → IsRisen thresholds.now (HoldsAfter s store.old.nodes labels.now taken path side.now) (Some limit) o) }
 {
     let _count = store.mark();
-    if store.is_false(inside) {
+    if store.is_false(path) {
         return Ok(Some(limit));
     }
     let column = next_column(side, first);
     let width = side.len();
     if column == width {
-        return risen_by(alloc, store, labels, inside, form, thresholds, limit);
+        return risen_by(
+            alloc, store, labels, sure, taken, path, form, thresholds, limit,
+        );
     }
     let by = *side.at(column);
     let answers = answers_of(questions, column);
@@ -143,7 +150,7 @@ fn risen_from(
     for place in 0..forms.len() {
         let answer = *answers.at(place);
         let other = forms.at(place);
-        let here = store.and(inside, answer)?;
+        let here = store.and(path, answer)?;
         let moved = moved_by(alloc, store, here, form, by, other)?;
         let next = risen_from(
             alloc,
@@ -152,6 +159,8 @@ fn risen_from(
             labels,
             side,
             column + 1,
+            sure,
+            taken,
             here,
             &moved,
             thresholds,
@@ -167,35 +176,40 @@ fn risen_from(
 
 /// The limit of a left side over the memories, risen by what the rows that count at each taken valuation show at once of it after the updates there:
 /// it stays where it is shown at all of them, rises to the least threshold that is, and goes where there is none. The numbers of the left side
-/// are -1, 0 and 1. The store is left as it was, after a fault too. Nodes comes where it has no room for what is built on the way, never where its
-/// limit holds every function of its variables, and Memory where there is none.
+/// are -1, 0 and 1. Where `taken` is true `sure` is; what rows show that count wherever it is costs no nodes. The store is left as it was, after a
+/// fault too. Nodes comes where it has no room for what is built on the way, never where its limit holds every function of its variables, and Memory
+/// where there is none.
 pub fn risen_row(
     alloc: Global,
     store: &mut Store,
+    sure: Ref,
     taken: Ref,
     questions: &Questions,
-    labels: &Many<Labelled>,
+    labels: &LabelledRows,
     side: &Many<i128>,
     columns: usize,
     thresholds: &Many<i128>,
     limit: i128,
 ) -> Result<Option<i128>, StoreFault>
     requires asked { (s : System) × IsSystem s × AreQuestions s store.old questions.now × (length side.now ≡ s.memories) × (columns ≡ s.columns) }
+    requires sure { IsRef store.old.nodes sure }
     requires taken { IsRef store.old.nodes taken }
+    requires within { (v : Valuation) → value_of store.old.nodes taken v ≡ true → value_of store.old.nodes sure v ≡ true }
     requires labels { AreLabels store.old.nodes labels.now }
     requires side { All (λ c. unsigned_abs c ≤ 1) side.now }
     requires thresholds { All (λ t. unsigned_abs t ≤ 2 ^ 41) thresholds.now }
     requires limit { unsigned_abs limit ≤ 2 ^ 41 }
     ensures risen { IfOk result (λ o. (s : System) → IsSystem s → AreQuestions s store.old questions.now → length side.now ≡ s.memories
         → columns ≡ s.columns → 0 < s.memories
-        → IsRisen thresholds.now (HoldsAfter s store.old.nodes labels.now taken side.now) (Some limit) o) }
+        → IsRisen thresholds.now (HoldsWhere s store.old.nodes labels.now taken side.now) (Some limit) o) }
     ensures same { store.new ≡ store.old }
     ensures roomy { IsErrOf result StoreFault.Nodes → store.old.limit < 2 ^ (2 ^ store.old.variables) }
 {
     let form = zero_form(alloc, columns)?;
+    let all = store.constant(true);
     let mark = store.mark();
     let answer = risen_from(
-        alloc, store, questions, labels, side, 0, taken, &form, thresholds, limit,
+        alloc, store, questions, labels, side, 0, sure, taken, all, &form, thresholds, limit,
     );
     store.release(mark);
     answer

@@ -3,11 +3,11 @@ use Rattle.std.proofs.Common.{◌≡◌, ℕ, zero, suc, ◌<◌, ◌≤◌, ℤ
 use Rattle.std.proofs.Common.{◌⊎◌, inl, inr, None as Nothing}
 use Rattle.std.proofs.lemmas.Option.{same_Some, none-some, slice_get_within}
 use Rattle.std.proofs.lemmas.List.Elements.{Contains-append_left, Contains-append_right, Contains-append_cases, Contains-push, Contains-push_cases}
-use Rattle.std.proofs.{lemmas.List.length-take, lemmas.List.get_or_past, lemmas.Bool.cases_lt}
+use Rattle.std.proofs.{lemmas.List.length-take}
 use Rattle.std.specs.List.{Contains}
 use Rattle.rv_rows.specs.{declared.linear.Row.Row, Rows.row_at}
 use Rattle.rv_seek.specs.Least.{bounded}
-use Rattle.rv_rise.specs.{Limits.limit_at, Limits.AreOwn, Sides.rows_with}
+use Rattle.rv_rise.specs.{Limits.limit_at, Sides.rows_with}
 use Rattle.rv_base.proofs.Lists.{contains_got, take_push}
 
 -- one side more
@@ -60,20 +60,6 @@ rows_with-has (side ∷ sides) (Some a ∷ limits) zero b l at =
 rows_with-has (side ∷ sides) (Some a ∷ limits) (suc k) b l at =
     Contains-append_right (bounded side.coefficients a ∷ []) (rows_with sides limits) (bounded (row_at sides k).coefficients b)
     (rows_with-has sides limits k b (omega (arith, l)) at)
-
--- so the limits that rows come from have their rows among them
-pub own_rows : (sides : List Row) (limits : List (Option ℤ)) → length limits ≡ length sides → (rows : List Row) (own : List (Option ℤ))
-    → rows ≡ rows_with sides limits → own ≡ limits → AreOwn sides own rows
-own_rows sides limits size rows own are same k b e =
-    subst (λ (rs : List Row). Contains rs (bounded (row_at sides k).coefficients b)) (sym are)
-    (rows_with-has sides limits k b (go (cases_lt k (length limits))) at)
-  where
-    at : limit_at limits k ≡ Some b
-    at = ap (λ (os : List (Option ℤ)). limit_at os k) (sym same) ∙ e
-
-    go : (k < length limits) ⊎ (length limits ≤ k) → k < length sides
-    go (inl l) = omega (arith, l, size)
-    go (inr l) = absurd (none-some b (sym (get_or_past limits k Nothing l) ∙ at))
 
 -- each row is that of a limit
 pub record IsRowAt (sides : List Row) (limits : List (Option ℤ)) (r : Row) : Type 0 where

@@ -1,130 +1,24 @@
--- Rounds, and the claim at which they end.
-use Rattle.std.proofs.Common.{◌≡◌, ℕ, ◌+◌, ◌^◌, ◌<◌, ◌≤◌, ℤ, negsuc, ◌≤ℤ◌, ◌<ℤ◌, Bool, true, false, cond, List, [], ◌++◌, length, All, Option, Some, IsTrue}
-use Rattle.std.proofs.Common.{slice_get, arith, lit≤, refl, sym, ap, ◌∙◌, subst, ◌⊎◌, inl, inr, None as Nothing}
-use Rattle.std.proofs.{lemmas.Option.same_Some, lemmas.Option.none-some, lemmas.Option.slice_get_within, lemmas.Int.ints, lemmas.Bool.cases_lt}
-use Rattle.std.proofs.{lemmas.Bool.cases_Bool, lemmas.List.get_or_past, lemmas.List.append-nil, lemmas.List.Elements.All-nil, lemmas.List.Elements.All-contains}
+-- The claim at which rounds begin, and the one at which they end.
+use Rattle.std.proofs.Common.{◌≡◌, ℕ, ◌^◌, ◌<◌, ◌≤◌, ℤ, negsuc, ◌≤ℤ◌, ◌<ℤ◌, true, List, length, All, Option, Some, IsTrue}
+use Rattle.std.proofs.Common.{arith, refl, sym, ap, ◌∙◌, subst, ◌⊎◌, inl, inr, None as Nothing}
+use Rattle.std.proofs.{lemmas.Option.same_Some, lemmas.Option.none-some, lemmas.Int.ints, lemmas.Bool.cases_lt}
+use Rattle.std.proofs.{lemmas.List.get_or_past, lemmas.List.Elements.All-contains}
 use Rattle.std.specs.{List.Contains, Int.RustNames.unsigned_abs}
-use Rattle.rv_diagram.specs.{Nodes.Valuation, declared.frozen.Frozen.Frozen}
-use Rattle.rv_rows.specs.{declared.linear.Row.Row, Rows.row_at, Tight.Fits, Multipliers.AreShutAtOnce}
+use Rattle.rv_diagram.specs.{Nodes.Valuation}
+use Rattle.rv_rows.specs.{declared.linear.Row.Row, Rows.row_at}
 use Rattle.rv_seek.specs.Least.{bounded}
-use Rattle.rv_proofs.specs.Systems.{System, IsSystem, HasSameState, rows_of, updates_of}
-use Rattle.rv_proofs.specs.RowClaims.{RowClaim, HasOne, HasTwo, IsCandidate, IsRowClaim, IsRowTaken, IsRowClosed, HasTighter, premises_at}
-use Rattle.rv_proofs.specs.{Scopes.IsIn, Ranges.AreKept, Cases.AreCases, Cases.IsInitialSet, declared.report.Case.Case}
+use Rattle.rv_proofs.specs.Systems.{System, IsSystem, HasSameState}
+use Rattle.rv_proofs.specs.RowClaims.{HasOne, HasTwo, IsCandidate, IsRowClaim, IsRowClosed, HasTighter}
+use Rattle.rv_proofs.specs.{Cases.IsInitialSet}
 use Rattle.rv_proofs.proofs.ControlReads.{control_same}
 use Rattle.rv_walk.specs.Ends.{has}
 use Rattle.rv_claims.specs.Order.{IsBelowClosed}
-use Rattle.rv_rise.specs.Rounds.{IsFrameOf, IsSetting, IsHeld, IsKeptRisen, HasGrown, IsCaseIn, IsInCases, IsRising, IsRound, AreOthers, IsLeastRisen, left_of}
-use Rattle.rv_rise.specs.Rounds.{claim_in}
-use Rattle.rv_rise.specs.{declared.frame.Frame.Frame, declared.risen.Risen.Risen, declared.rounds.Others.Others, Orders.IsLeastAbove, Shown.IsShownAfter}
-use Rattle.rv_rise.specs.{Limits.limit_at, Limits.AreFirst, Sides.rows_with}
-use Rattle.rv_rise.proofs.{Listing.IsRowAt, Listing.rows_with-has, Listing.rows_with-from, Listing.rows_with-different, Fitting.rows_kept, Composing.held_above}
-use Rattle.rv_walk.proofs.Stages.{rest_from, rest_parts}
+use Rattle.rv_ends.specs.Thresholds.{IsLeastAbove}
+use Rattle.rv_rise.specs.Rounds.{IsFrameOf, IsKeptRisen, IsLeastRisen, claim_in}
+use Rattle.rv_rise.specs.{declared.frame.Frame.Frame, declared.risen.Risen.Risen, Limits.limit_at, Limits.AreFirst, Sides.rows_with}
+use Rattle.rv_rise.proofs.{Listing.IsRowAt, Listing.rows_with-has, Listing.rows_with-from, Listing.rows_with-different}
 use Rattle.rv_base.proofs.Truths.{clash}
 use Rattle.rv_diagram.proofs.Several.{same_truth}
-
-none_kept : (s : System) → AreKept s []
-none_kept s = (All-nil (λ (r : Row). (length r.coefficients ≡ s.memories) × Fits r), lit≤ tt)
-
--- the premises where the main tick is false, and where it is true
-premises_off : (s : System) (c : RowClaim) (v : Valuation) → v 0 ≡ false → premises_at s c v ≡ rows_of s v ++ []
-premises_off s c v off = ap (λ (b : Bool). cond b (rows_of s v ++ c.rows) (rows_of s v)) off ∙ sym (append-nil (rows_of s v))
-
-premises_on : (s : System) (c : RowClaim) (v : Valuation) → v 0 ≡ true → premises_at s c v ≡ rows_of s v ++ c.rows
-premises_on s c v on = ap (λ (b : Bool). cond b (rows_of s v ++ c.rows) (rows_of s v)) on
-
-pub cases_in : (s : System) (from : Frozen) (cases : List Case) → AreCases s from cases → (j : ℕ) (c : Case) → slice_get cases j ≡ Some c → IsCaseIn s from c
-cases_in s from cases are j c at = record { case = are.each j c at; within = λ v i. are.within j c v at i }
-
-module _ (s : System) (is : IsSystem s) (f : Frame) (frame : IsFrameOf s f) (c : Risen) (kept : IsKeptRisen s f c) (first : Frozen)
-    (initial : IsInitialSet s first) where
-  first_started : (v : Valuation) → IsIn first v → IsTrue (s.initial v)
-  first_started v i = (initial.exact v).0 i
-
-  -- the initial control states, without rows
-  pub setting_first : IsSetting s (claim_in f c) first []
-  setting_first = record {
-    control = initial.control;
-    reached = λ v i. kept.initial v (first_started v i);
-    premises = λ v i. premises_off s (claim_in f c) v (is.unticked v (first_started v i));
-    states = λ v i. kept.states v (kept.initial v (first_started v i));
-    kept = none_kept s;
-  }
-
-  -- Once its cases have been asked in a claim the initial control states are held, whatever claim they are taken in.
-  pub rising_of : IsBelowClosed s f.thresholds (claim_in f c) → (from_first : List Case) → AreCases s first from_first → (changed : Bool) (new : Risen)
-      → HasGrown s f (claim_in f c) (IsInCases from_first (length from_first)) changed c new → IsRising s f first new
-  rising_of below from_first cases changed new g = record {
-    kept = g.kept;
-    below = g.below below below;
-    held = held;
-  }
-    where
-      same : (base : RowClaim) (v : Valuation) → IsIn first v → premises_at s (claim_in f c) v ≡ premises_at s base v
-      same base v i =
-          let off = is.unticked v (first_started v i) in
-          premises_off s (claim_in f c) v off ∙ sym (premises_off s base v off)
-
-      taken : (base : RowClaim) (v : Valuation) → IsIn first v → IsRowTaken s base v → IsRowTaken s (claim_in f c) v
-      taken base v i t = record {
-        allowed = t.allowed;
-        reached = kept.initial v (first_started v i);
-        is_open = λ shut. t.is_open (subst AreShutAtOnce (same base v i) shut);
-      }
-
-      there : (base : RowClaim) (v : Valuation) → IsIn first v → IsRowTaken s base v → IsHeld s (claim_in f c) (claim_in f new) v
-      there base v i t = let (j, d, at, on) = cases.covered v t.allowed i in g.held v (j, d, slice_get_within from_first j d at, at, on)
-
-      held : (base : RowClaim) (v : Valuation) → IsIn first v → IsHeld s base (claim_in f new) v
-      held base v i = record {
-        next = λ t. let h = there base v i t in h.next (taken base v i t);
-        rows = λ t r known. let h = there base v i t in subst (λ (rs : List Row). IsShownAfter rs (updates_of s v) r) (same base v i)
-            (h.rows (taken base v i t) r known);
-      }
-
-  module _ (o : Others) (others : AreOthers s first c o) where
-    apart : (v : Valuation) → IsIn o.control v → (has c.reached v ≡ true) × (has first v ≡ false)
-    apart v i = rest_parts (has c.reached v) (has first v) (sym (others.exact v) ∙ i)
-
-    -- the others, with the claim's rows
-    pub setting_others : (given : List Row) → given ≡ rows_with f.sides c.limits → IsSetting s (claim_in f c) o.control given
-    setting_others given are = record {
-      control = others.control;
-      reached = λ v i. (apart v i).0;
-      premises = λ v i. premises_on s (claim_in f c) v (ticked v i (kept.ticked v (apart v i).0)) ∙ ap (λ (rs : List Row). rows_of s v ++ rs) (sym are);
-      states = λ v i. kept.states v (apart v i).0;
-      kept = subst (AreKept s) (sym are) (rows_kept s f.sides frame.sides f.thresholds frame.small c.limits kept.among);
-    }
-      where
-        ticked : (v : Valuation) → IsIn o.control v → IsTrue (s.initial v) ⊎ (v 0 ≡ true) → v 0 ≡ true
-        ticked v i (inl starts) = absurd (clash (has first v) ((initial.exact v).1 starts) (apart v i).1)
-        ticked v i (inr on) = on
-
-    -- where nothing has changed by the cases of the others the claim is closed
-    pub round_of : IsRising s f first c → (changed : Bool) (new : Risen) → HasGrown s f (claim_in f c) (IsInCases o.cases (length o.cases)) changed c new
-        → IsRound s f first changed c new
-    round_of rising changed new g = record {
-      rising = record {
-        kept = g.kept;
-        below = g.below rising.below rising.below;
-        held = λ base v i. held_above s f base c new g.above v (rising.held base v i);
-      };
-      still = g.still;
-      closed = λ e. record {
-        initial = kept.initial;
-        next = λ v t. (held e v t (cases_Bool (has first v))).next t;
-        rows = λ v t r known. (held e v t (cases_Bool (has first v))).rows t r known;
-      };
-      less = g.less;
-    }
-      where
-        held : changed ≡ false → (v : Valuation) → IsRowTaken s (claim_in f c) v → (has first v ≡ true) ⊎ (has first v ≡ false)
-            → IsHeld s (claim_in f c) (claim_in f c) v
-        held e v t (inl i) = rising.held (claim_in f c) v i
-        held e v t (inr n) =
-            let i : has o.control v ≡ true = others.exact v ∙ rest_from (has c.reached v) (has first v) t.reached n in
-            let w = others.cases in
-            let (j, d, at, on) = w.covered v t.allowed i in
-            subst (λ (x : Risen). IsHeld s (claim_in f c) (claim_in f x) v) (g.still e) (g.held v (j, d, slice_get_within o.cases j d at, at, on))
 
 -- a row with the left side of a candidate is a candidate
 same_shape : (s : System) (side r : Row) → r.coefficients ≡ side.coefficients → HasOne s side ⊎ HasTwo s side → HasOne s r ⊎ HasTwo s r
@@ -161,11 +55,11 @@ claim_kept s f frame c kept = record {
           shape = same_shape s (row_at f.sides at.place) r at.side side.shape;
         }
 
-pub least_of : (s : System) (f : Frame) → IsFrameOf s f → (first : Frozen) (c : Risen) → IsRising s f first c → IsRowClosed s (claim_in f c)
-    → IsLeastRisen s f c
-least_of s f frame first c rising closed = record {
-  kept = rising.kept;
-  least = record { claim = claim_kept s f frame c rising.kept; closed = closed; least = rising.below };
+pub least_of : (s : System) (f : Frame) → IsFrameOf s f → (c : Risen) → IsKeptRisen s f c → IsBelowClosed s f.thresholds (claim_in f c)
+    → IsRowClosed s (claim_in f c) → IsLeastRisen s f c
+least_of s f frame c kept below closed = record {
+  kept = kept;
+  least = record { claim = claim_kept s f frame c kept; closed = closed; least = below };
 }
 
 -- the claim that the search begins with
@@ -233,20 +127,3 @@ first_are thresholds many limits o small above size each = record {
       where
         apart : (t : ℤ) → negsuc 2199023255551 ≤ℤ t → t <ℤ negsuc 2199023255551 → ⊥
         apart t l m = omega (arith, ints)
-
--- each round leaves less, or is the last
-pub round_smaller : (s : System) (f : Frame) (first : Frozen) (n : ℕ) (more was : Bool) (old new : Risen) → n ≡ s.states → was ≡ true
-    → IsRound s f first more old new
-    → left_of n new (λ x. false) + cond more 1 0 < left_of n old (λ x. false) + cond was 1 0
-round_smaller s f first n more true old new e on r = go more refl
-  where
-    go : (b : Bool) → more ≡ b → left_of n new (λ x. false) + cond b 1 0 < left_of n old (λ x. false) + 1
-    go true is =
-        let l : left_of s.states new (λ x. false) < left_of s.states old (λ x. false) = r.less is (λ x. false) in
-        let m : left_of n new (λ x. false) < left_of n old (λ x. false) = subst (λ (k : ℕ). left_of k new (λ x. false) < left_of k old (λ x. false))
-        (sym e) l in
-        omega (arith, m)
-    go false is =
-        let q : left_of n new (λ x. false) ≡ left_of n old (λ x. false) = ap (λ (c : Risen). left_of n c (λ x. false)) (r.still is) in
-        omega (arith, q)
-round_smaller s f first n more false old new e on r = cc

@@ -1,265 +1,213 @@
--- What a case does to a claim.
-use Rattle.std.proofs.Common.{◌≡◌, ℕ, ◌<◌, ◌≤◌, ℤ, ◌≤ℤ◌, Bool, true, false, ◌||◌, List, ◌++◌, length, Option, Some, IsTrue, arith, refl, sym, ap, ◌∙◌, subst}
-use Rattle.std.proofs.Common.{◌⊎◌, inl, inr, None as Nothing}
-use Rattle.std.proofs.{lemmas.Bool.cases_lt, lemmas.Bool.cases_Bool, lemmas.Bool.or_parts, lemmas.Option.none-some, lemmas.List.get_or_past}
+-- What follows from a claim, in a store.
+use Rattle.std.proofs.Common.{◌≡◌, ◌↔◌, ◌⊎◌, ℕ, ℤ, ◌<◌, ◌≤ℤ◌, Bool, true, false, cond, ◌&&◌, pos, negsuc, List, [], ◌∷◌, ◌++◌, length, Option, Some, IsTrue}
+use Rattle.std.proofs.Common.{arith, ◌∙◌, sym, subst, inl, inr}
+use Rattle.std.proofs.{lemmas.Bool.and_parts, lemmas.Bool.and_from, lemmas.Bool.cases_Bool}
+use Rattle.std.proofs.lemmas.List.{append-nil, append_assoc}
+use Rattle.std.proofs.lemmas.List.Elements.{Contains-append_cases}
 use Rattle.std.specs.List.{Contains}
-use Rattle.rv_diagram.specs.{Nodes.Valuation, declared.frozen.Frozen.Frozen}
-use Rattle.rv_rows.specs.Multipliers.{AreShutAtOnce, ShowsAtOnce}
-use Rattle.rv_rows.specs.{declared.linear.Row.Row, declared.linear.Form.Form, Rows.row_at, Forms.IsSubstituted}
+use Rattle.rv_diagram.specs.{Nodes.Valuation, Nodes.Diagrams, Nodes.IsRef, Nodes.Answers, Nodes.value_of, Growing.Extends, declared.frozen.Frozen.Frozen}
+use Rattle.rv_rows.specs.{declared.linear.Row.Row, Rows.row_at, Forms.IsSubstituted, Multipliers.ShowsAtOnce, Multipliers.AreShutAtOnce}
 use Rattle.rv_seek.specs.Least.{bounded}
-use Rattle.rv_proofs.specs.Systems.{System, IsSystem, HasSameState, updates_of}
-use Rattle.rv_proofs.specs.RowClaims.{RowClaim, IsRowClaim, IsRowTaken, IsRowClosed, HasTighter, IsRowTighter, premises_at}
-use Rattle.rv_proofs.specs.{Scopes.IsIn, Ranges.IsControlSet, Cases.IsImage, Cases.AreCases, declared.report.Case.Case}
-use Rattle.rv_proofs.proofs.{CaseRows.case_rows, RowTighter.claim-shows, RowTighter.claim-taken}
-use Rattle.rv_walk.specs.{Ends.has, Walks.missing}
-use Rattle.rv_claims.specs.Order.{IsBelowClosed}
-use Rattle.rv_rise.specs.Rounds.{IsFrameOf, IsSetting, IsHeld, IsKeptRisen, IsAbove, HasGrown, HasTaken, IsCaseIn, IsInCases, left_of, claim_in}
-use Rattle.rv_rise.specs.{declared.frame.Frame.Frame, declared.risen.Risen.Risen, declared.limits.Loosened.Loosened, Shown.IsShownAfter, Limits.limit_at}
-use Rattle.rv_rise.specs.{Limits.AreLoosened, Limits.AreAmong, Limits.HasChanged, Limits.room, Sides.rows_with, Opening.IsOpened}
-use Rattle.rv_rise.proofs.{Listing.IsRowAt, Listing.rows_with-has, Listing.rows_with-from, Loosening.changed_le, Composing.above_same, Showing.shown_right}
-use Rattle.rv_base.proofs.Truths.{either_then}
+use Rattle.rv_proofs.specs.{Systems.System, Systems.IsSystem, Scopes.IsIn, Systems.updates_of, Systems.rows_of, RowClaims.RowClaim, RowClaims.IsRowTaken}
+use Rattle.rv_proofs.specs.{RowClaims.premises_at}
+use Rattle.rv_ends.specs.Risen.{IsRisen}
+use Rattle.rv_pairs.specs.{declared.labels.Labelled.Labelled, Labels.active, Moves.HoldsWhere, Telling.Tells, Telling.AreMet, Telling.IsZero}
+use Rattle.rv_pairs.proofs.{Following.after_up, Pairing.shown_still, Silent.tells_all, Silent.open_met}
+use Rattle.rv_leaving.specs.Exits.{AreLeft}
+use Rattle.rv_walk.specs.Ends.{has}
+use Rattle.rv_rise.specs.Rounds.{HoldsIn, IsKeptRisen, IsFirstHeld, IsPartOf, AreNextOf, claim_in}
+use Rattle.rv_rise.specs.{declared.frame.Frame.Frame, declared.risen.Risen.Risen, declared.steps.Part.Part, Limits.limit_at, Limits.AreRisen}
+use Rattle.rv_rise.proofs.Loosening.{risen_as}
 
--- limits stay among the thresholds
-pub loosened_among : (thresholds : List ℤ) (rows : List Row) (forms : List Form) (sides : List Row) (old new : List (Option ℤ))
-    → AreLoosened thresholds rows forms sides (length old) old new → AreAmong thresholds old → AreAmong thresholds new
-loosened_among thresholds rows forms sides old new are among k b at = go (cases_lt k (length old))
-  where
-    by : (limit_at old k ≡ Some b) ⊎ Contains thresholds b → Contains thresholds b
-    by (inl e) = among k b e
-    by (inr known) = known
-
-    go : (k < length old) ⊎ (length old ≤ k) → Contains thresholds b
-    go (inl l) = let x = are.each k l in by (x.among b at)
-    go (inr m) = absurd (none-some b (sym (get_or_past new k Nothing (let size = are.size in omega (arith, size, m))) ∙ at))
-
-risen_same : (a b : Risen) → a.reached ≡ b.reached → a.limits ≡ b.limits → a ≡ b
-risen_same a b e f =
-    ap (λ (x : Frozen). let c : Risen = record { reached = x; limits = a.limits } in c) e
-    ∙ ap (λ (x : List (Option ℤ)). let c : Risen = record { reached = b.reached; limits = x } in c) f
-
-module _ (s : System) (is : IsSystem s) (f : Frame) (frame : IsFrameOf s f) (base : RowClaim) (from : Frozen) (given : List Row)
-    (setting : IsSetting s base from given) (case : Case) (of : IsCaseIn s from case) (premises : List Row) (are : premises ≡ case.rows ++ given) where
-  pub premises_here : (v : Valuation) → IsIn case.condition v → premises_at s base v ≡ premises
-  premises_here v i = setting.premises v (of.within v i) ∙ ap (λ (rs : List Row). rs ++ given) (case_rows s case v of.case i) ∙ sym are
-
-  -- where the premises are not shut each valuation of the case is taken, and where they are none is
-  pub all_taken : ¬ AreShutAtOnce premises → (v : Valuation) → IsIn case.condition v → IsRowTaken s base v
-  all_taken o v i = record {
-    allowed = of.case.given.allowed v i;
-    reached = setting.reached v (of.within v i);
-    is_open = λ shut. o (subst AreShutAtOnce (premises_here v i) shut);
-  }
-
-  pub none_taken : AreShutAtOnce premises → (v : Valuation) → IsIn case.condition v → ¬ IsRowTaken s base v
-  none_taken shut v i t = t.is_open (subst AreShutAtOnce (sym (premises_here v i)) shut)
-
-  -- a shut case leaves the claim as it is
-  pub grown_shut : AreShutAtOnce premises → (c : Risen) → IsKeptRisen s f c → HasGrown s f base (IsIn case.condition) false c c
-  grown_shut shut c kept = record {
-    kept = kept;
-    above = above_same c;
-    below = λ h k. k;
-    still = λ e. refl;
-    held = λ v i. record {
-      next = λ t. absurd (none_taken shut v i t);
-      rows = λ t. absurd (none_taken shut v i t);
-    };
-    less = λ (e : false ≡ true). cc;
-  }
-
-  -- what is shown of the case is shown at each of its valuations, and the other way round
-  shown_there : (v : Valuation) → IsIn case.condition v → (r : Row) → IsShownAfter premises case.updates r
-      → IsShownAfter (premises_at s base v) (updates_of s v) r
-  shown_there v i r (new, sub, shows) = (
-    new,
-    subst (λ (fs : List Form). IsSubstituted r fs new) (sym (of.case.updates v i)) sub,
-    subst (λ (rs : List Row). ShowsAtOnce rs new) (sym (premises_here v i)) shows,
-  )
-
-  shown_here : (v : Valuation) → IsIn case.condition v → (r : Row) → IsShownAfter (premises_at s base v) (updates_of s v) r
-      → IsShownAfter premises case.updates r
-  shown_here v i r (new, sub, shows) = (
-    new,
-    subst (λ (fs : List Form). IsSubstituted r fs new) (of.case.updates v i) sub,
-    subst (λ (rs : List Row). ShowsAtOnce rs new) (premises_here v i) shows,
-  )
-
-  module _ (old mid new : Risen) (kept : IsKeptRisen s f old) (x : Loosened) (opened : IsOpened f premises case.updates old.limits x)
-      (set : Frozen) (image : IsImage s from case set) (fresh : Bool) (took : HasTaken s set fresh old mid)
-      (is_reached : new.reached ≡ mid.reached) (is_limits : new.limits ≡ x.limits) where
-    abbrev some : Valuation
-    some = of.case.some.0
-
-    some_in : IsIn case.condition some
-    some_in = of.case.some.1
-
-    all : (v : Valuation) → IsIn case.condition v → IsRowTaken s base v
-    all = all_taken opened.is_open
-
-    has_new : (v : Valuation) → has new.reached v ≡ (has set v || has old.reached v)
-    has_new v = ap (λ (r : Frozen). has r v) is_reached ∙ took.exact v
-
-    loosened : AreLoosened f.thresholds premises case.updates f.sides (length old.limits) old.limits new.limits
-    loosened = subst (λ (os : List (Option ℤ)). AreLoosened f.thresholds premises case.updates f.sides (length old.limits) old.limits os) (sym is_limits)
-        opened.loosened
-
-    is_state_zero : 0 < s.states → (v w : Valuation) → HasSameState s v w → v 0 ≡ w 0
-    is_state_zero some_states v w same = same 0 (0, some_states, refl)
-
-    in_set : (v : Valuation) → IsIn set v → (w : Valuation) × IsIn from w × IsIn case.condition w × HasSameState s (s.next w) v
-    in_set v i = (image.exact v).0 i
-
-    kept_states : (v : Valuation) → (IsIn set v) ⊎ (IsIn old.reached v) → 0 < s.states
-    kept_states v (inl i) = let (w, there, on, same) = in_set v i in setting.states w there
-    kept_states v (inr i) = kept.states v i
-
-    kept_ticked : (v : Valuation) → (IsIn set v) ⊎ (IsIn old.reached v) → IsTrue (s.initial v) ⊎ (v 0 ≡ true)
-    kept_ticked v (inl i) = let (w, there, on, same) = in_set v i in inr (sym (is_state_zero (setting.states w there) (s.next w) v same) ∙ is.ticks w)
-    kept_ticked v (inr i) = kept.ticked v i
-
-    either : (v : Valuation) → IsIn new.reached v → (IsIn set v) ⊎ (IsIn old.reached v)
-    either v i = go (either_then (has set v) (has old.reached v) (sym (has_new v) ∙ i))
-      where
-        go : (has set v ≡ true) ⊎ ((has set v ≡ false) × (has old.reached v ≡ true)) → (IsIn set v) ⊎ (IsIn old.reached v)
-        go (inl e) = inl e
-        go (inr (d, e)) = inr e
-
-    from_old : (v : Valuation) → IsIn old.reached v → IsIn new.reached v
-    from_old v i = has_new v ∙ ap (λ b. has set v || b) i ∙ or_true (has set v)
-      where
-        or_true : (b : Bool) → (b || true) ≡ true
-        or_true true = refl
-        or_true false = refl
-
-    from_set : (v : Valuation) → IsIn set v → IsIn new.reached v
-    from_set v i = has_new v ∙ ap (λ b. b || has old.reached v) i
-
-    new_kept : IsKeptRisen s f new
-    new_kept = record {
-      control = subst (λ (r : Frozen). IsControlSet s r) (sym is_reached) took.control;
-      initial = λ v i. from_old v (kept.initial v i);
-      ticked = λ v i. kept_ticked v (either v i);
-      states = λ v i. kept_states v (either v i);
-      size = loosened.size ∙ kept.size;
-      among = loosened_among f.thresholds premises case.updates f.sides old.limits new.limits loosened kept.among;
-    }
-
-    module _ (m : IsBelowClosed s f.thresholds base) (o : IsBelowClosed s f.thresholds (claim_in f old)) (d : RowClaim)
-        (claim : IsRowClaim s f.thresholds d) (closed : IsRowClosed s d) where
-      taken_there : (v : Valuation) → IsIn case.condition v → IsRowTaken s d v
-      taken_there v i = claim-taken s f.thresholds base d claim (m d claim closed) v (all v i)
-
-      below_reached : (v : Valuation) → (IsIn set v) ⊎ (IsIn old.reached v) → IsTrue (d.reached v)
-      below_reached v (inl i) =
-          let (w, there, on, same) = in_set v i in
-          sym (claim.reached (s.next w) v same) ∙ closed.next w (taken_there w on)
-      below_reached v (inr i) = (o d claim closed).reached v i
-
-      -- a row of the other claim is shown here
-      shown_of : (r : Row) → Contains d.rows r → IsShownAfter premises case.updates r
-      shown_of r known =
-          let (after, sub, shows) = closed.rows some (taken_there some some_in) r known in
-          shown_here some some_in r (after, sub, claim-shows s f.thresholds base d claim (m d claim closed) some after shows)
-
-      below_row : (r : Row) → Contains d.rows r → HasTighter (rows_with f.sides old.limits) r → HasTighter (rows_with f.sides new.limits) r
-      below_row r known (q, held, same, low) = go (rows_with-from f.sides old.limits q held)
-        where
-          go : IsRowAt f.sides old.limits q → HasTighter (rows_with f.sides new.limits) r
-          go at =
-              let size = kept.size in
-              let l = at.there in
-              let step = loosened.each at.place (omega (arith, size, l)) in
-              let known_bound = (claim.rows r known).bound in
-              let side : r.coefficients ≡ (row_at f.sides at.place).coefficients = sym same ∙ at.side in
-              let shown = subst (λ (cs : List ℤ). IsShownAfter premises case.updates (bounded cs r.bound)) side (shown_of r known) in
-              let (b, is_b, le) = step.least q.bound r.bound at.limit low known_bound shown in
-              (bounded (row_at f.sides at.place).coefficients b, rows_with-has f.sides new.limits at.place b l is_b, sym side, le)
-
-      below : IsRowTighter (claim_in f new) d
-      below = record {
-        reached = λ v i. below_reached v (either v i);
-        rows = λ r known. below_row r known ((o d claim closed).rows r known);
-      }
-
-    limits_still : x.changed ≡ false → new.limits ≡ old.limits
-    limits_still e = is_limits ∙ subst (λ (b : Bool). HasChanged b old.limits x.limits) e opened.changed
-
-    still : (fresh ≡ false) × (x.changed ≡ false) → new ≡ old
-    still (a, b) = risen_same new old (is_reached ∙ ap (λ (y : Risen). y.reached) (took.still a)) (limits_still b)
-
-    above : IsAbove old new
-    above = record { reached = from_old; limits = λ k b e. rose k b e (cases_lt k (length old.limits)) }
-      where
-        rose : (k : ℕ) (b : ℤ) → limit_at new.limits k ≡ Some b → (k < length old.limits) ⊎ (length old.limits ≤ k)
-            → (a : ℤ) × (limit_at old.limits k ≡ Some a) × (a ≤ℤ b)
-        rose k b e (inl l) = let step = loosened.each k l in step.rises b e
-        rose k b e (inr m) = absurd (none-some b (sym (get_or_past new.limits k Nothing (let size = loosened.size in omega (arith, size, m))) ∙ e))
-
-    held_row : (r : Row) → IsRowAt f.sides new.limits r → IsShownAfter premises case.updates r
-    held_row r at =
-        let size = kept.size in
-        let l = at.there in
-        let step = loosened.each at.place (omega (arith, size, l)) in
-        subst (λ (cs : List ℤ). IsShownAfter premises case.updates (bounded cs r.bound)) (sym at.side) (step.shown r.bound at.limit)
-
-    held : (v : Valuation) → IsIn case.condition v → IsHeld s base (claim_in f new) v
-    held v i = record {
-      next = λ t. from_set (s.next v) ((image.exact (s.next v)).1 (v, of.within v i, i, λ y state. refl));
-      rows = λ t r known. shown_there v i r (held_row r (rows_with-from f.sides new.limits r known));
-    }
-
-    -- there is less left, in all parts or in none
-    limits_le : room new.limits ≤ room old.limits
-    limits_le = subst (λ (os : List (Option ℤ)). room os ≤ room old.limits) (sym is_limits) (changed_le x.changed old.limits x.limits opened.changed)
-
-    limits_less : x.changed ≡ true → room new.limits < room old.limits
-    limits_less e = subst (λ (os : List (Option ℤ)). room os < room old.limits) (sym is_limits)
-        (subst (λ (b : Bool). HasChanged b old.limits x.limits) e opened.changed)
-
-    reached_less : fresh ≡ true → (v : Valuation) → missing s.states (has new.reached) v < missing s.states (has old.reached) v
-    reached_less e v = subst (λ (r : Frozen). missing s.states (has r) v < missing s.states (has old.reached) v) (sym is_reached) (took.less e v)
-
-    reached_le : (v : Valuation) → missing s.states (has new.reached) v ≤ missing s.states (has old.reached) v
-    reached_le v = go (cases_Bool fresh)
-      where
-        go : (fresh ≡ true) ⊎ (fresh ≡ false) → missing s.states (has new.reached) v ≤ missing s.states (has old.reached) v
-        go (inl e) = let l = reached_less e v in omega (arith, l)
-        go (inr e) =
-            let q : missing s.states (has new.reached) v ≡ missing s.states (has old.reached) v = ap (λ (r : Frozen). missing s.states (has r) v)
-            (is_reached ∙ ap (λ (y : Risen). y.reached) (took.still e)) in
-            omega (arith, q)
-
-    less : (fresh || x.changed) ≡ true → (v : Valuation) → left_of s.states new v < left_of s.states old v
-    unfolding left_of
-    less e v = go (either_then fresh x.changed e)
-      where
-        go : (fresh ≡ true) ⊎ ((fresh ≡ false) × (x.changed ≡ true)) → left_of s.states new v < left_of s.states old v
-        go (inl d) = let l = limits_le in let n = reached_less d v in omega (arith, l, n)
-        go (inr (_, d)) = let l = limits_less d in let n = reached_le v in omega (arith, l, n)
-
-    pub grown_open : HasGrown s f base (IsIn case.condition) (fresh || x.changed) old new
-    grown_open = record {
-      kept = new_kept;
-      above = above;
-      below = λ m o d claim closed. below m o d claim closed;
-      still = λ e. still (or_parts fresh x.changed e);
-      held = held;
-      less = less;
-    }
-
--- where the rows that are given are shut by themselves all cases leave the claim as it is
-pub grown_all_shut : (s : System) → IsSystem s → (f : Frame) → IsFrameOf s f → (base : RowClaim) (from : Frozen) (given : List Row)
-    → IsSetting s base from given → (cases : List Case) → AreCases s from cases → AreShutAtOnce given → (c : Risen) → IsKeptRisen s f c
-    → HasGrown s f base (IsInCases cases (length cases)) false c c
-grown_all_shut s is f frame base from given setting cases are shut c kept = record {
-  kept = kept;
-  above = above_same c;
-  below = λ h k. k;
-  still = λ e. refl;
-  held = λ v (j, x, l, at, i).
-      let one = grown_shut s is f frame base from given setting x (record { case = are.each j x at; within = λ w h. are.within j x w at h })
-      (x.rows ++ given) refl
-      (shown_right x.rows given _ shut) c kept in
-      one.held v i;
-  less = λ (e : false ≡ true). cc;
+-- a limit that rises, where something else holds from the old one on
+pub risen_with : (thresholds : List ℤ) (P Q : ℤ → Type 0) (old new : Option ℤ) → IsRisen thresholds P old new
+    → ((a b : ℤ) → old ≡ Some a → a ≤ℤ b → Q b) → IsRisen thresholds (λ b. P b × Q b) old new
+risen_with thresholds P Q old new h from = record {
+  held = λ b e. let (a, there, l) = h.rises b e in (h.held b e, from a b there l);
+  rises = h.rises;
+  among = h.among;
+  least = λ a b e l has (p, q). h.least a b e l has p;
 }
+
+-- where a valuation is allowed and its tests are not shut at once
+pub asked_is : (s : System) (v : Valuation) (r whole : Bool) (rows : List Row) → (r ≡ true) ↔ ((whole ≡ true) × ¬ AreShutAtOnce rows) → whole ≡ s.allowed v
+    → rows ≡ rows_of s v → (r ≡ true) ↔ (IsTrue (s.allowed v) × ¬ AreShutAtOnce (rows_of s v))
+asked_is s v r whole rows h meant are = (
+  λ on. let (a, never) = h.0 on in (sym meant ∙ a, λ shut. never (subst AreShutAtOnce (sym are) shut)),
+  λ (a, never). h.1 (meant ∙ a, λ shut. never (subst AreShutAtOnce are shut)),
+)
+
+-- what rows that are shut at once show
+abbrev falsity : Row
+falsity = record { coefficients = []; bound = negsuc 0 }
+
+-- more rows show what the first ones do
+pub shown_append : (rows more : List Row) (w : Row) → ShowsAtOnce rows w → ShowsAtOnce (rows ++ more) w
+shown_append rows [] w h = subst (λ (rs : List Row). ShowsAtOnce rs w) (sym (append-nil rows)) h
+shown_append rows (r ∷ more) w h =
+    subst (λ (rs : List Row). ShowsAtOnce rs w) (append_assoc rows (r ∷ []) more) (shown_append (rows ++ r ∷ []) more w (shown_still rows r w h))
+
+module _ (s : System) (c : RowClaim) (solid : (r : Row) → Contains c.rows r → IsZero r → ⊥) (v : Valuation) where
+  -- the premises at the valuation, and those that are told
+  pub told_premises : (told : List Row) → Tells (rows_of s v) told → Tells (premises_at s c v) (told ++ cond (v 0) c.rows [])
+  told_premises told t = go (v 0)
+    where
+      go : (b : Bool) → Tells (cond b (rows_of s v ++ c.rows) (rows_of s v)) (told ++ cond b c.rows [])
+      go true = tells_all (rows_of s v) told c.rows t
+      go false = subst (Tells (rows_of s v)) (sym (append-nil told)) t
+
+  pub more_shown : (w : Row) → ShowsAtOnce (rows_of s v) w → ShowsAtOnce (premises_at s c v) w
+  more_shown w h = go (v 0)
+    where
+      go : (b : Bool) → ShowsAtOnce (cond b (rows_of s v ++ c.rows) (rows_of s v)) w
+      go true = shown_append (rows_of s v) c.rows w h
+      go false = h
+
+  pub premises_met : ¬ AreShutAtOnce (rows_of s v) → AreMet (premises_at s c v)
+  premises_met never = go (v 0)
+    where
+      parts : (r : Row) → Contains (rows_of s v) r ⊎ Contains c.rows r → IsZero r → pos 0 ≤ℤ r.bound
+      parts r (inl has) zero = open_met (rows_of s v) never r has zero
+      parts r (inr has) zero = absurd (solid r has zero)
+
+      go : (b : Bool) → AreMet (cond b (rows_of s v ++ c.rows) (rows_of s v))
+      go true r has zero = parts r (Contains-append_cases (rows_of s v) c.rows r has) zero
+      go false r has zero = parts r (inl has) zero
+
+  -- where the claim takes the valuation
+  module _ (told rows : List Row) (t : Tells (rows_of s v) told) (are : c.reached v ≡ true → rows ≡ told ++ cond (v 0) c.rows []) (r allowed : Bool)
+      (is : (r ≡ true) ↔ (((allowed ≡ true) × (c.reached v ≡ true)) × ¬ AreShutAtOnce rows))
+      (asked : (allowed ≡ true) ↔ (IsTrue (s.allowed v) × ¬ AreShutAtOnce (rows_of s v))) where
+    rows_tell : c.reached v ≡ true → Tells (premises_at s c v) rows
+    rows_tell there = subst (Tells (premises_at s c v)) (sym (are there)) (told_premises told t)
+
+    rows_show : c.reached v ≡ true → ¬ AreShutAtOnce (rows_of s v) → (w : Row) → ShowsAtOnce rows w ↔ ShowsAtOnce (premises_at s c v) w
+    rows_show there never w = let h = rows_tell there in h.same (premises_met never) w
+
+    never_shut : IsRowTaken s c v → ¬ AreShutAtOnce (rows_of s v)
+    never_shut k shut = k.is_open (more_shown falsity shut)
+
+    pub taken_shows : IsRowTaken s c v → (w : Row) → ShowsAtOnce rows w ↔ ShowsAtOnce (premises_at s c v) w
+    taken_shows k w = rows_show k.reached (never_shut k) w
+
+    pub claim_takes : (r ≡ true) ↔ IsRowTaken s c v
+    claim_takes = (to, from)
+      where
+        to : r ≡ true → IsRowTaken s c v
+        to on =
+            let (both, is_open) = is.0 on in
+            let (a, there) = both in
+            let (fine, never) = asked.0 a in
+            record { allowed = fine; reached = there; is_open = λ shut. is_open ((rows_show there never falsity).1 shut) }
+
+        from : IsRowTaken s c v → r ≡ true
+        from k = is.1 ((asked.1 (k.allowed, never_shut k), k.reached), λ shut. k.is_open ((taken_shows k falsity).0 shut))
+
+-- a part of a reference
+pub part_first : (d : Diagrams) (taken sure : ℕ) (first : Bool) → first ≡ true → IsRef d.nodes taken → IsRef d.nodes sure
+    → ((v : Valuation) → value_of d.nodes sure v ≡ true) → IsPartOf d d taken first (record { here = taken; sure = sure })
+part_first d taken sure first e there known means = record {
+  here = there;
+  sure = known;
+  within = λ v on. means v;
+  among = λ v on. on;
+  ticked = λ some v on. inl e;
+  all = λ some v on tick. on;
+}
+
+pub part_later : (old mid new : Diagrams) (taken sure here : ℕ) (first : Bool) → first ≡ false → Extends old mid → IsRef old.nodes taken → IsRef mid.nodes sure
+    → (0 < old.variables → (v : Valuation) → value_of mid.nodes sure v ≡ v 0)
+    → Answers mid new (λ v. value_of mid.nodes taken v && value_of mid.nodes sure v) here
+    → IsPartOf old new taken first (record { here = here; sure = sure })
+part_later old mid new taken sure here first off e there known ticks a = record {
+  here = a.found;
+  sure = let g = a.grows in omega (arith, known, g.longer);
+  within = λ v on. let g = a.grows in g.kept sure known v ∙ (parts v on).1;
+  among = λ v on. sym (e.kept taken there v) ∙ (parts v on).0;
+  ticked = λ some v on. inr (sym (ticks some v) ∙ (parts v on).1);
+  all = λ some v on tick. a.means v ∙ and_from (value_of mid.nodes taken v) (value_of mid.nodes sure v) (e.kept taken there v ∙ on)
+      (ticks some v ∙ later v tick);
+}
+  where
+    parts : (v : Valuation) → value_of new.nodes here v ≡ true → (value_of mid.nodes taken v ≡ true) × (value_of mid.nodes sure v ≡ true)
+    parts v on = and_parts (value_of mid.nodes taken v) (value_of mid.nodes sure v) (sym (a.means v) ∙ on)
+
+    later : (v : Valuation) → (first ≡ true) ⊎ (v 0 ≡ true) → v 0 ≡ true
+    later v (inl on) = let bad : false ≡ true = sym off ∙ on in cc
+    later v (inr tick) = tick
+
+-- WHAT FOLLOWS
+
+module _ (s : System) (is : IsSystem s) (f : Frame) (c : Risen) (kept : IsKeptRisen s f c) (first : Bool) (begun : first ≡ false → IsFirstHeld s f c)
+    (old new : Diagrams) (variables : old.variables ≡ s.variables) (taken : ℕ)
+    (takes : (v : Valuation) → (value_of old.nodes taken v ≡ true) ↔ IsRowTaken s (claim_in f c) v)
+    (part : Part) (p : IsPartOf old new taken first part) (labels : List Labelled)
+    (shows : (v : Valuation) → IsRowTaken s (claim_in f c) v → (w : Row) → ShowsAtOnce (active new.nodes labels v) w
+    ↔ ShowsAtOnce (premises_at s (claim_in f c) v) w) where
+  pub part_taken : (v : Valuation) → value_of new.nodes part.here v ≡ true → IsRowTaken s (claim_in f c) v
+  part_taken v on = (takes v).0 (p.among v on)
+
+  some_variables : (v : Valuation) → IsRowTaken s (claim_in f c) v → 0 < old.variables
+  some_variables v t = let some = kept.states v t.reached in omega (arith, some, is.bits, variables)
+
+  part_or : (v : Valuation) → IsRowTaken s (claim_in f c) v → (value_of new.nodes part.here v ≡ true) ⊎ ((first ≡ false) × IsTrue (s.initial v))
+  part_or v t = go (cases_Bool first) (kept.ticked v t.reached)
+    where
+      go : (first ≡ true) ⊎ (first ≡ false) → IsTrue (s.initial v) ⊎ (v 0 ≡ true)
+          → (value_of new.nodes part.here v ≡ true) ⊎ ((first ≡ false) × IsTrue (s.initial v))
+      go (inl e) tick = inl (p.all (some_variables v t) v ((takes v).1 t) (inl e))
+      go (inr e) (inl i) = inr (e, i)
+      go (inr e) (inr tick) = inl (p.all (some_variables v t) v ((takes v).1 t) (inr tick))
+
+  -- at initial valuations
+  abbrev HoldsFirst : List ℤ → ℤ → Type 0
+  HoldsFirst numbers z = (v : Valuation) → IsTrue (s.initial v) → IsRowTaken s (claim_in f c) v → first ≡ false
+      → (row : Row) × IsSubstituted (bounded numbers z) (updates_of s v) row × ShowsAtOnce (premises_at s (claim_in f c) v) row
+
+  to_holds : (numbers : List ℤ) (z : ℤ) → HoldsWhere s new.nodes labels part.here numbers z → HoldsFirst numbers z → HoldsIn s (claim_in f c) numbers z
+  to_holds numbers z later initial v t = go (part_or v t)
+    where
+      go : (value_of new.nodes part.here v ≡ true) ⊎ ((first ≡ false) × IsTrue (s.initial v))
+          → (row : Row) × IsSubstituted (bounded numbers z) (updates_of s v) row × ShowsAtOnce (premises_at s (claim_in f c) v) row
+      go (inl on) = let (row, sub, h) = later v on in (row, sub, (shows v t row).0 h)
+      go (inr (e, i)) = initial v i t e
+
+  from_holds : (numbers : List ℤ) (z : ℤ) → HoldsIn s (claim_in f c) numbers z → HoldsWhere s new.nodes labels part.here numbers z
+  from_holds numbers z h v on =
+      let t = part_taken v on in
+      let (row, sub, k) = h v t in (row, sub, (shows v t row).1 k)
+
+  pub limits_risen : (news : List (Option ℤ))
+      → AreRisen f.thresholds (HoldsWhere s new.nodes labels part.here) f.sides (length c.limits) c.limits news
+      → AreRisen f.thresholds (HoldsIn s (claim_in f c)) f.sides (length c.limits) c.limits news
+  limits_risen news are = record {
+    size = are.size;
+    each = λ k l. one k (are.each k l);
+  }
+    where
+      from_first : (k : ℕ) (a b : ℤ) → limit_at c.limits k ≡ Some a → a ≤ℤ b → HoldsFirst (row_at f.sides k).coefficients b
+      from_first k a b at l v i t e =
+          let h = begun e in
+          after_up s v (row_at f.sides k).coefficients (premises_at s (claim_in f c) v) a b l (h.rows k a at v i t)
+
+      one : (k : ℕ) → IsRisen f.thresholds (HoldsWhere s new.nodes labels part.here (row_at f.sides k).coefficients) (limit_at c.limits k) (limit_at news k)
+          → IsRisen f.thresholds (HoldsIn s (claim_in f c) (row_at f.sides k).coefficients) (limit_at c.limits k) (limit_at news k)
+      one k h =
+          let numbers = (row_at f.sides k).coefficients in
+          risen_as f.thresholds (λ b. HoldsWhere s new.nodes labels part.here numbers b × HoldsFirst numbers b) (HoldsIn s (claim_in f c) numbers)
+          (limit_at c.limits k) (limit_at news k) (λ b (x, y). to_holds numbers b x y)
+          (λ b x. (from_holds numbers b x, λ v i t e. x v t))
+          (risen_with f.thresholds (HoldsWhere s new.nodes labels part.here numbers) (HoldsFirst numbers) (limit_at c.limits k) (limit_at news k) h
+          (λ a b at l. from_first k a b at l))
+
+  pub next_states : (set : Frozen) → AreLeft s new.nodes c.reached part.here set → AreNextOf s (claim_in f c) set
+  next_states set left = record {
+    control = left.control;
+    made = λ v i. let (w, on, same) = left.made v i in (w, part_taken w on, same);
+    there = λ w t. go w t (part_or w t);
+  }
+    where
+      go : (w : Valuation) → IsRowTaken s (claim_in f c) w → (value_of new.nodes part.here w ≡ true) ⊎ ((first ≡ false) × IsTrue (s.initial w))
+          → (IsIn set (s.next w)) ⊎ IsTrue (has c.reached (s.next w))
+      go w t (inl on) = left.there w on
+      go w t (inr (e, i)) = let h = begun e in inr (h.next w i t)

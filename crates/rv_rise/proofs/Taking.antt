@@ -1,13 +1,13 @@
 -- A set that is taken into a claim.
-use Rattle.std.proofs.Common.{◌≡◌, ℕ, true, false, ◌||◌, refl, sym, ap, ◌∙◌, subst}
+use Rattle.std.proofs.Common.{◌≡◌, ℕ, true, false, ◌||◌, sym, ap, ◌∙◌, subst}
 use Rattle.std.proofs.lemmas.Bool.{or_left, or_right}
 use Rattle.rv_diagram.specs.{Nodes.Valuation, declared.frozen.Frozen.Frozen}
 use Rattle.rv_proofs.specs.{Systems.System, Systems.HasSameState, Ranges.IsControlSet}
 use Rattle.rv_proofs.proofs.ControlReads.{control_same}
-use Rattle.rv_walk.specs.{Ends.has, Extended.fresh_of, Extended.IsExtended, declared.sets.Extended.Extended}
+use Rattle.rv_walk.specs.{Ends.has, Extended.IsExtended, declared.sets.Extended.Extended}
 use Rattle.rv_walk.proofs.Counting.{missing_less}
 use Rattle.rv_rise.specs.{declared.risen.Risen.Risen, Rounds.HasTaken}
-use Rattle.rv_base.proofs.Truths.{covered, none_new}
+use Rattle.rv_base.proofs.Truths.{none_new}
 use Rattle.rv_diagram.proofs.Several.{same_truth}
 
 pub same_states : (s : System) (set : Frozen) → IsControlSet s set → (v w : Valuation) → HasSameState s v w → has set v ≡ has set w
@@ -15,15 +15,6 @@ same_states s set control v w same =
     same_truth (has set v) (has set w) (control_same s set v w control same) (control_same s set w v control (λ x state. sym (same x state)))
 
 module _ (s : System) (old : Risen) (set : Frozen) (control : IsControlSet s old.reached) where
-  pub taken_none : ((v : Valuation) → fresh_of old.reached set v ≡ false) → HasTaken s set false old old
-  taken_none none = record {
-    control = control;
-    exact = λ v. covered (has set v) (has old.reached v) (none v);
-    limits = refl;
-    still = λ e. refl;
-    less = λ (e : false ≡ true). cc;
-  }
-
   pub taken_new : (m : ℕ) (e : Extended) (new : Risen) → IsControlSet s e.all → IsExtended m old.reached set e → new.reached ≡ e.all → new.limits ≡ old.limits
       → HasTaken s set true old new
   taken_new m e new all x is limits = record {

@@ -1,21 +1,23 @@
-//! Limits, loosened by what premises show after updates.
+//! Limits, risen by what the premises of a claim show after the updates where the claim takes a valuation.
 
-ghost use Rattle.std.specs.Prelude.{◌≡◌, ◌≢◌, ◌⊎◌, ◌||◌, true, ℤ, ℕ, ◌<◌, ◌≤◌, ◌^◌, pos, ◌≤ℤ◌, ◌<ℤ◌, length, All, IfOk, MatchBool, Some};
+ghost use Rattle.std.specs.Prelude.{◌≡◌, ◌≢◌, ◌||◌, ◌<◌, ◌≤◌, ◌^◌, true, length, All, IfOk, IfSome, IsErrOf, MatchBool};
 ghost use Rattle.std.specs.Int.RustNames.{unsigned_abs};
-ghost use Rattle.rv_rows.specs.Rows.{row_at};
-ghost use Rattle.rv_rise.specs.Orders.{IsLeastAbove};
-ghost use Rattle.rv_rise.specs.Shown.{ArePremises, CanMove, CanMoveAll};
-ghost use Rattle.std.specs.List.{Contains};
-ghost use Rattle.rv_seek.specs.Least.{bounded};
-ghost use Rattle.rv_rise.specs.Limits.{IsLoosened, AreLoosened, HasChanged, AreOwn, limit_at};
-ghost use Rattle.rv_rise.specs.Still.{AreStill, IsStillSide};
+ghost use Rattle.rv_diagram.specs.Nodes.{Valuation, IsRef, value_of};
+ghost use Rattle.rv_proofs.specs.Systems.{System, IsSystem};
+ghost use Rattle.rv_cases.specs.Questions.{AreQuestions};
+ghost use Rattle.rv_pairs.specs.Labels.{AreLabels};
+ghost use Rattle.rv_pairs.specs.Moves.{HoldsWhere};
+ghost use Rattle.rv_ends.specs.Risen.{IsRisen};
+ghost use Rattle.rv_rise.specs.Limits.{AreRisen, AreSmall, HasChanged};
+ghost use Rattle.rv_rise.specs.Sides.{AreSides};
 
-use crate::shown::needed;
-use crate::still::is_still;
-use crate::thresholds::{is_below, least_above};
-use rv_base::{Many, Memory};
-use rv_rows::{Form, Row};
-use rv_seek::Premises;
+use crate::columns::columns_of;
+use crate::frame::Frame;
+use rv_base::Many;
+use rv_cases::Questions;
+use rv_diagram::{Ref, Store, StoreFault};
+use rv_pairs::{LabelledRows, risen_row};
+use rv_rows::Row;
 use std::alloc::Global;
 
 /// Limits, and whether some of them have changed.
@@ -25,91 +27,6 @@ pub struct Loosened {
     pub limits: Many<Option<i128>>,
     /// Whether one is other than before.
     pub changed: bool,
-}
-
-/// The limit, or where the value is past it the least threshold that is not below the value.
-fn risen(thresholds: &Many<i128>, limit: i128, value: i128) -> Option<i128>
-    ensures { ((value ≤ℤ limit) × (result ≡ Some limit)) ⊎ ((limit <ℤ value) × IsLeastAbove thresholds.now value result) }
-{
-    if is_below(limit, value) {
-        return least_above(thresholds, value);
-    }
-    Some(limit)
-}
-
-/// A limit that is there, loosened to what the premises show of its left side after the updates.
-fn loosened_from(
-    alloc: Global,
-    premises: &Premises,
-    updates: &Many<Form>,
-    side: &Row,
-    thresholds: &Many<i128>,
-    limit: i128,
-) -> Result<Option<i128>, Memory>
-    requires premises { ArePremises premises.now }
-    requires zero { side.now.bound ≡ pos 0 }
-    requires moves { CanMove side.now updates.now }
-    ensures { IfOk result (IsLoosened thresholds.now premises.now updates.now side.now (Some limit)) }
-{
-    match needed(alloc, premises, updates, side, limit)? {
-        Some(value) => Ok(risen(thresholds, limit, value)),
-        None => Ok(None),
-    }
-}
-
-/// Whether the left side keeps its limit: one of its own that is not above the limit is among the premises, and the updates leave its columns as
-/// they are.
-fn is_kept(side: &Row, still: &Many<bool>, limit: i128, own: Option<i128>) -> bool
-    ensures { result ≡ true → (known : ℤ) × (own ≡ Some known) × (known ≤ℤ limit) × IsStillSide side.now.coefficients still.now }
-{
-    match own {
-        Some(known) => {
-            if is_below(limit, known) {
-                return false;
-            }
-            is_still(side, still)
-        }
-        None => false,
-    }
-}
-
-/// A limit, loosened to what the premises show of its left side after the updates. `own` is a limit whose row is among the premises.
-fn loosened_by(
-    alloc: Global,
-    premises: &Premises,
-    updates: &Many<Form>,
-    still: &Many<bool>,
-    side: &Row,
-    thresholds: &Many<i128>,
-    limit: Option<i128>,
-    own: Option<i128>,
-) -> Result<Option<i128>, Memory>
-    requires premises { ArePremises premises.now }
-    requires zero { side.now.bound ≡ pos 0 }
-    requires moves { CanMove side.now updates.now }
-    requires still { AreStill updates.now still.now }
-    requires own { (known : ℤ) → own ≡ Some known → Contains premises.now (bounded side.now.coefficients known) }
-    ensures { IfOk result (IsLoosened thresholds.now premises.now updates.now side.now limit) }
-{
-    match limit {
-        Some(bound) => {
-            if is_kept(side, still, bound, own) {
-                return Ok(Some(bound));
-            }
-            loosened_from(alloc, premises, updates, side, thresholds, bound)
-        }
-        None => Ok(None),
-    }
-}
-
-/// The limit at a place, none past the end.
-fn limit_in(limits: &Many<Option<i128>>, place: usize) -> Option<i128>
-    ensures { result ≡ limit_at limits.now place }
-{
-    match limits.get(place) {
-        Some(limit) => *limit,
-        None => None,
-    }
 }
 
 /// Whether two numbers are different.
@@ -142,36 +59,86 @@ pub fn either(a: bool, b: bool) -> bool
     a || b
 }
 
-/// The limits, each loosened to what the premises show of its left side after the updates. `own` has limits whose rows are among the
-/// premises.
-pub fn loosen(
+/// The limit of a left side, risen where it has one. The store is left as it was.
+fn risen_limit(
     alloc: Global,
-    premises: &Premises,
-    updates: &Many<Form>,
-    still: &Many<bool>,
-    sides: &Many<Row>,
+    store: &mut Store,
+    sure: Ref,
+    taken: Ref,
+    questions: &Questions,
+    labels: &LabelledRows,
+    side: &Row,
+    columns: usize,
     thresholds: &Many<i128>,
-    limits: &Many<Option<i128>>,
-    own: &Many<Option<i128>>,
-) -> Result<Loosened, Memory>
-    requires premises { ArePremises premises.now }
-    requires sizes { length sides.now ≡ length limits.now }
-    requires zero { (k : ℕ) → k < length sides.now → (row_at sides.now k).bound ≡ pos 0 }
-    requires moves { CanMoveAll sides.now updates.now }
+    limit: Option<i128>,
+) -> Result<Option<i128>, StoreFault>
+    requires asked { (s : System) × IsSystem s × AreQuestions s store.old questions.now × (length side.now.coefficients ≡ s.memories) × (columns ≡ s.columns) }
+    requires sure { IsRef store.old.nodes sure }
+    requires taken { IsRef store.old.nodes taken }
+    requires within { (v : Valuation) → value_of store.old.nodes taken v ≡ true → value_of store.old.nodes sure v ≡ true }
+    requires labels { AreLabels store.old.nodes labels.now }
+    requires side { All (λ c. unsigned_abs c ≤ 1) side.now.coefficients }
     requires thresholds { All (λ t. unsigned_abs t ≤ 2 ^ 41) thresholds.now }
-    requires still { AreStill updates.now still.now }
-    requires own { AreOwn sides.now own.now premises.now }
-    ensures loosened { IfOk result (λ r. AreLoosened thresholds.now premises.now updates.now sides.now (length limits.now) limits.now r.limits) }
-    ensures changed { IfOk result (λ r. HasChanged r.changed limits.now r.limits) }
+    requires limit { IfSome limit (λ b. unsigned_abs b ≤ 2 ^ 41) }
+    ensures risen { IfOk result (λ o. (s : System) → IsSystem s → AreQuestions s store.old questions.now → length side.now.coefficients ≡ s.memories
+        → columns ≡ s.columns → 0 < s.memories
+        → IsRisen thresholds.now (HoldsWhere s store.old.nodes labels.now taken side.now.coefficients) limit o) }
+    ensures same { store.new ≡ store.old }
+    ensures roomy { IsErrOf result StoreFault.Nodes → store.old.limit < 2 ^ (2 ^ store.old.variables) }
 {
+    match limit {
+        Some(bound) => risen_row(
+            alloc,
+            store,
+            sure,
+            taken,
+            questions,
+            labels,
+            &side.coefficients,
+            columns,
+            thresholds,
+            bound,
+        ),
+        None => Ok(None),
+    }
+}
+
+/// The limits of the left sides, each risen by what the labelled rows show of it after the updates where `taken` is true. `sure` is true there. The
+/// store is left as it was.
+pub fn risen_limits(
+    alloc: Global,
+    store: &mut Store,
+    sure: Ref,
+    taken: Ref,
+    questions: &Questions,
+    labels: &LabelledRows,
+    frame: &Frame,
+    limits: &Many<Option<i128>>,
+) -> Result<Loosened, StoreFault>
+    requires asked { (s : System) × IsSystem s × AreQuestions s store.old questions.now × AreSides s frame.now.sides }
+    requires sure { IsRef store.old.nodes sure }
+    requires taken { IsRef store.old.nodes taken }
+    requires within { (v : Valuation) → value_of store.old.nodes taken v ≡ true → value_of store.old.nodes sure v ≡ true }
+    requires labels { AreLabels store.old.nodes labels.now }
+    requires sizes { length frame.now.sides ≡ length limits.now }
+    requires thresholds { All (λ t. unsigned_abs t ≤ 2 ^ 41) frame.now.thresholds }
+    requires small { AreSmall limits.now }
+    ensures risen { (s : System) → IsSystem s → AreQuestions s store.old questions.now → AreSides s frame.now.sides
+        → IfOk result (λ r. AreRisen frame.now.thresholds (HoldsWhere s store.old.nodes labels.now taken) frame.now.sides (length limits.now) limits.now
+        r.limits) }
+    ensures changed { IfOk result (λ r. HasChanged r.changed limits.now r.limits) }
+    ensures same { store.new ≡ store.old }
+    ensures roomy { IsErrOf result StoreFault.Nodes → store.old.limit < 2 ^ (2 ^ store.old.variables) }
+{
+    let columns = columns_of(store, questions);
+    let thresholds = &frame.thresholds;
     let mut list = Many::new(alloc);
     let mut changed = false;
     for place in 0..limits.len() {
         let limit = *limits.at(place);
-        let side = sides.at(place);
-        let known = limit_in(own, place);
-        let next = loosened_by(
-            alloc, premises, updates, still, side, thresholds, limit, known,
+        let side = frame.sides.at(place);
+        let next = risen_limit(
+            alloc, store, sure, taken, questions, labels, side, columns, thresholds, limit,
         )?;
         changed = either(changed, is_changed(limit, next));
         list.push(next)?;

@@ -1,38 +1,28 @@
-//! Rounds over the cases of a claim's control states, until none loosens the claim. Those of the initial ones are asked once, before them.
+//! Rounds over all valuations that a claim takes, until none loosens the claim.
 
-ghost use Rattle.std.specs.Prelude.{◌≡◌, ◌<◌, ◌≤◌, ◌^◌, ◌||◌, All, length, IfOk, IfSome, IsErrOf, OnOk};
+ghost use Rattle.std.specs.Prelude.{◌≡◌, ◌<◌, ◌≤◌, ◌^◌, ◌||◌, false, All, IfOk, IsErrOf};
 ghost use Rattle.std.specs.Int.RustNames.{unsigned_abs};
 ghost use Rattle.rv_diagram.specs.Nodes.{IsOrderedOver};
-ghost use Rattle.rv_diagram.specs.declared.frozen.Frozen.{Frozen as FrozenModel};
-ghost use Rattle.rv_symbolic.specs.Represented.{IsRelationOf};
-ghost use Rattle.rv_proofs.specs.Systems.{System};
-ghost use Rattle.rv_proofs.specs.Scopes.{IsIn};
+ghost use Rattle.rv_diagram.specs.Growing.{Extends};
+ghost use Rattle.rv_proofs.specs.Systems.{System, IsSystem};
 ghost use Rattle.rv_proofs.specs.Ranges.{IsControlSet};
-ghost use Rattle.rv_proofs.specs.RowClaims.{RowClaim};
-ghost use Rattle.rv_proofs.specs.Cases.{AreCases, IsCase, IsImage, IsInitialSet};
 ghost use Rattle.rv_cases.specs.declared.asking.Questions.{Questions as QuestionsModel};
 ghost use Rattle.rv_claims.specs.Order.{IsBelowClosed};
-ghost use Rattle.rv_rows.specs.Multipliers.{AreShutAtOnce};
 ghost use Rattle.rv_rise.specs.declared.frame.Frame.{Frame as FrameModel};
-ghost use Rattle.rv_rise.specs.Imaging.{AreImages, AreNone};
-ghost use Rattle.rv_rise.specs.Limits.{AreFirst, AreOwn};
-ghost use Rattle.rv_rise.specs.Rounds.{IsGivenIn, IsSetting, IsKeptRisen, HasTaken, HasGrown, IsCaseIn, IsInCases, AreOthers, IsLeastRisen};
-ghost use Rattle.rv_rise.specs.Rounds.{IsRising, IsRound, IsStart, claim_in};
+ghost use Rattle.rv_rise.specs.Limits.{AreFirst};
+ghost use Rattle.rv_rise.specs.Rounds.{IsGivenIn, IsFrameOf, AreAsked, IsKeptRisen, IsFirstHeld, HasTaken, HasGrown, AreSteps, IsLeastRisen, claim_in};
 
+use crate::asking::{Asked, asked_of};
 use crate::frame::Frame;
 use crate::limits::{Loosened, either};
-use crate::opening::open_case;
 use crate::risen::Risen;
-use crate::rows::rows_of;
-use crate::shown::are_shut;
-use crate::thresholds::least_above;
+use crate::steps::{Steps, steps_of};
 use rv_base::{Many, Memory};
-use rv_cases::{Questions, cases};
+use rv_cases::Questions;
 use rv_diagram::{Frozen, Store, StoreFault};
-use rv_proofs::Case;
-use rv_rows::Row;
+use rv_ends::least_above;
 use rv_symbolic::Relation;
-use rv_walk::{Extended, extend, without};
+use rv_walk::{Extended, extend};
 use std::alloc::Global;
 
 /// No threshold is below it.
@@ -57,246 +47,54 @@ fn take_set(store: &mut Store, claim: &mut Risen, set: &Frozen) -> Result<bool, 
     }
 }
 
-/// Takes the image of a case into the claim; it is made where it is not there yet. Whether some of it is new.
-fn take_image(
-    store: &mut Store,
-    relation: &Relation,
-    from: &Frozen,
-    case: &Case,
-    image: &mut Option<Frozen>,
-    claim: &mut Risen,
-) -> Result<bool, StoreFault>
-    requires { (s : System) × IsRelationOf s store.old relation.now × IsControlSet s from.now × IsCase s case.now
-        × IsControlSet s claim.old.reached × IfSome image.old (IsImage s from.now case.now) }
-    ensures same { store.new ≡ store.old }
-    ensures roomy { IsErrOf result StoreFault.Nodes → store.old.limit < 2 ^ (2 ^ store.old.variables) }
-    ensures taken { (s : System) → IsRelationOf s store.old relation.now → IsControlSet s from.now → IsCase s case.now
-        → IsControlSet s claim.old.reached → IfSome image.old (IsImage s from.now case.now)
-        → IfOk result (λ fresh. (set : FrozenModel) × IsImage s from.now case.now set × HasTaken s set fresh claim.old claim.new) }
-    ensures known { (s : System) → IsRelationOf s store.old relation.now → IsControlSet s from.now → IsCase s case.now
-        → IfSome image.old (IsImage s from.now case.now) → OnOk result (IfSome image.new (IsImage s from.now case.now)) }
-{
-    if let Some(set) = image {
-        return take_set(store, claim, set);
-    }
-    let set = relation.image(store, from, case)?;
-    let fresh = take_set(store, claim, &set)?;
-    *image = Some(set);
-    Ok(fresh)
-}
-
-/// A place for the image of each case, and none is there.
-fn no_images(alloc: Global, count: usize) -> Result<Vec<Option<Frozen>>, Memory>
-    ensures { IfOk result (λ images. AreNone count images.items) }
-{
-    let mut images = Vec::new(alloc);
-    for _case in 0..count {
-        images.push(None)?;
-    }
-    Ok(images)
-}
-
-/// Puts loosened limits into the claim. Whether something has changed, in the set or the limits.
-fn take_limits(claim: &mut Risen, loosened: Loosened, fresh: bool) -> bool
+/// Puts risen limits into the claim. Whether something has changed, in the set or the limits.
+fn take_limits(claim: &mut Risen, risen: Loosened, fresh: bool) -> bool
     ensures reached { claim.new.reached ≡ claim.old.reached }
-    ensures limits { claim.new.limits ≡ loosened.limits }
-    ensures changed { result ≡ (fresh || loosened.changed) }
+    ensures limits { claim.new.limits ≡ risen.limits }
+    ensures changed { result ≡ (fresh || risen.changed) }
 {
-    let Loosened { limits, changed } = loosened;
+    let Loosened { limits, changed } = risen;
     claim.limits = limits;
     either(fresh, changed)
 }
 
-/// One case of a set of control states: where its premises are not shut at once, the claim takes in its next control states, and what the
-/// premises show after the updates loosens the limits. Whether something has changed.
-fn by_case(
-    alloc: Global,
-    store: &mut Store,
-    relation: &Relation,
-    frame: &Frame,
-    from: &Frozen,
-    given: &mut Many<Row>,
-    own: &Many<Option<i128>>,
-    case: &Case,
-    image: &mut Option<Frozen>,
-    claim: &mut Risen,
-) -> Result<bool, StoreFault>
-    requires own { AreOwn frame.now.sides own.now given.old }
-    requires still_open { ¬ AreShutAtOnce given.old }
-    requires known { (s : System) × (q : QuestionsModel) × (base : RowClaim) × IsGivenIn s store.old relation.now q frame.now
-        × IsSetting s base from.now given.old × IsKeptRisen s frame.now claim.old × IsCaseIn s from.now case.now
-        × IfSome image.old (IsImage s from.now case.now) }
-    ensures grown { (s : System) (q : QuestionsModel) (base : RowClaim) → IsGivenIn s store.old relation.now q frame.now
-        → IsSetting s base from.now given.old → IsKeptRisen s frame.now claim.old → IsCaseIn s from.now case.now
-        → IfSome image.old (IsImage s from.now case.now)
-        → IfOk result (λ changed. HasGrown s frame.now base (IsIn case.now.condition) changed claim.old claim.new) }
-    ensures known { (s : System) (q : QuestionsModel) (base : RowClaim) → IsGivenIn s store.old relation.now q frame.now
-        → IsSetting s base from.now given.old → IsCaseIn s from.now case.now
-        → IfSome image.old (IsImage s from.now case.now) → OnOk result (IfSome image.new (IsImage s from.now case.now)) }
-    ensures given { OnOk result (given.new ≡ given.old) }
+/// Puts what follows from a claim into it. Whether it has grown.
+fn take_steps(store: &mut Store, claim: &mut Risen, steps: Steps) -> Result<bool, StoreFault>
+    requires { (s : System) × (f : FrameModel) × IsSystem s × IsFrameOf s f × (store.old.variables ≡ s.variables) × IsKeptRisen s f claim.old
+        × AreSteps s f claim.old steps }
+    ensures taken { (s : System) (f : FrameModel) → IsSystem s → IsFrameOf s f → store.old.variables ≡ s.variables → IsKeptRisen s f claim.old
+        → AreSteps s f claim.old steps → IfOk result (λ changed. HasGrown s f changed claim.old claim.new) }
     ensures same { store.new ≡ store.old }
     ensures roomy { IsErrOf result StoreFault.Nodes → store.old.limit < 2 ^ (2 ^ store.old.variables) }
 {
-    let rows = &case.rows;
-    let updates = &case.updates;
-    let limits = &claim.limits;
-    let opened = open_case(alloc, frame, rows, given, updates, limits, own)?;
-    match opened {
-        Some(limits) => {
-            let fresh = take_image(store, relation, from, case, image, claim)?;
-            Ok(take_limits(claim, limits, fresh))
-        }
-        None => Ok(false),
-    }
+    let Steps { next, risen } = steps;
+    let fresh = take_set(store, claim, &next)?;
+    Ok(take_limits(claim, risen, fresh))
 }
 
-/// All cases of a set of control states, with their images as far as they are made. Where the given rows are shut at once by themselves all
-/// their premises are. Whether something has changed.
-fn by_cases(
-    alloc: Global,
-    store: &mut Store,
-    relation: &Relation,
-    frame: &Frame,
-    from: &Frozen,
-    given: Many<Row>,
-    own: &Many<Option<i128>>,
-    cases: &Many<Case>,
-    images: &mut Vec<Option<Frozen>>,
-    claim: &mut Risen,
-) -> Result<bool, StoreFault>
-    requires own { AreOwn frame.now.sides own.now given }
-    requires known { (s : System) × (q : QuestionsModel) × (base : RowClaim) × IsGivenIn s store.old relation.now q frame.now
-        × IsSetting s base from.now given × IsKeptRisen s frame.now claim.old × AreCases s from.now cases.now
-        × AreImages s from.now cases.now images.old.items }
-    ensures grown { (s : System) (q : QuestionsModel) (base : RowClaim) → IsGivenIn s store.old relation.now q frame.now
-        → IsSetting s base from.now given → IsKeptRisen s frame.now claim.old → AreCases s from.now cases.now
-        → AreImages s from.now cases.now images.old.items
-        → IfOk result (λ changed. HasGrown s frame.now base (IsInCases cases.now (length cases.now)) changed claim.old claim.new) }
-    ensures known { (s : System) (q : QuestionsModel) (base : RowClaim) → IsGivenIn s store.old relation.now q frame.now
-        → IsSetting s base from.now given → IsKeptRisen s frame.now claim.old → AreCases s from.now cases.now
-        → AreImages s from.now cases.now images.old.items → OnOk result (AreImages s from.now cases.now images.new.items) }
-    ensures same { store.new ≡ store.old }
-    ensures roomy { IsErrOf result StoreFault.Nodes → store.old.limit < 2 ^ (2 ^ store.old.variables) }
-{
-    let shut = are_shut(alloc, &given)?;
-    if shut {
-        return Ok(false);
-    }
-    let mut rows = given;
-    let mut changed = false;
-    for place in 0..cases.len() {
-        let case = cases.at(place);
-        let image = &mut images[place];
-        let more = by_case(
-            alloc, store, relation, frame, from, &mut rows, own, case, image, claim,
-        )?;
-        changed = either(changed, more);
-    }
-    Ok(changed)
-}
-
-/// The control states of a claim that are not initial, and their cases.
-#[derive(Debug, Drop)]
-pub struct Others {
-    /// The control states.
-    pub control: Frozen,
-    /// The cases.
-    pub cases: Many<Case>,
-}
-
-/// The same limits.
-fn copied(alloc: Global, limits: &Many<Option<i128>>) -> Result<Many<Option<i128>>, Memory>
-    ensures { IfOk result (λ copy. copy ≡ limits.now) }
-{
-    let list = Vec::from_slice(alloc, limits.as_slice())?;
-    Ok(Many::from_vec(list))
-}
-
-/// The control states of a claim that are not initial, and their cases.
-fn others_of(
+/// A round over a claim: it takes in what follows from it. Whether it has grown; where it has not it is closed.
+fn one_round(
     alloc: Global,
     store: &mut Store,
     relation: &Relation,
     questions: &Questions,
-    first: &Frozen,
-    claim: &Risen,
-) -> Result<Others, StoreFault>
-    requires { (s : System) × (f : FrameModel) × IsGivenIn s store.old relation.now questions.now f
-        × IsInitialSet s first.now × IsKeptRisen s f claim.now }
-    ensures others { (s : System) (f : FrameModel) → IsGivenIn s store.old relation.now questions.now f
-        → IsInitialSet s first.now → IsKeptRisen s f claim.now → IfOk result (AreOthers s first.now claim.now) }
-    ensures same { store.new ≡ store.old }
-    ensures roomy { IsErrOf result StoreFault.Nodes → store.old.limit < 2 ^ (2 ^ store.old.variables) }
-{
-    let control = without(store, &claim.reached, first)?;
-    let allowed = relation.parts().allowed;
-    let cases = cases(alloc, store, allowed, questions, &control)?;
-    Ok(Others { control, cases })
-}
-
-/// The same after the claim has grown, given those of before: where it has no new control states their cases and images stay, and are not
-/// made again.
-fn others_after(
-    alloc: Global,
-    store: &mut Store,
-    relation: &Relation,
-    questions: &Questions,
-    first: &Frozen,
-    claim: &Risen,
-    others: Others,
-    images: &mut Vec<Option<Frozen>>,
-) -> Result<Others, StoreFault>
-    requires { (s : System) × (f : FrameModel) × IsGivenIn s store.old relation.now questions.now f
-        × IsInitialSet s first.now × IsKeptRisen s f claim.now }
-    ensures others { (s : System) (f : FrameModel) → IsGivenIn s store.old relation.now questions.now f
-        → IsInitialSet s first.now → IsKeptRisen s f claim.now → AreCases s others.control others.cases
-        → IfOk result (AreOthers s first.now claim.now) }
-    ensures known { (s : System) → AreImages s others.control others.cases images.old.items
-        → IfOk result (λ o. AreImages s o.control o.cases images.new.items) }
-    ensures same { store.new ≡ store.old }
-    ensures roomy { IsErrOf result StoreFault.Nodes → store.old.limit < 2 ^ (2 ^ store.old.variables) }
-{
-    let control = without(store, &claim.reached, first)?;
-    if control != others.control {
-        let others = others_of(alloc, store, relation, questions, first, claim)?;
-        *images = no_images(alloc, others.cases.len())?;
-        return Ok(others);
-    }
-    Ok(others)
-}
-
-/// A round over the cases of the claim's control states that are not initial. Whether something has changed; where nothing has, the claim is
-/// closed.
-fn round(
-    alloc: Global,
-    store: &mut Store,
-    relation: &Relation,
     frame: &Frame,
-    first: &Frozen,
-    others: &Others,
-    images: &mut Vec<Option<Frozen>>,
+    asked: &Asked,
+    first: bool,
     claim: &mut Risen,
 ) -> Result<bool, StoreFault>
-    requires { (s : System) × (q : QuestionsModel) × IsGivenIn s store.old relation.now q frame.now
-        × IsInitialSet s first.now × IsRising s frame.now first.now claim.old × AreOthers s first.now claim.old others.now
-        × AreImages s others.now.control others.now.cases images.old.items }
-    ensures grown { (s : System) (q : QuestionsModel) → IsGivenIn s store.old relation.now q frame.now
-        → IsInitialSet s first.now → IsRising s frame.now first.now claim.old → AreOthers s first.now claim.old others.now
-        → AreImages s others.now.control others.now.cases images.old.items
-        → IfOk result (λ changed. IsRound s frame.now first.now changed claim.old claim.new) }
-    ensures known { (s : System) (q : QuestionsModel) → IsGivenIn s store.old relation.now q frame.now
-        → IsInitialSet s first.now → IsRising s frame.now first.now claim.old → AreOthers s first.now claim.old others.now
-        → AreImages s others.now.control others.now.cases images.old.items
-        → OnOk result (AreImages s others.now.control others.now.cases images.new.items) }
+    requires { (s : System) × IsGivenIn s store.old relation.now questions.now frame.now × AreAsked s store.old asked.now × IsKeptRisen s frame.now claim.old
+        × (first ≡ false → IsFirstHeld s frame.now claim.old) }
+    ensures grown { (s : System) → IsGivenIn s store.old relation.now questions.now frame.now → AreAsked s store.old asked.now
+        → IsKeptRisen s frame.now claim.old → (first ≡ false → IsFirstHeld s frame.now claim.old)
+        → IfOk result (λ changed. HasGrown s frame.now changed claim.old claim.new) }
     ensures same { store.new ≡ store.old }
     ensures roomy { IsErrOf result StoreFault.Nodes → store.old.limit < 2 ^ (2 ^ store.old.variables) }
 {
-    let given = rows_of(alloc, &frame.sides, &claim.limits)?;
-    let own = copied(alloc, &claim.limits)?;
-    let Others { control, cases } = others;
-    by_cases(
-        alloc, store, relation, frame, control, given, &own, cases, images, claim,
-    )
+    let steps = steps_of(
+        alloc, store, relation, questions, frame, asked, first, claim,
+    )?;
+    take_steps(store, claim, steps)
 }
 
 /// For each of so many left sides the least threshold, or none where there are none.
@@ -332,82 +130,72 @@ fn first_claim(
     Ok(Risen { reached, limits })
 }
 
-/// What rounds begin with: the first claim, loosened by the cases of the initial control states. No row counts there, so what it then holds of
-/// them it holds from there on, and they are not asked again.
-fn begin(
+/// The least closed claim, by rounds from one that is below it and from which initial valuations lead nowhere else. They are not asked: no row of a
+/// claim counts there, so what the first round found of them stays.
+fn all_rounds(
     alloc: Global,
     store: &mut Store,
     relation: &Relation,
+    questions: &Questions,
     frame: &Frame,
-    first: &Frozen,
-    from_first: &Many<Case>,
+    asked: &Asked,
+    begun: Risen,
 ) -> Result<Risen, StoreFault>
-    requires { (s : System) × (q : QuestionsModel) × IsGivenIn s store.old relation.now q frame.now × IsStart s first.now from_first.now }
-    ensures rising { (s : System) (q : QuestionsModel) → IsGivenIn s store.old relation.now q frame.now
-        → IsStart s first.now from_first.now → IfOk result (IsRising s frame.now first.now) }
+    requires { (s : System) × IsGivenIn s store.old relation.now questions.now frame.now × AreAsked s store.old asked.now × IsKeptRisen s frame.now begun
+        × IsFirstHeld s frame.now begun × IsBelowClosed s frame.now.thresholds (claim_in frame.now begun) }
+    ensures least { (s : System) → IsGivenIn s store.old relation.now questions.now frame.now → AreAsked s store.old asked.now
+        → IsKeptRisen s frame.now begun → IsFirstHeld s frame.now begun → IsBelowClosed s frame.now.thresholds (claim_in frame.now begun)
+        → IfOk result (IsLeastRisen s frame.now) }
     ensures same { store.new ≡ store.old }
     ensures roomy { IsErrOf result StoreFault.Nodes → store.old.limit < 2 ^ (2 ^ store.old.variables) }
 {
-    let mut claim = first_claim(alloc, store, relation, frame)?;
-    let nothing = Many::new(alloc);
-    let none = Many::new(alloc);
-    let mut images = no_images(alloc, from_first.len())?;
-    let _changed = by_cases(
-        alloc,
-        store,
-        relation,
-        frame,
-        first,
-        nothing,
-        &none,
-        from_first,
-        &mut images,
-        &mut claim,
-    )?;
+    let mut claim = begun;
+    let mut more = true;
+    while more {
+        let grown = one_round(
+            alloc, store, relation, questions, frame, asked, false, &mut claim,
+        )?;
+        more = grown;
+    }
     Ok(claim)
 }
 
-/// The least closed claim: the cases of the initial control states, and then rounds, until nothing changes.
+/// The least closed claim, with what was built of it.
+fn closed_in(
+    alloc: Global,
+    store: &mut Store,
+    relation: &Relation,
+    questions: &Questions,
+    frame: &Frame,
+) -> Result<Risen, StoreFault>
+    requires { (s : System) × IsGivenIn s store.old relation.now questions.now frame.now }
+    ensures extends { Extends store.old store.new }
+    ensures roomy { IsErrOf result StoreFault.Nodes → store.old.limit < 2 ^ (2 ^ store.old.variables) }
+    ensures least { (s : System) → IsGivenIn s store.old relation.now questions.now frame.now → IfOk result (IsLeastRisen s frame.now) }
+{
+    let mut claim = first_claim(alloc, store, relation, frame)?;
+    let asked = asked_of(alloc, store, relation, questions)?;
+    one_round(
+        alloc, store, relation, questions, frame, &asked, true, &mut claim,
+    )?;
+    all_rounds(alloc, store, relation, questions, frame, &asked, claim)
+}
+
+/// The least closed claim: the first one, and then rounds, until nothing changes. The store is left as it was.
 pub fn closed_claim(
     alloc: Global,
     store: &mut Store,
     relation: &Relation,
     questions: &Questions,
     frame: &Frame,
-    first: &Frozen,
-    from_first: &Many<Case>,
 ) -> Result<Risen, StoreFault>
-    requires { (s : System) × IsGivenIn s store.old relation.now questions.now frame.now × IsStart s first.now from_first.now }
-    ensures least { (s : System) → IsGivenIn s store.old relation.now questions.now frame.now → IsStart s first.now from_first.now
-        → IfOk result (IsLeastRisen s frame.now) }
+    requires { (s : System) × IsGivenIn s store.old relation.now questions.now frame.now }
+    ensures least { (s : System) → IsGivenIn s store.old relation.now questions.now frame.now → IfOk result (IsLeastRisen s frame.now) }
     ensures same { store.new ≡ store.old }
     ensures roomy { IsErrOf result StoreFault.Nodes → store.old.limit < 2 ^ (2 ^ store.old.variables) }
 {
-    let mut claim = begin(alloc, store, relation, frame, first, from_first)?;
-    let mut others = others_of(alloc, store, relation, questions, first, &claim)?;
-    let mut images = no_images(alloc, others.cases.len())?;
-    let mut more = true;
-    while more {
-        more = round(
-            alloc,
-            store,
-            relation,
-            frame,
-            first,
-            &others,
-            &mut images,
-            &mut claim,
-        )?;
-        others = others_after(
-            alloc,
-            store,
-            relation,
-            questions,
-            first,
-            &claim,
-            others,
-            &mut images,
-        )?;
-    }
-    Ok(claim)
+    let mark = store.mark();
+    let answer = closed_in(alloc, store, relation, questions, frame);
+    store.release(mark);
+    answer
 }

@@ -6,7 +6,7 @@ ghost use Rattle.rv_proofs.specs.Systems.{System};
 ghost use Rattle.rv_proofs.specs.RowClaims.{IsLeastRowClosed};
 ghost use Rattle.rv_claims.specs.Claiming.{claim_of, IsKeptClaim};
 ghost use Rattle.rv_rise.specs.Sides.{rows_with};
-ghost use Rattle.rv_rise.specs.Rounds.{IsGiven, IsGivenIn, IsFrameOf, IsStart, IsLeastRisen};
+ghost use Rattle.rv_rise.specs.Rounds.{IsGiven, IsFrameOf};
 
 use crate::frame::Frame;
 use crate::risen::Risen;
@@ -14,10 +14,9 @@ use crate::rounds::closed_claim;
 use crate::rows::rows_of;
 use crate::table::sides_of;
 use rv_base::{Many, Memory};
-use rv_cases::{Questions, cases};
+use rv_cases::Questions;
 use rv_claims::Claim;
-use rv_diagram::{Frozen, Store, StoreFault};
-use rv_proofs::Case;
+use rv_diagram::{Store, StoreFault};
 use rv_symbolic::Relation;
 use std::alloc::Global;
 
@@ -36,50 +35,6 @@ fn frame_of(alloc: Global, memories: usize, thresholds: &[i128]) -> Result<Frame
     })
 }
 
-/// The initial control states, and their cases.
-#[derive(Debug, Drop)]
-struct Start {
-    first: Frozen,
-    from_first: Many<Case>,
-}
-
-/// The initial control states, and their cases.
-fn start_of(
-    alloc: Global,
-    store: &mut Store,
-    relation: &Relation,
-    questions: &Questions,
-) -> Result<Start, StoreFault>
-    requires { (s : System) × IsGiven s store.old relation.now questions.now }
-    ensures start { (s : System) → IsGiven s store.old relation.now questions.now → IfOk result (λ x. IsStart s x.first x.from_first) }
-    ensures same { store.new ≡ store.old }
-    ensures roomy { IsErrOf result StoreFault.Nodes → store.old.limit < 2 ^ (2 ^ store.old.variables) }
-{
-    let first = relation.initial(store)?;
-    let allowed = relation.parts().allowed;
-    let from_first = cases(alloc, store, allowed, questions, &first)?;
-    Ok(Start { first, from_first })
-}
-
-/// The least closed claim within a frame.
-fn least_in(
-    alloc: Global,
-    store: &mut Store,
-    relation: &Relation,
-    questions: &Questions,
-    frame: &Frame,
-) -> Result<Risen, StoreFault>
-    requires { (s : System) × IsGivenIn s store.old relation.now questions.now frame.now }
-    ensures least { (s : System) → IsGivenIn s store.old relation.now questions.now frame.now → IfOk result (IsLeastRisen s frame.now) }
-    ensures same { store.new ≡ store.old }
-    ensures roomy { IsErrOf result StoreFault.Nodes → store.old.limit < 2 ^ (2 ^ store.old.variables) }
-{
-    let start = start_of(alloc, store, relation, questions)?;
-    let first = &start.first;
-    let from_first = &start.from_first;
-    closed_claim(alloc, store, relation, questions, frame, first, from_first)
-}
-
 /// The claim, with its rows.
 fn claim_from(alloc: Global, frame: &Frame, risen: Risen) -> Result<Claim, Memory>
     requires { length risen.limits ≡ length frame.now.sides }
@@ -95,8 +50,7 @@ fn claim_from(alloc: Global, frame: &Frame, risen: Risen) -> Result<Claim, Memor
 /// bound rises only to the least threshold that the premises show, and disappears where they show none. A candidate has 1 or -1 at one
 /// integer memory, or at two where there are at most 22 of them, and a threshold as bound. `relation` and `questions` are those of the
 /// system in the store, which is left as it was, after a fault too. Nodes comes where the store has no room for what is built on the way,
-/// never where its limit holds every function of its variables, and Memory where there is none, or where a case would have 2^32
-/// premises.
+/// never where its limit holds every function of its variables, and Memory where there is none.
 pub fn least_closed(
     alloc: Global,
     store: &mut Store,
@@ -113,6 +67,6 @@ pub fn least_closed(
     ensures roomy { IsErrOf result StoreFault.Nodes → store.old.limit < 2 ^ (2 ^ store.old.variables) }
 {
     let frame = frame_of(alloc, questions.forms.len(), thresholds)?;
-    let risen = least_in(alloc, store, relation, questions, &frame)?;
+    let risen = closed_claim(alloc, store, relation, questions, &frame)?;
     Ok(claim_from(alloc, &frame, risen)?)
 }

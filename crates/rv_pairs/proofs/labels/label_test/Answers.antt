@@ -1,7 +1,6 @@
-use Rattle.std.proofs.Common.{◌≡◌, ◌+◌, ◌++◌, ◌∙◌, ℕ, List, [], pos, slice_index_or, length, ap, sym, refl, arith}
+use Rattle.std.proofs.Common.{◌≡◌, ◌+◌, ◌++◌, ◌∙◌, ℕ, List, [], pos, length, ap, sym, refl, arith}
 use Rattle.std.proofs.lemmas.Option.{get_or_from_slice_get}
 use Rattle.rv_rows.specs.{declared.linear.Row.Row, Rows.row_at}
-use Rattle.rv_diagram.specs.Nodes.{value_of}
 use Rattle.rv_cases.specs.Conditions.{is_in}
 use Rattle.rv_pairs.specs.Labels.{active}
 use Rattle.rv_pairs.proofs.Counting.{answered, answer_added, answered_row}

@@ -2,7 +2,7 @@ use Rattle.std.proofs.Common.{◌≡◌, ◌<◌, ◌+◌, ◌++◌, ◌∙◌, 
 use Rattle.std.proofs.lemmas.Option.{get_or_from_slice_get}
 use Rattle.rv_rows.specs.declared.linear.Row.{Row}
 use Rattle.rv_proofs.specs.Systems.{System, rows_among, held_row}
-use Rattle.rv_cases.specs.{Conditions.list_at, Conditions.AreAnswers, Questions.rows_at, Questions.AreQuestions, Questions.AreTestAnswers}
+use Rattle.rv_cases.specs.{Conditions.list_at, Conditions.AreAnswers, Questions.rows_at, Questions.AreTestAnswers}
 use Rattle.rv_pairs.proofs.Counting.{given_small}
 use Rattle.rv_pairs.proofs.labels.label_tests.Goals as goal
 

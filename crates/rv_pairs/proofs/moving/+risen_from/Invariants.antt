@@ -12,8 +12,8 @@ invariant-loop-place l = record {
   extends : Extends l.fn.store l.store;
   small : unsigned_abs l.held ≤ 2 ^ 41;
   risen : (s : System) → IsSystem s → AreQuestions s l.fn.store l.questions → length l.side ≡ s.memories → 0 < s.memories
-      → IsMovedIn s l.fn.store.nodes l.inside l.side l.first l.form
-      → IsRisen l.thresholds (HoldsAmong s l.fn.store.nodes l.labels l.inside l.side (memory_answers l.questions l.column) l.place) (Some l.fn.limit)
+      → IsMovedIn s l.fn.store.nodes l.path l.side l.first l.form
+      → IsRisen l.thresholds (HoldsAmong s l.fn.store.nodes l.labels l.taken l.path l.side (memory_answers l.questions l.column) l.place) (Some l.fn.limit)
       (Some l.held);
 }
 

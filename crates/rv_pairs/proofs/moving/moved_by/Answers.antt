@@ -2,7 +2,6 @@ use Rattle.std.proofs.Common.{◌≡◌, ◌+◌, ◌∙◌, ◌+ℤ◌, ◌*ℤ
 use Rattle.std.proofs.{lemmas.Int.to_z-of_z, lemmas.Bool.false≢true, lemmas.Result.IfOk-weaker}
 use Rattle.std.specs.Int.{w128}
 use Rattle.rv_base.specs.Limits.{heaviest}
-use Rattle.rv_rows.specs.declared.linear.Form.{Form}
 use Rattle.rv_rows.specs.Forms.{number, FormWithin, IsSum, IsMultiple}
 use Rattle.rv_diagram.specs.Nodes.{Valuation, value_of}
 use Rattle.rv_terms.proofs.Finding.{some_from}

@@ -1,4 +1,4 @@
-use Rattle.std.proofs.Common.{◌≡◌, ◌↔◌, ◌∙◌, ◌&&◌, Bool, true, ap, sym}
+use Rattle.std.proofs.Common.{◌≡◌, ◌↔◌, ◌∙◌, ◌&&◌, Bool, true, sym}
 use Rattle.std.proofs.{lemmas.Result.IfOk-weaker, lemmas.Bool.and_parts, lemmas.Bool.and_from}
 use Rattle.rv_diagram.specs.Nodes.{Valuation, Answers, value_of}
 use Rattle.rv_walk.specs.Ends.{has}

@@ -1,6 +1,4 @@
-use Rattle.std.proofs.Common.{◌≡◌, ◌<◌, ◌+◌, ◌⊎◌, ◌+ℤ◌, ℕ, inl, inr, arith, subst, sym}
-use Rattle.std.proofs.lemmas.Bool.{cases_lt, MatchBool-at_false, MatchBool-at_true}
-use Rattle.rv_rows.specs.{Rows.coefficient, Forms.number}
+use Rattle.std.proofs.Common.{arith}
 use Rattle.rv_pairs.proofs.Pairing.{sum_past, sum_more}
 use Rattle.rv_pairs.proofs.showing.misses.Goals as goal
 

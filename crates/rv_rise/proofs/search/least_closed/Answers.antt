@@ -13,8 +13,8 @@ frame_of-requires-clause-few c =
     let q = given.questions in
     omega (arith, c.len.ensures, q.many_memories, l.memories)
 
-pub least_in-requires : goal.least_in-requires
-least_in-requires c =
+pub closed_claim-requires : goal.closed_claim-requires
+closed_claim-requires c =
     let s = c.requires.system.0 in
     let given = c.requires.system.1 in
     let q = given.questions in

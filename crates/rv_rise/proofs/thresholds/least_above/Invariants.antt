@@ -1,6 +1,0 @@
-use Rattle.std.proofs.Common.{take}
-use Rattle.rv_rise.specs.Orders.{IsLeastAbove}
-use Rattle.rv_rise.proofs.thresholds.least_above.Given as goal
-
-abbrev pub invariant-loop-place : goal.invariant-loop-place
-invariant-loop-place l = IsLeastAbove (take l.place l.thresholds) l.value l.best
