@@ -1,5 +1,6 @@
 -- A certificate that is assembled of entries in the ranges of a document.
-use Rattle.std.proofs.Common.{◌≡◌, ℕ, zero, suc, ◌+◌, ◌<◌, pos, List, [], ◌∷◌, length, get_or, All, Some, slice_get, arith, refl, sym, ap, ◌∙◌, subst, true, false, not, Bool, lit≤}
+use Rattle.std.proofs.Common.{◌≡◌, ℕ, zero, suc, ◌+◌, ◌<◌, pos, List, [], ◌∷◌, length, get_or, All, Some, slice_get, arith, refl, sym, ap, ◌∙◌, subst, true}
+use Rattle.std.proofs.Common.{false, not, Bool, lit≤}
 use Rattle.std.proofs.lemmas.List.Elements.{All-nil, All-cons, All-head, All-tail}
 use Rattle.std.proofs.{lemmas.Int.ints, lemmas.Option.get_or_from_slice_get, lemmas.Option.same_Some}
 use Rattle.rv_diagram.specs.{Nodes.node_at, Nodes.valuation_of, Nodes.IsOrderedOver, declared.frozen.Frozen.Frozen}

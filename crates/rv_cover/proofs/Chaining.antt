@@ -33,6 +33,16 @@ searched_later s a b q f given e is = record {
   few = is.few;
 }
 
+-- other rows, as many
+pub searched_as_many : (s : System) (a : Diagrams) (q : Questions) (f : Frame) (given lean : List Row) → length lean ≡ length given → IsSearched s a q f given
+    → IsSearched s a q f lean
+searched_as_many s a q f given lean same is = record {
+  system = is.system;
+  questions = is.questions;
+  way = is.way;
+  few = let few = is.few in omega (arith, same, few);
+}
+
 pub cover_later : (a b : Diagrams) (f : Frame) (n : ℕ) (c : Cover) → Extends a b → IsCover a.nodes f n c → IsCover b.nodes f n c
 cover_later a b f n c e is = record {
   entries = is.entries;

@@ -6,7 +6,8 @@ use Rattle.rv_proofs.specs.{Systems.System, Ranges.AreKept, Ranges.IsControlSet,
 use Rattle.rv_symbolic.specs.{declared.relation.Parts.Parts, Represented.HaveRefs}
 use Rattle.rv_cases.specs.declared.asking.Questions.{Questions}
 use Rattle.rv_cases.proofs.{Keeping.questions_later, Gathering.refs_later}
-use Rattle.rv_cover.specs.{declared.frame.By.By, declared.frame.Frame.Frame, Seeking.IsWay, Seeking.IsSought, Seeking.IsSearched, Seeking.IsFrameFor, Seeking.IsPlausible, Seeking.IsDocument}
+use Rattle.rv_cover.specs.{declared.frame.By.By, declared.frame.Frame.Frame, Seeking.IsWay, Seeking.IsSought, Seeking.IsSearched, Seeking.IsFrameFor}
+use Rattle.rv_cover.specs.{Seeking.IsPlausible, Seeking.IsDocument}
 use Rattle.rv_cover.proofs.{Chaining.ref_later, Assembling.is_document}
 
 module _ (s : System) (a b : Diagrams) (p : Parts) (q : Questions) (way : By) (first rest : Frozen) (taken : ℕ) (reached : Frozen) (given : List Row)

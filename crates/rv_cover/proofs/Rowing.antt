@@ -1,5 +1,6 @@
 -- Rows that are premises, rows that can be taken before updates, and what is found by them.
-use Rattle.std.proofs.Common.{◌≡◌, ℕ, ◌+◌, ◌<◌, ◌≤◌, ◌≤ℤ◌, ◌^◌, ℤ, pos, negsuc, List, [], ◌∷◌, ◌++◌, length, get_or, All, Some, slice_get, true, arith, refl, sym, ap, ◌∙◌}
+use Rattle.std.proofs.Common.{◌≡◌, ℕ, ◌+◌, ◌<◌, ◌≤◌, ◌≤ℤ◌, ◌^◌, ℤ, pos, negsuc, List, [], ◌∷◌, ◌++◌, length, get_or, All, Some, slice_get, true, arith, refl}
+use Rattle.std.proofs.Common.{sym, ap, ◌∙◌}
 use Rattle.std.proofs.Common.{subst, ◌⊎◌, inl, inr}
 use Rattle.std.proofs.lemmas.List.Elements.{All-weaker, All-push, All-from_get_or}
 use Rattle.std.proofs.{lemmas.Option.slice_get_within, lemmas.Option.get_or_from_slice_get, lemmas.List.length_push, lemmas.List.length-append}
@@ -10,13 +11,16 @@ use Rattle.rv_rows.specs.{declared.farkas.Weight.Weight, declared.farkas.Multipl
 use Rattle.rv_proofs.specs.{Systems.System, Systems.IsSystem, Systems.IsUpdate, Ranges.AreKept, Ranges.IsRecord, Boxes.HasUnit}
 use Rattle.rv_proofs.specs.{declared.certificate.EntryKind.TheVariants.Dead, declared.certificate.EntryKind.TheVariants.Go}
 use Rattle.rv_proofs.proofs.Rooms.{has_room}
-use Rattle.rv_cases.specs.{declared.asking.Questions.Questions, Conditions.is_in, Conditions.AreRefs, Questions.AreQuestions, Questions.forms_at, Questions.memory_answers}
-use Rattle.rv_boxes.specs.{declared.peaks.Peak.Peak, declared.ends.End.End, Ends.IsOnlyColumn, Ends.AreEnds, Boxed.ArePremises, Boxed.IsGreatest, Boxed.IsOpenBox}
+use Rattle.rv_cases.specs.{declared.asking.Questions.Questions, Conditions.is_in, Conditions.AreRefs, Questions.AreQuestions, Questions.forms_at}
+use Rattle.rv_cases.specs.{Questions.memory_answers}
+use Rattle.rv_boxes.specs.{declared.peaks.Peak.Peak, declared.ends.End.End, Ends.IsOnlyColumn, Ends.AreEnds, Boxed.ArePremises, Boxed.IsGreatest}
+use Rattle.rv_boxes.specs.{Boxed.IsOpenBox}
 use Rattle.rv_boxes.specs.{Boxed.IsRefutation, Built.nothing}
 use Rattle.rv_boxes.proofs.{Shutting.record_from, BoxLemmas.crossed_none}
 use Rattle.rv_seek.specs.Pairs.{HasRanges, WeightInRange}
 use Rattle.rv_cover.specs.{declared.frame.By.By, declared.frame.By.TheVariants.Boxes, declared.frame.By.TheVariants.Rows}
-use Rattle.rv_cover.specs.{declared.frame.Frame.Frame, declared.finding.Found.Found, Premises.IsPremise, Premises.IsNarrow, Premises.AreOpenEnds, Entries.IsPlainKind, Entries.IsFound}
+use Rattle.rv_cover.specs.{declared.frame.Frame.Frame, declared.finding.Found.Found, Premises.IsPremise, Premises.IsNarrow, Premises.AreOpenEnds}
+use Rattle.rv_cover.specs.{Entries.IsPlainKind, Entries.IsFound}
 use Rattle.rv_cover.specs.Seeking.{IsWay, IsSearched}
 
 pub got_all : {X : Type 0} (P : X → Type 0) (xs : List X) (i : ℕ) (x : X) → slice_get xs i ≡ Some x → All P xs → P x
@@ -60,7 +64,8 @@ chosen_all P rows old new i r at all (inl e) are = subst (All P) (sym e) are
 chosen_all P rows old new i r at all (inr e) are = subst (All P) (sym e) (All-push P old r are (got_all P rows i r at all))
 
 -- what a memory becomes at a valuation is an update
-pub update_told : (s : System) → IsSystem s → (d : Diagrams) (q : Questions) → AreQuestions s d q → (k : ℕ) → k < s.memories → (v : Valuation) (i : ℕ) (f : Form)
+pub update_told : (s : System) → IsSystem s → (d : Diagrams) (q : Questions) → AreQuestions s d q → (k : ℕ) → k < s.memories
+    → (v : Valuation) (i : ℕ) (f : Form)
     → slice_get (forms_at q.forms k) i ≡ Some f → is_in d.nodes (memory_answers q k) i v ≡ true → IsUpdate s f
 update_told s is d q a k low v i f got on = subst (IsUpdate s) ((a.updates k low).becomes i f v got on) (is.updates v k low)
 

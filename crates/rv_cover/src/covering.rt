@@ -80,20 +80,24 @@ fn add_entry(
     }
 }
 
-/// The cover with a step more, at the least valuation that the claim takes and that meets no condition.
+/// The cover with a step more, at this valuation, or none where the wanted rows are not proved there.
 #[tactic(auto, using(crate::proofs::Chaining::cover_later))]
-fn add_step(
+fn add_step_at(
     alloc: Global,
     store: &mut Store,
     frame: &Frame,
+    sample: &Many<bool>,
     questions: &Questions,
+    lean: &Many<Row>,
     given: &Many<Row>,
     wanted: &Many<Row>,
     scope: Ref,
     safe: Ref,
     cover: Cover,
 ) -> Result<Option<Cover>, StoreFault>
+    requires sized { length sample.now ≡ store.old.variables }
     requires searched { (s : System) × IsSearched s store.old questions.now frame.now given.now × AreKept s wanted.now }
+    requires same_many { length lean.now ≡ length given.now }
     requires scope { IsRef store.old.nodes scope }
     requires safe { IsRef store.old.nodes safe }
     requires cover { IsCover store.old.nodes frame.now (length given.now + length questions.now.rows) cover }
@@ -101,8 +105,7 @@ fn add_step(
     ensures roomy { IsErrOf result StoreFault.Nodes → store.old.limit < 2 ^ (2 ^ store.old.variables) }
     ensures cover { IfOk result (λ o. IfSome o (IsCover store.new.nodes frame.now (length given.now + length questions.now.rows))) }
 {
-    let sample = sample_of(alloc, store, cover.left)?;
-    match step_at(alloc, store, frame, &sample, questions, given, wanted)? {
+    match step_at(alloc, store, frame, sample, questions, lean, given, wanted)? {
         Some(found) => {
             let Found { kind, answers } = found;
             let condition = step_condition(store, scope, safe, answers.as_slice())?;
@@ -112,12 +115,41 @@ fn add_step(
     }
 }
 
+/// The cover with a step more, at the least valuation that the claim takes and that meets no condition.
+fn add_step(
+    alloc: Global,
+    store: &mut Store,
+    frame: &Frame,
+    questions: &Questions,
+    lean: &Many<Row>,
+    given: &Many<Row>,
+    wanted: &Many<Row>,
+    scope: Ref,
+    safe: Ref,
+    cover: Cover,
+) -> Result<Option<Cover>, StoreFault>
+    requires searched { (s : System) × IsSearched s store.old questions.now frame.now given.now × AreKept s wanted.now }
+    requires same_many { length lean.now ≡ length given.now }
+    requires scope { IsRef store.old.nodes scope }
+    requires safe { IsRef store.old.nodes safe }
+    requires cover { IsCover store.old.nodes frame.now (length given.now + length questions.now.rows) cover }
+    ensures extends { Extends store.old store.new }
+    ensures roomy { IsErrOf result StoreFault.Nodes → store.old.limit < 2 ^ (2 ^ store.old.variables) }
+    ensures cover { IfOk result (λ o. IfSome o (IsCover store.new.nodes frame.now (length given.now + length questions.now.rows))) }
+{
+    let sample = sample_of(alloc, store, cover.left)?;
+    add_step_at(
+        alloc, store, frame, &sample, questions, lean, given, wanted, scope, safe, cover,
+    )
+}
+
 /// The cover with steps until the claim takes no valuation that is left, or none.
 fn add_steps(
     alloc: Global,
     store: &mut Store,
     frame: &Frame,
     questions: &Questions,
+    lean: &Many<Row>,
     given: &Many<Row>,
     wanted: &Many<Row>,
     scope: Ref,
@@ -125,6 +157,7 @@ fn add_steps(
     begun: Cover,
 ) -> Result<Option<Cover>, StoreFault>
     requires searched { (s : System) × IsSearched s store.old questions.now frame.now given.now × AreKept s wanted.now }
+    requires same_many { length lean.now ≡ length given.now }
     requires scope { IsRef store.old.nodes scope }
     requires safe { IsRef store.old.nodes safe }
     requires cover { IsCover store.old.nodes frame.now (length given.now + length questions.now.rows) begun }
@@ -138,7 +171,7 @@ fn add_steps(
             return Ok(Some(cover));
         }
         match add_step(
-            alloc, store, frame, questions, given, wanted, scope, safe, cover,
+            alloc, store, frame, questions, lean, given, wanted, scope, safe, cover,
         )? {
             Some(next) => cover = next,
             None => return Ok(None),
@@ -147,43 +180,92 @@ fn add_steps(
     Ok(None)
 }
 
-/// The cover with a dead entry more, at the least valuation that meets no condition.
+/// The cover with a step more, at this valuation, or none where it is not safe or the wanted rows are not proved there.
+fn add_safe_step(
+    alloc: Global,
+    store: &mut Store,
+    frame: &Frame,
+    sample: &Many<bool>,
+    questions: &Questions,
+    lean: &Many<Row>,
+    given: &Many<Row>,
+    wanted: &Many<Row>,
+    scope: Ref,
+    safe: Ref,
+    cover: Cover,
+) -> Result<Option<Cover>, StoreFault>
+    requires sized { length sample.now ≡ store.old.variables }
+    requires searched { (s : System) × IsSearched s store.old questions.now frame.now given.now × AreKept s wanted.now }
+    requires same_many { length lean.now ≡ length given.now }
+    requires scope { IsRef store.old.nodes scope }
+    requires safe { IsRef store.old.nodes safe }
+    requires cover { IsCover store.old.nodes frame.now (length given.now + length questions.now.rows) cover }
+    ensures extends { Extends store.old store.new }
+    ensures roomy { IsErrOf result StoreFault.Nodes → store.old.limit < 2 ^ (2 ^ store.old.variables) }
+    ensures cover { IfOk result (λ o. IfSome o (IsCover store.new.nodes frame.now (length given.now + length questions.now.rows))) }
+{
+    let _count = store.mark();
+    if !store.value_at(safe, sample) {
+        return Ok(None);
+    }
+    add_step_at(
+        alloc, store, frame, sample, questions, lean, given, wanted, scope, safe, cover,
+    )
+}
+
+/// The cover with an entry more, at the least valuation that meets no condition: a dead one, or a step where nothing refutes the premises.
 #[tactic(auto, using(crate::proofs::Chaining::cover_later))]
 fn add_dead(
     alloc: Global,
     store: &mut Store,
     frame: &Frame,
     questions: &Questions,
+    lean: &Many<Row>,
     given: &Many<Row>,
+    wanted: &Many<Row>,
+    scope: Ref,
+    safe: Ref,
     cover: Cover,
 ) -> Result<Option<Cover>, StoreFault>
-    requires searched { (s : System) × IsSearched s store.old questions.now frame.now given.now }
+    requires searched { (s : System) × IsSearched s store.old questions.now frame.now given.now × AreKept s wanted.now }
+    requires same_many { length lean.now ≡ length given.now }
+    requires scope { IsRef store.old.nodes scope }
+    requires safe { IsRef store.old.nodes safe }
     requires cover { IsCover store.old.nodes frame.now (length given.now + length questions.now.rows) cover }
     ensures extends { Extends store.old store.new }
     ensures roomy { IsErrOf result StoreFault.Nodes → store.old.limit < 2 ^ (2 ^ store.old.variables) }
     ensures cover { IfOk result (λ o. IfSome o (IsCover store.new.nodes frame.now (length given.now + length questions.now.rows))) }
 {
     let sample = sample_of(alloc, store, cover.rest)?;
-    match dead_at(alloc, store, frame, &sample, questions, given)? {
+    match dead_at(alloc, store, frame, &sample, questions, lean, given)? {
         Some(found) => {
             let Found { kind, answers } = found;
             let condition = all_of(store, answers.as_slice())?;
             add_entry(store, frame, cover, condition, kind)
         }
-        None => Ok(None),
+        None => add_safe_step(
+            alloc, store, frame, &sample, questions, lean, given, wanted, scope, safe, cover,
+        ),
     }
 }
 
-/// The cover with dead entries until no valuation is left, or none.
+/// The cover with entries, dead ones where that can be, until no valuation is left, or none.
 fn add_dead_entries(
     alloc: Global,
     store: &mut Store,
     frame: &Frame,
     questions: &Questions,
+    lean: &Many<Row>,
     given: &Many<Row>,
+    wanted: &Many<Row>,
+    scope: Ref,
+    safe: Ref,
     begun: Cover,
 ) -> Result<Option<Cover>, StoreFault>
-    requires searched { (s : System) × IsSearched s store.old questions.now frame.now given.now }
+    requires searched { (s : System) × IsSearched s store.old questions.now frame.now given.now × AreKept s wanted.now }
+    requires same_many { length lean.now ≡ length given.now }
+    requires scope { IsRef store.old.nodes scope }
+    requires safe { IsRef store.old.nodes safe }
     requires cover { IsCover store.old.nodes frame.now (length given.now + length questions.now.rows) begun }
     ensures extends { Extends store.old store.new }
     ensures roomy { IsErrOf result StoreFault.Nodes → store.old.limit < 2 ^ (2 ^ store.old.variables) }
@@ -194,7 +276,9 @@ fn add_dead_entries(
         if store.is_false(cover.rest) {
             return Ok(Some(cover));
         }
-        match add_dead(alloc, store, frame, questions, given, cover)? {
+        match add_dead(
+            alloc, store, frame, questions, lean, given, wanted, scope, safe, cover,
+        )? {
             Some(next) => cover = next,
             None => return Ok(None),
         }
@@ -219,21 +303,25 @@ fn entries_in(cover: Option<Cover>) -> Option<Many<Entry>>
     }
 }
 
-/// The entries of a scope of which the claim takes `left`, or none, with what was built of them.
+/// The entries of a scope of which steps are to cover `left` and entries of either kind `rest`, or none, with what was built of them.
 fn cover_of(
     alloc: Global,
     store: &mut Store,
     frame: &Frame,
     questions: &Questions,
+    lean: &Many<Row>,
     given: &Many<Row>,
     wanted: &Many<Row>,
     scope: Ref,
     left: Ref,
+    rest: Ref,
     safe: Ref,
 ) -> Result<Option<Many<Entry>>, StoreFault>
     requires searched { (s : System) × IsSearched s store.old questions.now frame.now given.now × AreKept s wanted.now }
+    requires same_many { length lean.now ≡ length given.now }
     requires scope { IsRef store.old.nodes scope }
     requires left { IsRef store.old.nodes left }
+    requires rest { IsRef store.old.nodes rest }
     requires safe { IsRef store.old.nodes safe }
     ensures extends { Extends store.old store.new }
     ensures roomy { IsErrOf result StoreFault.Nodes → store.old.limit < 2 ^ (2 ^ store.old.variables) }
@@ -243,13 +331,15 @@ fn cover_of(
     let begun = Cover {
         entries,
         left,
-        rest: scope,
+        rest,
     };
     match add_steps(
-        alloc, store, frame, questions, given, wanted, scope, safe, begun,
+        alloc, store, frame, questions, lean, given, wanted, scope, safe, begun,
     )? {
         Some(steps) => {
-            let whole = add_dead_entries(alloc, store, frame, questions, given, steps)?;
+            let whole = add_dead_entries(
+                alloc, store, frame, questions, lean, given, wanted, scope, safe, steps,
+            )?;
             Ok(entries_in(whole))
         }
         None => Ok(None),
@@ -264,12 +354,14 @@ fn entries_within(
     questions: &Questions,
     allowed: Ref,
     control: &Frozen,
+    lean: &Many<Row>,
     given: &Many<Row>,
     wanted: &Many<Row>,
     taken: Ref,
     safe: Ref,
 ) -> Result<Option<Many<Entry>>, StoreFault>
     requires searched { (s : System) × IsSearched s store.old questions.now frame.now given.now × AreKept s wanted.now }
+    requires same_many { length lean.now ≡ length given.now }
     requires allowed { IsRef store.old.nodes allowed }
     requires control { IsOrderedOver store.old.variables control.now }
     requires taken { IsRef store.old.nodes taken }
@@ -281,12 +373,13 @@ fn entries_within(
     let scope = within(store, allowed, control)?;
     let left = both(store, scope, taken)?;
     cover_of(
-        alloc, store, frame, questions, given, wanted, scope, left, safe,
+        alloc, store, frame, questions, lean, given, wanted, scope, left, scope, safe,
     )
 }
 
 /// The entries of a location with these control states and rows, whose steps prove the wanted rows, or none. Where the claim takes a
-/// valuation is `taken`, and where a step may be taken is `safe`. The store is left as it was.
+/// valuation is `taken`, and where a step may be taken is `safe`. What the rows `lean` show, which are as many, is taken before what the given
+/// ones show. The store is left as it was.
 pub fn entries_of(
     alloc: Global,
     store: &mut Store,
@@ -294,12 +387,14 @@ pub fn entries_of(
     questions: &Questions,
     allowed: Ref,
     control: &Frozen,
+    lean: &Many<Row>,
     given: &Many<Row>,
     wanted: &Many<Row>,
     taken: Ref,
     safe: Ref,
 ) -> Result<Option<Many<Entry>>, StoreFault>
     requires searched { (s : System) × IsSearched s store.old questions.now frame.now given.now × AreKept s wanted.now }
+    requires same_many { length lean.now ≡ length given.now }
     requires allowed { IsRef store.old.nodes allowed }
     requires control { IsOrderedOver store.old.variables control.now }
     requires taken { IsRef store.old.nodes taken }
@@ -310,7 +405,67 @@ pub fn entries_of(
 {
     let mark = store.mark();
     let answer = entries_within(
-        alloc, store, frame, questions, allowed, control, given, wanted, taken, safe,
+        alloc, store, frame, questions, allowed, control, lean, given, wanted, taken, safe,
+    );
+    store.release(mark);
+    answer
+}
+
+/// The steps of a set of control states that prove the wanted rows, or none, with what was built of them.
+fn steps_within(
+    alloc: Global,
+    store: &mut Store,
+    frame: &Frame,
+    questions: &Questions,
+    allowed: Ref,
+    control: &Frozen,
+    lean: &Many<Row>,
+    given: &Many<Row>,
+    wanted: &Many<Row>,
+    taken: Ref,
+) -> Result<Option<Many<Entry>>, StoreFault>
+    requires searched { (s : System) × IsSearched s store.old questions.now frame.now given.now × AreKept s wanted.now }
+    requires same_many { length lean.now ≡ length given.now }
+    requires allowed { IsRef store.old.nodes allowed }
+    requires control { IsOrderedOver store.old.variables control.now }
+    requires taken { IsRef store.old.nodes taken }
+    ensures extends { Extends store.old store.new }
+    ensures roomy { IsErrOf result StoreFault.Nodes → store.old.limit < 2 ^ (2 ^ store.old.variables) }
+{
+    let scope = within(store, allowed, control)?;
+    let left = both(store, scope, taken)?;
+    let none = store.constant(false);
+    let all = store.constant(true);
+    cover_of(
+        alloc, store, frame, questions, lean, given, wanted, scope, left, none, all,
+    )
+}
+
+/// Steps that prove the wanted rows where the claim takes a valuation with one of these control states, or none. They are no entries of a
+/// certificate: the observer may be false in them. The store is left as it was.
+pub fn steps_of(
+    alloc: Global,
+    store: &mut Store,
+    frame: &Frame,
+    questions: &Questions,
+    allowed: Ref,
+    control: &Frozen,
+    lean: &Many<Row>,
+    given: &Many<Row>,
+    wanted: &Many<Row>,
+    taken: Ref,
+) -> Result<Option<Many<Entry>>, StoreFault>
+    requires searched { (s : System) × IsSearched s store.old questions.now frame.now given.now × AreKept s wanted.now }
+    requires same_many { length lean.now ≡ length given.now }
+    requires allowed { IsRef store.old.nodes allowed }
+    requires control { IsOrderedOver store.old.variables control.now }
+    requires taken { IsRef store.old.nodes taken }
+    ensures same { store.new ≡ store.old }
+    ensures roomy { IsErrOf result StoreFault.Nodes → store.old.limit < 2 ^ (2 ^ store.old.variables) }
+{
+    let mark = store.mark();
+    let answer = steps_within(
+        alloc, store, frame, questions, allowed, control, lean, given, wanted, taken,
     );
     store.release(mark);
     answer

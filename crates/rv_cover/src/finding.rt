@@ -53,8 +53,8 @@ fn dead_by(
     })
 }
 
-/// A dead entry at a valuation, or none where its premises are not refuted.
-pub fn dead_at(
+/// A dead entry at a valuation by these rows, or none where its premises are not refuted.
+fn dead_from(
     alloc: Global,
     store: &Store,
     frame: &Frame,
@@ -102,8 +102,8 @@ fn step_by(
     })
 }
 
-/// A step into location 1 at a valuation, or none where the wanted rows are not proved there.
-pub fn step_at(
+/// A step into location 1 at a valuation by these rows, or none where the wanted rows are not proved there.
+fn step_from(
     alloc: Global,
     store: &Store,
     frame: &Frame,
@@ -124,5 +124,50 @@ pub fn step_at(
             Ok(Some(found))
         }
         None => Ok(None),
+    }
+}
+
+/// A dead entry at a valuation, by the rows `lean` where these do and else by the given ones, which are as many. None where its premises are
+/// not refuted.
+pub fn dead_at(
+    alloc: Global,
+    store: &Store,
+    frame: &Frame,
+    sample: &Many<bool>,
+    questions: &Questions,
+    lean: &Many<Row>,
+    given: &Many<Row>,
+) -> Result<Option<Found>, Memory>
+    requires sized { length sample.now ≡ store.now.variables }
+    requires searched { (s : System) × IsSearched s store.now questions.now frame.now given.now }
+    requires same_many { length lean.now ≡ length given.now }
+    ensures { IfOk result (λ o. IfSome o (IsFound store.now.nodes (length given.now + length questions.now.rows))) }
+{
+    match dead_from(alloc, store, frame, sample, questions, lean)? {
+        Some(found) => Ok(Some(found)),
+        None => dead_from(alloc, store, frame, sample, questions, given),
+    }
+}
+
+/// A step into location 1 at a valuation, by the rows `lean` where these do and else by the given ones, which are as many. None where the
+/// wanted rows are not proved there.
+pub fn step_at(
+    alloc: Global,
+    store: &Store,
+    frame: &Frame,
+    sample: &Many<bool>,
+    questions: &Questions,
+    lean: &Many<Row>,
+    given: &Many<Row>,
+    wanted: &Many<Row>,
+) -> Result<Option<Found>, Memory>
+    requires sized { length sample.now ≡ store.now.variables }
+    requires searched { (s : System) × IsSearched s store.now questions.now frame.now given.now × AreKept s wanted.now }
+    requires same_many { length lean.now ≡ length given.now }
+    ensures { IfOk result (λ o. IfSome o (IsFound store.now.nodes (length given.now + length questions.now.rows))) }
+{
+    match step_from(alloc, store, frame, sample, questions, lean, wanted)? {
+        Some(found) => Ok(Some(found)),
+        None => step_from(alloc, store, frame, sample, questions, given, wanted),
     }
 }

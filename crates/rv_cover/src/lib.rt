@@ -9,7 +9,9 @@
 //! step, whose condition has also that the step leads into the claim, and that the observer is true or the claim takes the valuation
 //! (leading.rt, conditions.rt); elsewhere it is dead (covering.rt). So comparisons on which nothing depends split nothing. Multipliers come
 //! from the box of the premises (reaching.rt, rows.rt), or from pairs of them (pairing.rt); the claim says which (`By`, proving.rt). Of the
-//! claim's rows only those are kept that some multiplier names (needing.rt).
+//! claim's rows only those are kept that some multiplier names (needing.rt): of a box claim they are found row by row, without the entries of all
+//! of them together, and where these rows do not do, by whole lists of entries as of a row claim. Where neither a step covers a valuation nor the
+//! kept rows refute it, it gets a step too, if it is safe.
 //!
 //! Begin with seeking.rt and specs/Seeking.antt.
 #![tactic(auto)]

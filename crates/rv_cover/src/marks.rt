@@ -20,7 +20,7 @@ pub fn is_set(flags: &Many<bool>, place: usize) -> bool {
 }
 
 /// Sets the flag of a premise, where it has one: premise `first` has the first flag. It answers whether that was not set.
-fn mark_premise(flags: &mut Many<bool>, first: usize, premise: usize) -> bool {
+pub fn mark_premise(flags: &mut Many<bool>, first: usize, premise: usize) -> bool {
     if premise < first {
         return false;
     }
@@ -70,4 +70,14 @@ pub fn mark_entries(flags: &mut Many<bool>, first: usize, entries: &Many<Entry>)
         more = more || new;
     }
     more
+}
+
+/// The first place whose flag is set in the one list and not in the other.
+pub fn next_place(flags: &Many<bool>, known: &Many<bool>) -> Option<usize> {
+    for place in 0..flags.len() {
+        if *flags.at(place) && !is_set(known, place) {
+            return Some(place);
+        }
+    }
+    None
 }

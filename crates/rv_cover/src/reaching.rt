@@ -152,7 +152,8 @@ pub fn refuted_by_box(
     shut_of(alloc, &premises, &ends)
 }
 
-/// What proves the wanted rows after the updates by their greatest values, over the box of the given rows alone where these do, and else by the rows of the tests too, or none.
+/// What proves the wanted rows after the updates by their greatest values, or none: each row over the box of the given rows alone where that
+/// does, and else over that of the rows of the tests too.
 pub fn reach_by_box(
     alloc: Global,
     columns: usize,

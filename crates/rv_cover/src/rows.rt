@@ -55,6 +55,29 @@ pub fn chosen(alloc: Global, rows: &Many<Row>, flags: &Many<bool>) -> Result<Man
     Ok(list)
 }
 
+/// The same row where that is asked, and else `0 <= 2^60`, which shows nothing.
+fn row_if(alloc: Global, row: &Row, asked: bool) -> Result<Row, Memory> {
+    if asked {
+        return copy_row(alloc, row);
+    }
+    Ok(Row {
+        coefficients: Many::new(alloc),
+        bound: HIGHEST,
+    })
+}
+
+/// The rows whose flags are set, each in its place, and elsewhere rows that show nothing.
+pub fn only_marked(alloc: Global, rows: &Many<Row>, flags: &Many<bool>) -> Result<Many<Row>, Memory>
+    ensures { IfOk result (λ list. length list ≡ length rows.now) }
+{
+    let mut list = Many::new(alloc);
+    for place in 0..rows.len() {
+        let row = row_if(alloc, rows.at(place), is_set(flags, place))?;
+        list.push(row)?;
+    }
+    Ok(list)
+}
+
 /// Whether the number has a magnitude of at most 2^41.
 fn is_small(number: i128) -> bool
     ensures { IsTrue result → unsigned_abs number ≤ 2 ^ 41 }

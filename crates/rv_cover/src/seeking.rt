@@ -84,13 +84,13 @@ fn located(
     let allowed = parts.allowed;
     let nothing = Many::new(alloc);
     let Some(initial) = entries_of(
-        alloc, store, frame, questions, allowed, first, &nothing, &rows, taken, safe,
+        alloc, store, frame, questions, allowed, first, &nothing, &nothing, &rows, taken, safe,
     )?
     else {
         return Ok(None);
     };
     let Some(others) = entries_of(
-        alloc, store, frame, questions, allowed, rest, &rows, &rows, taken, safe,
+        alloc, store, frame, questions, allowed, rest, &rows, &rows, &rows, taken, safe,
     )?
     else {
         return Ok(None);
@@ -113,8 +113,69 @@ fn frame_of(alloc: Global, store: &Store, parts: &Parts, by: By) -> Result<Frame
     })
 }
 
-/// The certificate, or none, with what was built of it.
+/// The certificate whose needed rows are found one by one or together, or none, with what was built of it.
 fn sought_in(
+    alloc: Global,
+    store: &mut Store,
+    parts: &Parts,
+    questions: &Questions,
+    by: By,
+    first: &Frozen,
+    rest: &Frozen,
+    taken: Ref,
+    reached: &Frozen,
+    given: &Many<Row>,
+    apart: bool,
+) -> Result<Option<Certificate>, StoreFault>
+    requires { (s : System) × IsSought s store.old parts.now questions.now by first.now rest.now taken reached.now given.now }
+    ensures extends { Extends store.old store.new }
+    ensures roomy { IsErrOf result StoreFault.Nodes → store.old.limit < 2 ^ (2 ^ store.old.variables) }
+    ensures found { (s : System) → IsSought s store.old parts.now questions.now by first.now rest.now taken reached.now given.now
+        → IfOk result (λ o. IfSome o (IsDocument s)) }
+{
+    let safe = safe_into(alloc, store, parts, taken, reached)?;
+    let frame = frame_of(alloc, store, parts, by)?;
+    let allowed = parts.allowed;
+    match needed(
+        alloc, store, &frame, questions, allowed, rest, given, taken, safe, apart,
+    )? {
+        Some(rows) => located(
+            alloc, store, &frame, parts, questions, first, rest, taken, safe, rows,
+        ),
+        None => Ok(None),
+    }
+}
+
+/// The same, with the store left as it was.
+fn sought_by(
+    alloc: Global,
+    store: &mut Store,
+    parts: &Parts,
+    questions: &Questions,
+    by: By,
+    first: &Frozen,
+    rest: &Frozen,
+    taken: Ref,
+    reached: &Frozen,
+    given: &Many<Row>,
+    apart: bool,
+) -> Result<Option<Certificate>, StoreFault>
+    requires { (s : System) × IsSought s store.old parts.now questions.now by first.now rest.now taken reached.now given.now }
+    ensures found { (s : System) → IsSought s store.old parts.now questions.now by first.now rest.now taken reached.now given.now
+        → IfOk result (λ o. IfSome o (IsDocument s)) }
+    ensures same { store.new ≡ store.old }
+    ensures roomy { IsErrOf result StoreFault.Nodes → store.old.limit < 2 ^ (2 ^ store.old.variables) }
+{
+    let mark = store.mark();
+    let answer = sought_in(
+        alloc, store, parts, questions, by, first, rest, taken, reached, given, apart,
+    );
+    store.release(mark);
+    answer
+}
+
+/// The certificate of a box claim whose needed rows are found one by one, or none. The store is left as it was.
+fn sought_apart(
     alloc: Global,
     store: &mut Store,
     parts: &Parts,
@@ -127,21 +188,16 @@ fn sought_in(
     given: &Many<Row>,
 ) -> Result<Option<Certificate>, StoreFault>
     requires { (s : System) × IsSought s store.old parts.now questions.now by first.now rest.now taken reached.now given.now }
-    ensures extends { Extends store.old store.new }
-    ensures roomy { IsErrOf result StoreFault.Nodes → store.old.limit < 2 ^ (2 ^ store.old.variables) }
     ensures found { (s : System) → IsSought s store.old parts.now questions.now by first.now rest.now taken reached.now given.now
         → IfOk result (λ o. IfSome o (IsDocument s)) }
+    ensures same { store.new ≡ store.old }
+    ensures roomy { IsErrOf result StoreFault.Nodes → store.old.limit < 2 ^ (2 ^ store.old.variables) }
 {
-    let safe = safe_into(alloc, store, parts, taken, reached)?;
-    let frame = frame_of(alloc, store, parts, by)?;
-    let allowed = parts.allowed;
-    match needed(
-        alloc, store, &frame, questions, allowed, rest, given, taken, safe,
-    )? {
-        Some(rows) => located(
-            alloc, store, &frame, parts, questions, first, rest, taken, safe, rows,
+    match by {
+        By::Boxes(_) => sought_by(
+            alloc, store, parts, questions, by, first, rest, taken, reached, given, true,
         ),
-        None => Ok(None),
+        By::Rows => Ok(None),
     }
 }
 
@@ -168,10 +224,12 @@ pub fn sought(
     ensures same { store.new ≡ store.old }
     ensures roomy { IsErrOf result StoreFault.Nodes → store.old.limit < 2 ^ (2 ^ store.old.variables) }
 {
-    let mark = store.mark();
-    let answer = sought_in(
+    match sought_apart(
         alloc, store, parts, questions, by, first, rest, taken, reached, given,
-    );
-    store.release(mark);
-    answer
+    )? {
+        Some(certificate) => Ok(Some(certificate)),
+        None => sought_by(
+            alloc, store, parts, questions, by, first, rest, taken, reached, given, false,
+        ),
+    }
 }

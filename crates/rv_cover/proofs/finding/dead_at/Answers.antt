@@ -1,26 +1,15 @@
-use Rattle.std.proofs.Common.{arith, ap, length, ◌+◌}
-use Rattle.rv_cover.proofs.Rowing.{premises_few, searched_narrow, dead_found}
+use Rattle.std.proofs.Common.{ℕ, ◌+◌, length, subst}
+use Rattle.rv_cover.specs.Entries.{IsFound}
+use Rattle.rv_cover.proofs.Chaining.{searched_as_many}
 use Rattle.rv_cover.proofs.finding.dead_at.Goals as goal
 
-pub told_rows-requires-clause-answers : goal.told_rows-requires-clause-answers
-told_rows-requires-clause-answers c = let (s, is) = c.requires.searched in let ask = is.questions in ask.answers
-
-pub least_refutation-requires-clause-few : goal.least_refutation-requires-clause-few
-least_refutation-requires-clause-few c =
+pub dead_from-requires-clause-searched : goal.dead_from-requires-clause-searched
+dead_from-requires-clause-searched c =
     let (s, is) = c.requires.searched in
-    let few = premises_few s c.args.store.now c.args.questions.now c.args.frame.now c.args.given.now is in
-    let size = c.in_ok-told.ensures in
-    omega (arith, few, size)
-
-pub least_refutation-requires-clause-narrow : goal.least_refutation-requires-clause-narrow
-least_refutation-requires-clause-narrow c =
-    let (s, is) = c.requires.searched in searched_narrow s c.args.store.now c.args.questions.now c.args.frame.now c.args.given.now is
-
-pub dead_by-requires-clause-answers : goal.dead_by-requires-clause-answers
-dead_by-requires-clause-answers c = let (s, is) = c.requires.searched in let ask = is.questions in ask.answers
+    (s, searched_as_many s c.args.store.now c.args.questions.now c.args.frame.now c.args.given.now c.args.lean.now c.requires.same_many is)
 
 pub returns-in-Some : goal.returns-in-Some
 returns-in-Some c =
-    dead_found c.args.store.now.nodes (length c.args.given.now + length c.args.questions.now.rows) (length c.args.given.now + length c.in_ok-told.told)
-    c.in-Some.by c.in_ok-found-in-Some.found c.in_ok-found-in-Some.ensures.kind c.in_ok-found-in-Some.ensures.answers
-    (rw c.in-Some.is at c.in_ok-by.ensures.record) (rw c.in-Some.is at c.in_ok-by.ensures.one) (ap (λ n. length c.args.given.now + n) c.in_ok-told.ensures)
+    let found : IsFound c.args.store.now.nodes (length c.args.lean.now + length c.args.questions.now.rows) c.in-Some.found = rw c.in-Some.is at
+    c.in_ok-found.ensures in
+    subst (λ (n : ℕ). IsFound c.args.store.now.nodes (n + length c.args.questions.now.rows) c.in-Some.found) c.requires.same_many found

@@ -5,7 +5,8 @@ use Rattle.rv_cover.proofs.Rowing.{ranges_record}
 use Rattle.rv_cover.proofs.pairing.shut_by_any.Goals as goal
 
 pub returns-clause-record : goal.returns-clause-record
-returns-clause-record c = map_ok c.seek_refutation.result _ _ (λ o h. IfSome_then o h (λ m r. ranges_record (length c.args.rows.now) m r)) c.seek_refutation.ensures.ranges
+returns-clause-record c = map_ok c.seek_refutation.result _ _ (λ o h. IfSome_then o h (λ m r. ranges_record (length c.args.rows.now) m r))
+    c.seek_refutation.ensures.ranges
 
 pub returns-clause-one : goal.returns-clause-one
 returns-clause-one c = map_ok c.seek_refutation.result _ _ (λ o h. IfSome_then o h (λ m r. r.divisor)) c.seek_refutation.ensures.proof

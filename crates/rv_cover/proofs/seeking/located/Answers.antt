@@ -22,7 +22,8 @@ pub returns-clause-found : goal.returns-clause-found
 returns-clause-found c =
     let one = rw c.in-Some.is at c.in_ok-initial.ensures.entries in
     let two = rw c.in-Some-2.is at c.in_ok-others.ensures.entries in
-    let none : length c.new-nothing.result + length c.args.questions.now.rows ≡ length c.args.questions.now.rows = omega (arith, ap length c.new-nothing.ensures) in
+    let none : length c.new-nothing.result + length c.args.questions.now.rows ≡ length c.args.questions.now.rows = omega
+    (arith, ap length c.new-nothing.ensures) in
     IfSome_then c.in_ok-found.found c.in_ok-found.ensures (λ x made. record {
       initial = c.in-Some.initial;
       others = c.in-Some-2.others;
