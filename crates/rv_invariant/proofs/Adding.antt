@@ -8,9 +8,9 @@ use Rattle.csv.specs.{Records.Row, Records.fields_of, Records.partial_of, declar
 use Rattle.rv_diagram.specs.{Nodes.node_at, declared.Triple.Triple}
 use Rattle.rv_flat.specs.declared.flat.Flat.{Flat}
 use Rattle.rv_control.specs.Control.{control_of}
-use Rattle.rv_proofs.specs.{Ranges.IsInRange, declared.certificate.Certificate.Certificate}
+use Rattle.rv_proofs.specs.{Counts.HasFree, Ranges.IsInRange, declared.certificate.Certificate.Certificate}
 use Rattle.rv_invfile.specs.{Rules.Fields, Writes.Adds}
-use Rattle.rv_invariant.specs.{Certificates.FitsCertificate, Certificates.IsWithoutLoops, Writes.AllHeld, Writes.HasFields, Writes.Extends}
+use Rattle.rv_invariant.specs.{Certificates.FitsCertificate, Writes.AllHeld, Writes.HasFields, Writes.Extends}
 
 -- ---- What a list gives, element by element.
 module _ {A B : Type 0} (one : A → List B) (all : List A → List B) (nil : all [] ≡ []) (cons : (x : A) (xs : List A) → all (x ∷ xs) ≡ one x ++ all xs) where
@@ -98,14 +98,9 @@ settled P (Ok u) p = p
 settled P (Err e) p = tt
 
 -- a certificate whose diagrams are held has what a document asks for
-pub held-fits : (f : Flat) (c : Certificate) → IsInRange (control_of f) c → IsWithoutLoops c → AllHeld c.locations → FitsCertificate f c
-held-fits f c range plain held = record {
+pub held-fits : (f : Flat) (c : Certificate) → IsInRange (control_of f) c → HasFree c → AllHeld c.locations → FitsCertificate f c
+held-fits f c range free held = record {
   range = range;
-  plain = λ k l e. record {
-    no_loop = (plain k l e).0;
-    no_first = (plain k l e).1;
-    no_around = (plain k l e).2;
-    control = (held k l e).0;
-    conditions = (held k l e).1;
-  };
+  free = free;
+  held = λ k l e. record { control = (held k l e).0; conditions = (held k l e).1 };
 }

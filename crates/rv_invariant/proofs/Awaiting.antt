@@ -1,9 +1,9 @@
 -- Wherever a record of a certificate is awaited some record is right, so a record is awaited exactly where it begins a document.
-use Rattle.std.proofs.Common.{◌≡◌, ◌+◌, ◌-◌, ◌*◌, ◌%◌, ◌^◌, ◌<◌, ◌≤◌, ℕ, zero, suc, Bool, true, false, cond, List, [], ◌∷◌, ◌++◌, length, get_or, refl, sym, ap}
+use Rattle.std.proofs.Common.{◌≡◌, ◌+◌, ◌-◌, ◌%◌, ◌^◌, ◌<◌, ◌≤◌, ℕ, zero, suc, Bool, true, false, cond, List, [], ◌∷◌, ◌++◌, length, get_or, refl, sym, ap}
 use Rattle.std.proofs.Common.{◌∙◌}
 use Rattle.std.proofs.Common.{subst, arith}
 use Rattle.std.proofs.{lemmas.Int.ints, lemmas.List.get_or-replicate, lemmas.List.length-replicate}
-use Rattle.std.specs.Prelude.{◌&&◌, ◌↔◌, nat_eq, nat_le, ℤ, pos, Option, Some, None, is_some, codes, decimal, replicate, ⊤}
+use Rattle.std.specs.Prelude.{◌&&◌, ◌↔◌, not, nat_eq, nat_le, ℤ, pos, Option, Some, None, is_some, codes, decimal, replicate, ⊤}
 use Rattle.std.specs.{Str.bytes_eq, Int.RustNames.unsigned_abs}
 use Rattle.rv_rows.specs.{declared.linear.Row.Row, declared.farkas.Multipliers.Multipliers}
 use Rattle.rv_flat.specs.declared.flat.Flat.{Flat}
@@ -11,24 +11,28 @@ use Rattle.rv_diagram.specs.declared.frozen.Frozen.{Frozen}
 use Rattle.rv_proofs.specs.{declared.certificate.Certificate.Certificate, declared.certificate.Location.Location, declared.certificate.Entry.Entry}
 use Rattle.rv_invfile.specs.declared.fault.Why.TheVariants as why
 use Rattle.rv_invfile.specs.Rules.{Fields, Form, Rule, done, await, form_of, fault_in, fault_by, fault_after, is_plain, HasNoFault, IsDocument}
-use Rattle.rv_invfile.specs.Forms.{field, word_of, counts, exactly, names, lists}
+use Rattle.rv_invfile.specs.Forms.{field, fixed, word_of, counts, exactly, names, lists}
 use Rattle.rv_invfile.specs.{Parts.bind, Parts.times, Parts.either, Parts.turns, Spells.Spells, Spells.IsAlive, Spells.BeginsDocument, Texts.natural}
 use Rattle.rv_invfile.specs.{Told.IsTold}
 use Rattle.rv_invfile.proofs.ReadBack.{is_plain_text, right-fault, decimal-plain, name-plain, pair-plain, exactly-right, names-right, lists-right, counts-right}
 use Rattle.rv_invfile.proofs.{Begins.alive-bind, Begins.alive-times, Begins.awaited-begins, Decimals.same-bytes, Decimals.within, Written.Right}
 use Rattle.rv_invariant.specs.Pieces.{a_diagram, a_list, a_proof, a_row, by_form, diagram, is_divisor, is_node_field, is_pair_field, is_root, multipliers_of}
 use Rattle.rv_invariant.specs.Pieces.{row_record}
-use Rattle.rv_invariant.specs.Certificates.{known_at, learn, low_of, high_of, after_entry, row_lists, after_proofs, after_lists, after_control, front_rule}
-use Rattle.rv_invariant.specs.Certificates.{reach_rule, go_entry, dead_entry, go_rule, dead_rule, entry_rule, entry_forms, entries_rule, location_of}
-use Rattle.rv_invariant.specs.Certificates.{after_front}
+use Rattle.rv_invariant.specs.Certificates.{known_at, learn, low_of, high_of, after_entry, after_first, after_around, row_lists, has_turned, count_rule}
+use Rattle.rv_invariant.specs.Certificates.{second_rule, second_or, after_proofs, after_lists, after_control, front_rule, reach_rule, go_entry, dead_entry}
+use Rattle.rv_invariant.specs.Certificates.{go_rule, dead_rule, plain_rule, turn_entry, a_part, after_third, after_second, after_one, after_when, turn_rule}
+use Rattle.rv_invariant.specs.Certificates.{whole_turn, turn_then, is_turn, kinds_at, entry_rule, entries_rule, location_of, outline, needs_turn, after_front}
+use Rattle.rv_invariant.specs.declared.outlines.{Kinds.Kinds, Outline.Outline}
+use Rattle.rv_invariant.specs.declared.outlines.Kinds.TheVariants as kinds
 use Rattle.rv_invariant.specs.Certificates.{location_rule, locations_rule, first_record, last_record, bits_rule, columns_rule, head_rule, all_locations}
-use Rattle.rv_invariant.specs.Certificates.{certificate_records, certificate_rule, BeginsCertificate}
+use Rattle.rv_invariant.specs.Certificates.{certificate_rule, BeginsCertificate}
 use Rattle.rv_invariant.specs.Naming.{bit_text, bit_texts, column_text, column_texts}
 use Rattle.rv_invariant.specs.{declared.counts.Shape.Shape, declared.fronts.Front.Front, declared.fronts.Lists.Lists, Continues.Known, Continues.Then}
 use Rattle.rv_invariant.specs.{Shapes.shape}
 use Rattle.rv_invariant.proofs.Documented.{bit-plain, column-plain, each-plain}
 use Rattle.rv_invariant.proofs.Going.{entries-none, entries-suc, locations-none, locations-suc}
 use Rattle.rv_invariant.proofs.Grouping.{all-right, two, three}
+use Rattle.rv_invariant.proofs.Seconds.{second_next, second-waits}
 use Rattle.rv_invariant.proofs.{Choices.form-left, Choices.form-right, Fitting.documents-fit, Fitting.documents-written, Knowing.front-fits}
 use Rattle.rv_invariant.proofs.{Located.document-exists}
 use Rattle.rv_invariant.proofs.{Ranging.KeptRow, Spelling.below-right, Standing.by-kind, Standing.row-right}
@@ -184,25 +188,46 @@ module _ (s : Shape) where
   -- ---- What stands before the entries.
   alive-rows : (low high : ℕ) → low ≤ high → high < 2 ^ 64 → IsAlive (row_lists s.memories low high)
   alive-rows low high l h =
-      let k3 : List Row → List Row → Rule Lists = λ entry state. done (record { entry = entry; state = state }) in
-      let k2 : List Row → ℕ → Rule Lists = λ entry b. bind (a_list s.memories (codes "state") 0 1024) (k3 entry) in
-      let k1 : List Row → ℕ → Rule Lists = λ entry a. bind (counts (codes "around") 0 0) (k2 entry) in
+      let last : List Row → List Row → List Row → List Row → Rule Lists = λ entry first around state. done
+      (record { entry = entry; first = first; around = around; state = state }) in
+      let few = λ (word : List ℕ) (p : is_plain_text word ≡ true). alive-list s.memories word 0 1024 p (omega arith) (omega arith) in
       alive-bind (a_list s.memories (codes "entry") low high) (after_entry s.memories) (alive-list s.memories (codes "entry") low high refl l h)
-      (λ entry. alive-bind (counts (codes "first") 0 0) (k1 entry) (alive-counts (codes "first") 0 0 refl (omega arith) (omega arith))
-      (λ a. alive-bind (counts (codes "around") 0 0) (k2 entry) (alive-counts (codes "around") 0 0 refl (omega arith) (omega arith))
-      (λ b. alive-bind (a_list s.memories (codes "state") 0 1024) (k3 entry)
-      (alive-list s.memories (codes "state") 0 1024 refl (omega arith) (omega arith)) (λ state. tt))))
+      (λ entry. alive-bind (a_list s.memories (codes "first") 0 1024) (after_first s.memories entry) (few (codes "first") refl)
+      (λ first. alive-bind (a_list s.memories (codes "around") 0 1024) (after_around s.memories entry first) (few (codes "around") refl)
+      (λ around. alive-bind (a_list s.memories (codes "state") 0 1024)
+      (last entry first around) (few (codes "state") refl) (λ state. tt))))
+
+  -- the second list of proofs, and the count
+  alive-count : (control : Frozen) (lists : Lists) (by_entry : List Multipliers) (least : ℕ) (by_first : List Multipliers) → least ≤ 1
+      → IsAlive (count_rule control lists by_entry least by_first)
+  alive-count control lists by_entry least by_first l =
+      let k1 : ℕ → Rule Front = λ n. done (record { control = control; lists = lists; by_entry = by_entry; by_first = by_first; cases = n }) in
+      alive-bind (counts (codes "cases") least 4294967295) k1
+      (alive-counts (codes "cases") least 4294967295 refl (omega (arith, l)) (omega arith)) (λ n. tt)
+
+  alive-second : (control : Frozen) (lists : Lists) (by_entry : List Multipliers) (n : ℕ) → IsAlive (second_rule control lists by_entry n)
+  alive-second control lists by_entry n =
+      alive-bind (times n (a_proof (2 ^ 30) (length lists.first))) (count_rule control lists by_entry 1)
+      (alive-times n (a_proof (2 ^ 30) (length lists.first)) (alive-proof (2 ^ 30) (length lists.first) (omega arith)))
+      (λ by_first. alive-count control lists by_entry 1 by_first (omega arith))
+
+  alive-or : (control : Frozen) (lists : Lists) (by_entry : List Multipliers) (n : ℕ) → IsAlive (second_or control lists by_entry n)
+  alive-or control lists by_entry zero = alive-count control lists by_entry 0 [] (omega arith)
+  alive-or control lists by_entry (suc n) =
+      subst (λ q. IsAlive (either q (count_rule control lists by_entry 0 []))) (sym (second-waits control lists by_entry n))
+      (alive-either (by_form (2 ^ 30) (length lists.first) ∷ []) (second_next control lists by_entry n) (count_rule control lists by_entry 0 [])
+      (subst IsAlive (second-waits control lists by_entry n) (alive-second control lists by_entry (suc n)))
+      (alive-count control lists by_entry 0 [] (omega arith)))
 
   alive-front : (low high : ℕ) → low ≤ high → high < 2 ^ 64 → IsAlive (front_rule s low high)
   alive-front low high l h =
-      let front : Frozen → Lists → List Multipliers → ℕ → Rule Front = λ control lists by_entry n.
-      done (record { control = control; lists = lists; by_entry = by_entry; cases = n }) in
       alive-bind (a_diagram s (codes "control") true) (after_control s low high) (alive-diagram s (codes "control") true refl)
       (λ control. alive-bind (row_lists s.memories low high) (after_lists control) (alive-rows low high l h)
       (λ lists. alive-bind (times (length lists.state) (a_proof (2 ^ 30) (length lists.entry))) (after_proofs control lists)
       (alive-times (length lists.state) (a_proof (2 ^ 30) (length lists.entry)) (alive-proof (2 ^ 30) (length lists.entry) (omega arith)))
-      (λ by_entry. alive-bind (counts (codes "cases") 0 4294967295) (front control lists by_entry)
-      (alive-counts (codes "cases") 0 4294967295 refl (omega arith) (omega arith)) (λ n. tt))))
+      (λ by_entry. alive-cond (has_turned lists) (second_rule control lists by_entry (length lists.state))
+      (second_or control lists by_entry (length lists.state))
+      (alive-second control lists by_entry (length lists.state)) (alive-or control lists by_entry (length lists.state)))))
 
   -- ---- Entries.
   alive-reach : (premises target : ℕ) (o : Option ℕ) (next : Then (List Multipliers)) (known : Known) → AreFew known → LivesOn next
@@ -229,22 +254,47 @@ module _ (s : Shape) where
       (λ when. alive-bind (a_proof 1 (state + s.tests)) (λ by. next (dead_entry when by) known) (alive-proof 1 (state + s.tests) (omega arith))
       (λ by. on (dead_entry when by) known few))
 
-  alive-entry : (locations state : ℕ) (next : Then Entry) (known : Known) → AreFew known → LivesOn next
-      → IsAlive (entry_rule s locations state next known)
-  alive-entry locations state next known few on = (
+  alive-plain : (locations state : ℕ) (next : Then Entry) (known : Known) → AreFew known → LivesOn next
+      → IsAlive (plain_rule s locations state next known)
+  alive-plain locations state next known few on = (
     (codes "dead" ∷ [], refl),
     λ r e. alive-cond (bytes_eq (word_of r) (codes "go")) (go_rule s state (natural (field r 1)) next known) (dead_rule s state next known)
         (alive-go state (natural (field r 1)) next known few on) (alive-dead state next known few on),
   )
 
-  alive-entries : (locations state n : ℕ) (before : List Entry) (next : Then (List Entry)) (known : Known) → AreFew known → LivesOn next
-      → IsAlive (entries_rule s locations state n before next known)
-  alive-entries locations state zero before next known few on =
-      subst IsAlive (sym (entries-none s locations state before next known)) (on before known few)
-  alive-entries locations state (suc n) before next known few on =
-      subst IsAlive (sym (entries-suc s locations state n before next known))
-      (alive-entry locations state (λ e. entries_rule s locations state n (before ++ e ∷ []) next) known few
-      (λ e later f. alive-entries locations state n (before ++ e ∷ []) next later f on))
+  alive-part : (rows n : ℕ) → IsAlive (a_part s rows n)
+  alive-part rows n = alive-times n (a_proof (2 ^ 30) (rows + s.tests)) (alive-proof (2 ^ 30) (rows + s.tests) (omega arith))
+
+  alive-whole : (o : Outline) → IsAlive (whole_turn s o)
+  alive-whole o =
+      alive-bind (exactly (codes "loop" ∷ [])) (λ u. turn_rule s o) (alive-exactly (codes "loop" ∷ []) refl)
+      (λ u. alive-bind (a_diagram s (codes "when") false) (after_when s o) (alive-diagram s (codes "when") false refl)
+      (λ when. alive-bind (a_part s o.entry o.first) (after_one s o when) (alive-part o.entry o.first)
+      (λ first. alive-bind (a_part s o.first o.around) (after_second s o when first) (alive-part o.first o.around)
+      (λ before. alive-bind (a_part s (o.around + o.state) o.around) (after_third s o when first before) (alive-part (o.around + o.state) o.around)
+      (λ around. alive-bind (a_part s (o.around + o.state) o.state) (λ state. done (turn_entry when first before around state))
+      (alive-part (o.around + o.state) o.state) (λ state. tt))))))
+
+  alive-turn : (o : Outline) (next : Then Entry) (known : Known) → AreFew known → LivesOn next → IsAlive (turn_then s o next known)
+  alive-turn o next known few on = alive-bind (whole_turn s o) (λ e. next e known) (alive-whole o) (λ e. on e known few)
+
+  alive-entry : (locations : ℕ) (o : Outline) (k : Kinds) (next : Then Entry) (known : Known) → AreFew known → LivesOn next
+      → IsAlive (entry_rule s locations o k next known)
+  alive-entry locations o kinds.Plain next known few on = alive-plain locations o.state next known few on
+  alive-entry locations o kinds.Any next known few on =
+      alive-either (fixed (codes "loop" ∷ []) ∷ []) (λ r. bind (turn_rule s o) (λ e. next e known)) (plain_rule s locations o.state next known)
+      (alive-turn o next known few on) (alive-plain locations o.state next known few on)
+  alive-entry locations o kinds.Turn next known few on = alive-turn o next known few on
+
+  alive-entries : (locations : ℕ) (o : Outline) (needed : Bool) (n : ℕ) (before : List Entry) (next : Then (List Entry)) (known : Known) → AreFew known
+      → LivesOn next
+      → IsAlive (entries_rule s locations o needed n before next known)
+  alive-entries locations o needed zero before next known few on =
+      subst IsAlive (sym (entries-none s locations o needed before next known)) (on before known few)
+  alive-entries locations o needed (suc n) before next known few on =
+      subst IsAlive (sym (entries-suc s locations o needed n before next known))
+      (alive-entry locations o (kinds_at o.turns needed n) (λ e. entries_rule s locations o (needed && not (is_turn e)) n (before ++ e ∷ []) next) known few
+      (λ e later f. alive-entries locations o (needed && not (is_turn e)) n (before ++ e ∷ []) next later f on))
 
   -- ---- Locations.
   alive-location : (locations i : ℕ) (next : Then Location) (known : Known) → AreFew known → LivesOn next
@@ -256,7 +306,7 @@ module _ (s : Shape) where
       alive-after-part (front_rule s low high) (after_front s locations i next known)
       (alive-front low high (low-high (known_at known i)) (omega (arith, small)))
       (λ front rs spelled. let fits = front-fits s low high front rs spelled in let most = fits.greatest in
-      alive-entries locations (length front.lists.state) front.cases [] (λ entries. next (location_of front entries))
+      alive-entries locations (outline front) (needs_turn front) front.cases [] (λ entries. next (location_of front entries))
       (learn known i (length front.lists.entry)) (learn-few known i (length front.lists.entry) (omega (arith, most, small)) few)
       (λ entries later f. on (location_of front entries) later f))
 

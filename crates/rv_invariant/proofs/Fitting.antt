@@ -1,16 +1,17 @@
 -- A certificate that has a document has the counts and ranges of one.
 use Rattle.std.proofs.Common.{◌++◌, ◌≡◌, ◌+◌, ◌*◌, ◌/◌, ◌%◌, ◌^◌, ◌<◌, ◌≤◌, ℕ, zero, suc, Bool, true, false, List, [], ◌∷◌, length, get_or, refl, sym, ap, ◌∙◌}
 use Rattle.std.proofs.Common.{subst, arith}
-use Rattle.std.proofs.lemmas.Bool.{eqb-true, leb-true, ltb-true, ltb-false}
-use Rattle.std.proofs.{lemmas.List.length-replicate, lemmas.List.get_or-replicate, lemmas.List.get_or_past, lemmas.Option.slice_get-get_or}
-use Rattle.std.specs.Prelude.{flat_map, decimal, ◌||◌, nat_eq, nat_le, nat_lt, pos, Option, Some, None, slice_get, replicate, codes}
+use Rattle.std.proofs.lemmas.Bool.{eqb-true, leb-true, ltb-true, ltb-false, false_from_ne_true}
+use Rattle.std.proofs.{lemmas.List.length-append, lemmas.List.length-replicate, lemmas.List.get_or-replicate, lemmas.List.get_or_past}
+use Rattle.std.proofs.{lemmas.Option.slice_get-get_or}
+use Rattle.std.specs.Prelude.{flat_map, decimal, ◌||◌, nat_eq, nat_le, nat_lt, ℤ, pos, Option, Some, None, slice_get, replicate, codes}
 use Rattle.std.specs.List.{All, AllByRecursion}
 use Rattle.rv_diagram.specs.{Nodes.node_at, declared.frozen.Frozen.Frozen}
 use Rattle.rv_rows.specs.{declared.linear.Row.Row, declared.farkas.Multipliers.Multipliers}
 use Rattle.rv_flat.specs.declared.flat.Flat.{Flat}
 use Rattle.rv_control.specs.Control.{control_of}
-use Rattle.rv_proofs.specs.Scopes.{Implication, refutation, after, each, implications, rows_into}
-use Rattle.rv_proofs.specs.Counts.{IsLoopKind, HasLoop, HasKindCounts, HasLocationCounts, HasFree}
+use Rattle.rv_proofs.specs.Scopes.{Implication, Wanted, refutation, before, after, each, implications, rows_into}
+use Rattle.rv_proofs.specs.Counts.{HasLoop, HasKindCounts, HasLocationCounts, HasFree}
 use Rattle.rv_proofs.specs.Ranges.{AreKept, IsRecord, HasDivisor, IsControlSet, IsCondition, IsLocationInRange}
 use Rattle.rv_proofs.specs.declared.certificate.EntryKind.TheVariants.{Dead, Go, Loop}
 use Rattle.rv_proofs.specs.{Systems.System, Systems.IsState, declared.certificate.Certificate.Certificate, declared.certificate.Location.Location}
@@ -18,10 +19,11 @@ use Rattle.rv_proofs.specs.{declared.certificate.Entry.Entry, declared.certifica
 use Rattle.rv_invfile.specs.{Rules.Fields, Rules.IsDocument, Parts.bind, Forms.exactly, Forms.names, Forms.counts, Spells.Spells}
 use Rattle.rv_invfile.proofs.Spelled.{document-spells, bind-parts}
 use Rattle.rv_invfile.proofs.Written.{counts-written, exactly-written, names-written, lists-written, number-is}
-use Rattle.rv_invariant.specs.Certificates.{first_record, last_record, location_records, certificate_records, IsPlainLocation, FitsCertificate, bits_rule}
+use Rattle.rv_invariant.specs.Certificates.{first_record, last_record, location_records, certificate_records, IsHeldLocation, FitsCertificate, bits_rule}
 use Rattle.rv_invariant.specs.Certificates.{columns_rule, head_rule, all_locations, certificate_rule}
 use Rattle.rv_invariant.specs.{Continues.Known, Shapes.shape, Shapes.shape_of, Shapes.is_state, Naming.bit_texts, Naming.column_texts}
-use Rattle.rv_invariant.proofs.Knowing.{KindFits, EntryFits, LocationFits, AllLocated, Sound, all-located, all-map}
+use Rattle.rv_invariant.proofs.Knowing.{KindFits, TurnFits, EntryFits, LocationFits, AllLocated, Sound, outline_of, all-located, all-map}
+use Rattle.rv_invariant.proofs.Turning.{has_turn, has-turn, has-loop, all-joined}
 use Rattle.rv_invariant.proofs.{Ranging.SetFits, Ranging.KeptRow, Ranging.ProofFits, Ranging.is-record, Spelling.all-of}
 use Rattle.rv_base.proofs.Truths.{both_of}
 
@@ -33,43 +35,36 @@ all-at P (y ∷ ys) zero x h e = subst P (same y x e) h.0
     same a b e = cc
 all-at P (y ∷ ys) (suc j) x h e = all-at P ys j x h.1 e
 
--- ---- No entry is a turn of a loop, and each `go` has as many multipliers as its target has entry rows.
+-- ---- Each list of multipliers has as many as there are rows to prove.
 module _ (s : System) (locations : ℕ) (c : Certificate) (a : AllLocated (shape_of s) locations c) where
-  no-turn : (state : ℕ) (k : EntryKind) → KindFits (shape_of s) locations state a.known k → IsLoopKind k → ⊥
-  no-turn state (Loop first before around rest) h x = h
-  no-turn state _ h x = x
-
-  kind-counts : (l : Location) (k : EntryKind) → KindFits (shape_of s) locations (length l.state) a.known k → HasKindCounts c l k
+  kind-counts : (l : Location) (k : EntryKind) → KindFits (shape_of s) locations (outline_of l) a.known k → HasKindCounts c l k
   kind-counts l (Dead by) h = tt
   kind-counts l (Go target reach) h =
       let size = a.size in
       let there = slice_get-get_or c.locations target l (omega (arith, h.0, size)) in
       let into = a.fits target (get_or c.locations target l) there in
       (get_or c.locations target l, there, number-is (length reach) (length (get_or c.locations target l).entry) (sym h.1 ∙ into.told))
-  kind-counts l (Loop first before around rest) h = absurd h
+  kind-counts l (Loop first before_all around state) h = (h.first_size, h.before_size, h.around_size, h.state_size)
 
   module _ (k : ℕ) (l : Location) (fits : LocationFits (shape_of s) locations a.known k l) where
-    entry-at : (j : ℕ) (e : Entry) → slice_get l.entries j ≡ Some e → EntryFits (shape_of s) locations (length l.state) a.known e
-    entry-at j e h = all-at (EntryFits (shape_of s) locations (length l.state) a.known) l.entries j e fits.entries h
+    entry-at : (j : ℕ) (e : Entry) → slice_get l.entries j ≡ Some e → EntryFits (shape_of s) locations (outline_of l) a.known e
+    entry-at j e h = all-at (EntryFits (shape_of s) locations (outline_of l) a.known) l.entries j e fits.entries h
 
-    no-loop : HasLoop l → ⊥
-    no-loop p = no-turn (length l.state) p.1.kind (entry-at p.0 p.1 p.2).kind p.3
+    no-turn : ¬ HasLoop l → has_turn l.entries ≡ false
+    no-turn n = false_from_ne_true (has_turn l.entries) (λ e. n (has-loop l e))
 
     location-counts : HasLocationCounts c l
     location-counts = record {
       by_entry = fits.counted;
-      by_first = record { some = λ h. absurd (no-loop h); none = λ n. fits.no_by_first };
+      by_first = record { some = λ h. fits.turned (has-turn l h); none = λ n. (fits.unturned (no-turn n)).2 };
       entries = λ j e h. kind-counts l e.kind (entry-at j e h).kind;
     }
 
-    plain : IsPlainLocation l
-    plain = record {
-      no_loop = no-loop;
-      no_first = fits.no_first;
-      no_around = fits.no_around;
-      control = fits.control.held;
-      conditions = λ j e h. (entry-at j e h).condition.held;
-    }
+    free : ¬ HasLoop l → (l.first ≡ []) × (l.around ≡ [])
+    free n = let u = fits.unturned (no-turn n) in (u.0, u.1)
+
+    held : IsHeldLocation l
+    held = record { control = fits.control.held; conditions = λ j e h. (entry-at j e h).condition.held }
 
 -- ---- What diagrams read.
 module _ (s : System) where
@@ -104,39 +99,64 @@ module _ (s : System) where
       let one : h.divisor ≡ 1 = omega (arith, low, high) in
       (is-record 1 (length given + s.tests) m (omega arith) h, h.divides ∙ ap pos one)
 
-  each-proved : (given rows : List Row) (ms : List Multipliers) → AllByRecursion (ProofFits (2 ^ 30) (length given + s.tests)) ms
-      → AllByRecursion Proved (each after given rows ms)
-  each-proved given [] ms h = tt
-  each-proved given (r ∷ rs) [] h = tt
-  each-proved given (r ∷ rs) (m ∷ ms) h = ((is-record (2 ^ 30) (length given + s.tests) m (omega arith) h.0, tt), each-proved given rs ms h.1)
+  -- what is wanted of a row leaves the divisor free
+  abbrev IsFree : (Row → Wanted) → Type 0
+  IsFree want = (r : Row) (d : ℤ) → HasDivisor (want r) d
+
+  each-proved : (want : Row → Wanted) (free : IsFree want) (given rows : List Row) (ms : List Multipliers)
+      → AllByRecursion (ProofFits (2 ^ 30) (length given + s.tests)) ms
+      → AllByRecursion Proved (each want given rows ms)
+  each-proved want free given [] ms h = tt
+  each-proved want free given (r ∷ rs) [] h = tt
+  each-proved want free given (r ∷ rs) (m ∷ ms) h = (
+    (is-record (2 ^ 30) (length given + s.tests) m (omega arith) h.0, free r m.divisor),
+    each-proved want free given rs ms h.1,
+  )
+
+  turn-proved : (l : Location) (first before_all around state : List Multipliers)
+      → TurnFits (shape_of s) (outline_of l) first before_all around state
+      → AllByRecursion Proved (each after l.entry l.first first ++ (each before l.first l.around before_all
+      ++ (each after (l.around ++ l.state) l.around around ++ each after (l.around ++ l.state) l.state state)))
+  turn-proved l first before_all around state h =
+      let after_free : IsFree after = λ r d. tt in
+      let before_free : IsFree before = λ r d. tt in
+      let size : length l.around + length l.state ≡ length (l.around ++ l.state) = sym (length-append l.around l.state) in
+      let inner = λ (ms : List Multipliers). λ (f : AllByRecursion (ProofFits (2 ^ 30) (length l.around + length l.state + s.tests)) ms).
+      subst (λ n. AllByRecursion (ProofFits (2 ^ 30) (n + s.tests)) ms) size f in
+      all-joined Proved (each after l.entry l.first first) (each before l.first l.around before_all
+      ++ (each after (l.around ++ l.state) l.around around ++ each after (l.around ++ l.state) l.state state))
+      (each-proved after after_free l.entry l.first first h.first_fit)
+      (all-joined Proved (each before l.first l.around before_all)
+      (each after (l.around ++ l.state) l.around around ++ each after (l.around ++ l.state) l.state state)
+      (each-proved before before_free l.first l.around before_all h.before_fit)
+      (all-joined Proved (each after (l.around ++ l.state) l.around around) (each after (l.around ++ l.state) l.state state)
+      (each-proved after after_free (l.around ++ l.state) l.around around (inner around h.around_fit))
+      (each-proved after after_free (l.around ++ l.state) l.state state (inner state h.state_fit))))
 
   kind-proved : (locations : ℕ) (known : Known) (c : Certificate) (l : Location) (k : EntryKind)
-      → KindFits (shape_of s) locations (length l.state) known k → AllByRecursion Proved (implications c l k)
+      → KindFits (shape_of s) locations (outline_of l) known k → AllByRecursion Proved (implications c l k)
   kind-proved locations known c l (Dead by) h = (refuted l.state by h, tt)
-  kind-proved locations known c l (Go target reach) h = each-proved l.state (rows_into (slice_get c.locations target)) reach h.2
-  kind-proved locations known c l (Loop first before around rest) h = absurd h
+  kind-proved locations known c l (Go target reach) h = each-proved after (λ r d. tt) l.state (rows_into (slice_get c.locations target)) reach h.2
+  kind-proved locations known c l (Loop first before_all around state) h = turn-proved l first before_all around state h
 
   kept : (rows : List Row) → length rows ≤ 1024 → AllByRecursion (KeptRow s.memories) rows → AreKept s rows
   kept rows few h = (all-of (KeptRow s.memories) rows h, few)
 
-  none-kept : (rows : List Row) → rows ≡ [] → AreKept s rows
-  none-kept rows e = subst (AreKept s) (sym e) (kept [] (omega arith) tt)
-
-  none-recorded : (premises : ℕ) (ms : List Multipliers) → ms ≡ [] → All (IsRecord premises) ms
-  none-recorded premises ms e = subst (All (IsRecord premises)) (sym e) (all-of (IsRecord premises) [] tt)
+  recorded : (premises : ℕ) (ms : List Multipliers) → AllByRecursion (ProofFits (2 ^ 30) premises) ms → All (IsRecord premises) ms
+  recorded premises ms h =
+      all-of (IsRecord premises) ms
+      (all-map (ProofFits (2 ^ 30) premises) (IsRecord premises) (λ m f. is-record (2 ^ 30) premises m (omega arith) f) ms h)
 
   location-range : (locations : ℕ) (c : Certificate) (a : AllLocated (shape_of s) locations c) (k : ℕ) (l : Location)
       → LocationFits (shape_of s) locations a.known k l → IsLocationInRange s c l
   location-range locations c a k l fits = record {
     control = control-set l.control fits.control;
-    entry = kept l.entry fits.few_entry fits.entry;
-    first = none-kept l.first fits.no_first;
-    around = none-kept l.around fits.no_around;
-    state = kept l.state fits.few_state fits.state;
-    by_entry = all-of (IsRecord (length l.entry)) l.by_entry
-        (all-map (ProofFits (2 ^ 30) (length l.entry)) (IsRecord (length l.entry))
-        (λ m h. is-record (2 ^ 30) (length l.entry) m (omega arith) h) l.by_entry fits.by_entry);
-    by_first = none-recorded (length l.first) l.by_first fits.no_by_first;
+    entry = kept l.entry fits.few_entry fits.rows.entry;
+    first = kept l.first fits.rows.few_first fits.rows.first;
+    around = kept l.around fits.rows.few_around fits.rows.around;
+    state = kept l.state fits.rows.few_state fits.rows.state;
+    by_entry = recorded (length l.entry) l.by_entry fits.by_entry;
+    by_first = recorded (length l.first) l.by_first fits.by_first;
     few = fits.few;
     entries = λ j e h. let x = entry-at s locations c a k l fits j e h in record {
       condition = condition-set e.condition x.condition;
@@ -191,11 +211,12 @@ documents-fit f rs c d =
         few = omega (arith, few, size);
         locations = λ k l e. location-range (control_of f) x.value c a k l (a.fits k l e);
       };
-      plain = λ k l e. plain (control_of f) x.value c a k l (a.fits k l e);
+      free = λ k l e. free (control_of f) x.value c a k l (a.fits k l e);
+      held = λ k l e. held (control_of f) x.value c a k l (a.fits k l e);
     }
 
 pub documents-free : (f : Flat) (rs : List Fields) (c : Certificate) → IsDocument (certificate_rule f) rs c → HasFree c
-documents-free f rs c d k l e none = let p = (documents-fit f rs c d).plain k l e in (p.no_first, p.no_around)
+documents-free f rs c d = (documents-fit f rs c d).free
 
 -- ---- The records of a document.
 head-written : (f : Flat) (n : ℕ) (rs : List Fields) → Spells (head_rule f) n rs

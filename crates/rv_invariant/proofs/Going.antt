@@ -1,42 +1,49 @@
 -- Entries and locations, one after the other.
 use Rattle.std.proofs.Common.{◌≡◌, ◌+◌, ◌-◌, ℕ, zero, suc, Bool, true, false, cond, List, [], ◌∷◌, ◌++◌, length, refl, sym, ap, ◌∙◌, arith}
 use Rattle.std.proofs.lemmas.Bool.{false_from_ne_true}
-use Rattle.std.specs.Prelude.{◌&&◌, ◌≤◌, Option, Some, None, Ok, Err, replicate, codes, nat_eq, slice_get, ⊤}
+use Rattle.std.specs.Prelude.{◌&&◌, ◌≤◌, not, Option, Some, None, Ok, Err, replicate, codes, nat_eq, slice_get, ⊤}
 use Rattle.std.specs.Str.{bytes_eq}
 use Rattle.rv_proofs.specs.{declared.certificate.Certificate.Certificate, declared.certificate.Entry.Entry, declared.certificate.Location.Location}
 use Rattle.rv_diagram.specs.declared.frozen.Frozen.{Frozen}
 use Rattle.rv_invfile.specs.{declared.fault.FileFault.FileFault, Rules.Fields, Rules.Form, Rules.Rule, Rules.done, Rules.await, Rules.fault_in, Rules.fault_by}
 use Rattle.rv_invfile.specs.{Rules.is_plain, Readers.Ahead, Readers.◌>>=◌, Readers.Reading, Readers.Reads, Readers.judged, Readers.run, Readers.take_in}
 use Rattle.rv_invfile.specs.{Ahead.first, Ahead.here, Forms.field, Forms.fixed, Forms.word_of, Forms.exactly, Texts.natural, Texts.same_fields, Parts.bind}
+use Rattle.rv_invfile.specs.Parts.{sees}
 use Rattle.rv_invfile.specs.declared.fault.Why.TheVariants as why
 use Rattle.rv_invfile.proofs.{Decimals.bytes-same, Bound.bind_ok}
 use Rattle.rv_invariant.specs.Continues.{Known, Then, Waits, AllWait}
-use Rattle.rv_invariant.specs.Certificates.{a_target, reach_rule, known_at, go_entry, dead_entry, entries_rule, entry_rule, entry_forms, going, go_rule}
-use Rattle.rv_invariant.specs.Certificates.{dead_rule, whole_go, whole_dead, location_rule, locations_rule, last_record}
-use Rattle.rv_invariant.specs.{declared.counts.Shape.Shape, Pieces.a_diagram, Pieces.a_proof}
-use Rattle.rv_invariant.proofs.Choices.{chain-ok, chain-stops, then-here}
+use Rattle.rv_invariant.specs.Certificates.{a_target, reach_rule, known_at, go_entry, dead_entry, entries_rule, entry_rule, plain_forms, plain_rule, going}
+use Rattle.rv_invariant.specs.Certificates.{go_rule, dead_rule, whole_go, whole_dead, turn_rule, turn_then, is_turn, kinds_at}
+use Rattle.rv_invariant.specs.Certificates.{location_rule, locations_rule, last_record}
+use Rattle.rv_invariant.specs.declared.outlines.{Kinds.Kinds, Outline.Outline}
+use Rattle.rv_invariant.specs.declared.outlines.Kinds.TheVariants as kinds
+use Rattle.rv_invariant.specs.{declared.counts.Shape.Shape, Outlines.takes_turn, Pieces.a_diagram, Pieces.a_proof}
+use Rattle.rv_invariant.proofs.Choices.{chain-ok, chain-stops, then-here, run_either}
 use Rattle.rv_base.proofs.Truths.{and_first}
 
-module _ (s : Shape) (n state : ℕ) where
-  pub entries-none : (before : List Entry) (next : Then (List Entry)) (known : Known) → entries_rule s n state zero before next known ≡ next before known
+module _ (s : Shape) (n : ℕ) (o : Outline) where
+  pub entries-none : (needed : Bool) (before : List Entry) (next : Then (List Entry)) (known : Known)
+      → entries_rule s n o needed zero before next known ≡ next before known
   unfolding entries_rule
-  entries-none before next known = refl
+  entries-none needed before next known = refl
 
-  pub entries-suc : (k : ℕ) (before : List Entry) (next : Then (List Entry)) (known : Known)
-      → entries_rule s n state (suc k) before next known ≡ entry_rule s n state (λ e. entries_rule s n state k (before ++ e ∷ []) next) known
+  pub entries-suc : (needed : Bool) (k : ℕ) (before : List Entry) (next : Then (List Entry)) (known : Known)
+      → entries_rule s n o needed (suc k) before next known
+      ≡ entry_rule s n o (kinds_at o.turns needed k) (λ e. entries_rule s n o (needed && not (is_turn e)) k (before ++ e ∷ []) next) known
   unfolding entries_rule
-  entries-suc k before next known = refl
+  entries-suc needed k before next known = refl
 
-  pub entries-wait : (k : ℕ) (before : List Entry) (next : Then (List Entry)) (known : Known) → AllWait next
-      → Waits (entries_rule s n state k before next known)
+  entry-waits : (k : Kinds) (next : Then Entry) (known : Known) → Waits (entry_rule s n o k next known)
+  entry-waits kinds.Plain next known = (_, _, refl)
+  entry-waits kinds.Any next known = (_, _, refl)
+  entry-waits kinds.Turn next known = (_, _, refl)
+
+  pub entries-wait : (needed : Bool) (k : ℕ) (before : List Entry) (next : Then (List Entry)) (known : Known) → AllWait next
+      → Waits (entries_rule s n o needed k before next known)
   unfolding entries_rule
-  entries-wait zero before next known w = w before known
-  entries-wait (suc k) before next known w = (
-    entry_forms n,
-    λ r. cond (bytes_eq (word_of r) (codes "go")) (go_rule s state (natural (field r 1))
-        (λ e. entries_rule s n state k (before ++ e ∷ []) next) known) (dead_rule s state (λ e. entries_rule s n state k (before ++ e ∷ []) next) known),
-    refl,
-  )
+  entries-wait needed zero before next known w = w before known
+  entries-wait needed (suc k) before next known w =
+      entry-waits (kinds_at o.turns needed k) (λ e. entries_rule s n o (needed && not (is_turn e)) k (before ++ e ∷ []) next) known
 
 module _ (s : Shape) (n : ℕ) where
   pub locations-none : (before : List Location) (known : Known) → locations_rule s n zero before known ≡ bind (exactly last_record)
@@ -97,14 +104,14 @@ not-dead (x ∷ r) h = false_from_ne_true (same_fields (x ∷ r) (codes "dead" �
 pub go-form : (n : ℕ) (b d : Bool) (f g : Form) → d ≡ false → cond b (Some f) (cond d (Some g) None) ≡ cond b (Some f) None
 go-form n b d f g e = ap (λ x. cond b (Some f) (cond x (Some g) None)) e
 
-go-in : (n k : ℕ) (rs : List Fields) → bytes_eq (word_of (first rs)) (codes "go") ≡ true → take_in (entry_forms n) k rs ≡ take_in (going n ∷ []) k rs
+go-in : (n k : ℕ) (rs : List Fields) → bytes_eq (word_of (first rs)) (codes "go") ≡ true → take_in (plain_forms n) k rs ≡ take_in (going n ∷ []) k rs
 go-in n k [] h = refl
 go-in n k (r ∷ rs) h =
     ap (λ o. judged (cond (is_plain r) (fault_by o r) (Some why.NotRecords)) k r rs)
     (go-form n ((going n).is_kind r) (same_fields r (codes "dead" ∷ [])) (going n) (fixed (codes "dead" ∷ [])) (not-dead r h))
 
 dead-in : (n k : ℕ) (rs : List Fields) → bytes_eq (word_of (first rs)) (codes "go") ≡ false
-    → take_in (entry_forms n) k rs ≡ take_in (fixed (codes "dead" ∷ []) ∷ []) k rs
+    → take_in (plain_forms n) k rs ≡ take_in (fixed (codes "dead" ∷ []) ∷ []) k rs
 dead-in n k [] h = refl
 dead-in n k (r ∷ rs) h =
     ap (λ b. judged (cond (is_plain r) (fault_by (cond (b && nat_eq (length r) 2) (Some (going n))
@@ -120,17 +127,38 @@ module _ (s : Shape) (n state : ℕ) (next : Then Entry) (known : Known) (a : Ah
   abbrev next_entry : Fields → Rule Certificate
   next_entry r = cond (bytes_eq (word_of r) (codes "go")) (go_rule s state (natural (field r 1)) next known) (dead_rule s state next known)
 
-  pub entry-go : bytes_eq (word_of (here a)) (codes "go") ≡ true → run (entry_rule s n state next known) a ≡ run (whole_go s n state next known) a
-  entry-go h =
-      then-taken (entry_forms n) a.taken a.rest next_entry (λ r. go_rule s state (natural (field r 1)) next known)
+  pub plain-go : bytes_eq (word_of (here a)) (codes "go") ≡ true → run (plain_rule s n state next known) a ≡ run (whole_go s n state next known) a
+  plain-go h =
+      then-taken (plain_forms n) a.taken a.rest next_entry (λ r. go_rule s state (natural (field r 1)) next known)
       (ap (λ b. cond b (go_rule s state (natural (field (here a) 1)) next known) (dead_rule s state next known)) h)
       ∙ ap (λ x. x >>= λ y. run (go_rule s state (natural (field y.0 1)) next known) y.1) (go-in n a.taken a.rest h)
 
-  pub entry-dead : bytes_eq (word_of (here a)) (codes "go") ≡ false → run (entry_rule s n state next known) a ≡ run (whole_dead s state next known) a
-  entry-dead h =
-      then-taken (entry_forms n) a.taken a.rest next_entry (λ r. dead_rule s state next known)
+  pub plain-dead : bytes_eq (word_of (here a)) (codes "go") ≡ false → run (plain_rule s n state next known) a ≡ run (whole_dead s state next known) a
+  plain-dead h =
+      then-taken (plain_forms n) a.taken a.rest next_entry (λ r. dead_rule s state next known)
       (ap (λ b. cond b (go_rule s state (natural (field (here a) 1)) next known) (dead_rule s state next known)) h)
       ∙ ap (λ x. x >>= λ y. run (dead_rule s state next known) y.1) (dead-in n a.taken a.rest h)
+
+-- a turn is read where it must stand next, or may and does
+module _ (s : Shape) (n : ℕ) (o : Outline) (next : Then Entry) (known : Known) (a : Ahead) where
+  abbrev next_turn : Fields → Rule Certificate
+  next_turn r = bind (turn_rule s o) (λ e. next e known)
+
+  any-entry : run (entry_rule s n o kinds.Any next known) a
+      ≡ cond (sees (fixed (codes "loop" ∷ []) ∷ []) a) (run (turn_then s o next known) a) (run (plain_rule s n o.state next known) a)
+  any-entry = run_either (fixed (codes "loop" ∷ []) ∷ []) (plain_forms n) next_turn (next_entry s n o.state next known a) a
+
+  pub entry-taken : (k : Kinds) → takes_turn k (sees (fixed (codes "loop" ∷ []) ∷ []) a) ≡ true
+      → run (entry_rule s n o k next known) a ≡ run (turn_then s o next known) a
+  entry-taken kinds.Plain h = cc
+  entry-taken kinds.Any h = any-entry ∙ ap (λ b. cond b (run (turn_then s o next known) a) (run (plain_rule s n o.state next known) a)) h
+  entry-taken kinds.Turn h = refl
+
+  pub entry-plain : (k : Kinds) → takes_turn k (sees (fixed (codes "loop" ∷ []) ∷ []) a) ≡ false
+      → run (entry_rule s n o k next known) a ≡ run (plain_rule s n o.state next known) a
+  entry-plain kinds.Plain h = refl
+  entry-plain kinds.Any h = any-entry ∙ ap (λ b. cond b (run (turn_then s o next known) a) (run (plain_rule s n o.state next known) a)) h
+  entry-plain kinds.Turn h = cc
 
 -- ---- Through the parts of an entry and of a location.
 pub known-is : (known : Known) (i : ℕ) (o : Option ℕ) → slice_get known i ≡ Some o → known_at known i ≡ o

@@ -3,7 +3,7 @@ use Rattle.std.proofs.Common.{◌≡◌, ◌+◌, ◌-◌, ◌*◌, ◌/◌, ◌
 use Rattle.std.proofs.lemmas.Bool.{eqb-true, leb-true, ltb-true, ltb-false, ne_eqb}
 use Rattle.std.specs.{Prelude.◌&&◌, Prelude.◌||◌, Prelude.nat_eq, Prelude.nat_le, Prelude.nat_lt, Prelude.Some, Prelude.None, Prelude.Err, Str.bytes_eq}
 use Rattle.rv_invfile.specs.{Rules.Fields, Rules.Form, Rules.done, Rules.await, Rules.first_bad, Readers.Ahead, Readers.◌>>=◌, Readers.Reading, Readers.Reads}
-use Rattle.rv_invfile.specs.{Readers.run, Readers.file_fault, declared.fault.FileFault.FileFault, Ahead.here, Ahead.first, Ahead.kind_fault, Ahead.ReadsFields}
+use Rattle.rv_invfile.specs.{Readers.run, Readers.file_fault, declared.fault.FileFault.FileFault, Ahead.here, Ahead.kind_fault, Ahead.ReadsFields}
 use Rattle.rv_invfile.specs.{Forms.word_of}
 use Rattle.rv_invfile.specs.declared.fault.Fault.{Fault}
 use Rattle.rv_invfile.specs.declared.fault.Fault.TheVariants as sure

@@ -3,6 +3,8 @@ pub mod Grouping
 pub mod Counting
 pub mod Choices
 pub mod Looping
+pub mod Turning
+pub mod Seconds
 pub mod Going
 pub mod Rowing
 pub mod Spelling

@@ -1,20 +1,20 @@
--- The document of a certificate: how it is written, and by which rule it is read. The documents here are those without turns of
--- loops. Where these come in, `first` and `around` have rows, a second list of multipliers follows that from `entry`, and
--- `loop` stands beside `go` and `dead`; the writing rules have them already.
-use Rattle.std.specs.Prelude.{◌≡◌, ◌+◌, ◌<◌, ◌^◌, ℕ, zero, suc, true, false, cond, nat_eq, List, [], ◌∷◌, ◌++◌, length, map, flat_map, get_or, replicate}
-use Rattle.std.specs.Prelude.{slice_get, slice_set, codes, decimal, Option, Some, None, ⊤}
+-- The document of a certificate: how it is written, and by which rule it is read.
+use Rattle.std.specs.Prelude.{◌≡◌, ◌+◌, ◌<◌, ◌^◌, ◌&&◌, ◌||◌, ℕ, zero, suc, Bool, true, false, not, cond, nat_eq, nat_lt, List, [], ◌∷◌, ◌++◌, length, map}
+use Rattle.std.specs.Prelude.{flat_map, get_or, replicate, slice_get, slice_set, codes, decimal, Option, Some, None, ⊤}
 use Rattle.std.specs.Str.{bytes_eq}
 use Rattle.rv_diagram.specs.{Nodes.node_at, declared.frozen.Frozen.Frozen}
 use Rattle.rv_rows.specs.{declared.linear.Row.Row, declared.farkas.Multipliers.Multipliers}
 use Rattle.rv_proofs.specs.declared.certificate.EntryKind.TheVariants.{Dead, Go, Loop}
-use Rattle.rv_proofs.specs.{Counts.HasLoop, Ranges.IsInRange, declared.certificate.Certificate.Certificate, declared.certificate.Location.Location}
+use Rattle.rv_proofs.specs.{Counts.HasFree, Ranges.IsInRange, declared.certificate.Certificate.Certificate, declared.certificate.Location.Location}
 use Rattle.rv_proofs.specs.{declared.certificate.Entry.Entry, declared.certificate.EntryKind.EntryKind}
 use Rattle.rv_flat.specs.declared.flat.Flat.{Flat}
 use Rattle.rv_control.specs.Control.{control_of}
 use Rattle.rv_invfile.specs.Forms.{field, fixed, is_worded, word_of, exactly, names, lists, counts}
-use Rattle.rv_invfile.specs.{Rules.Fields, Rules.Form, Rules.Rule, Rules.done, Rules.await, Parts.bind, Parts.times, Parts.turns, Texts.natural}
+use Rattle.rv_invfile.specs.{Rules.Fields, Rules.Form, Rules.Rule, Rules.done, Rules.await, Parts.bind, Parts.times, Parts.either, Parts.turns, Texts.natural}
 use Rattle.rv_invariant.specs.Pieces.{a_diagram, a_list, a_proof, is_below, diagram_record, by_record, list_records}
 use Rattle.rv_invariant.specs.{declared.counts.Shape.Shape, declared.fronts.Front.Front, declared.fronts.Lists.Lists, Continues.Known, Continues.Then}
+use Rattle.rv_invariant.specs.{declared.outlines.Outline.Outline, declared.outlines.Kinds.Kinds}
+use Rattle.rv_invariant.specs.declared.outlines.Kinds.TheVariants as kinds
 use Rattle.rv_invariant.specs.{Naming.bit_texts, Naming.column_texts, Shapes.shape}
 
 -- ---- How a certificate is written.
@@ -76,22 +76,17 @@ pub record IsHeld (set : Frozen) : Type 0 where
   pub low : (n : ℕ) → n < length set.nodes → (node_at set.nodes n).lo < 2 ^ 32
   pub high : (n : ℕ) → n < length set.nodes → (node_at set.nodes n).hi < 2 ^ 32
 
--- no turn of a loop, and so no row in `first` and `around`; and each diagram is held
-pub record IsPlainLocation (l : Location) : Type 0 where
-  pub no_loop : ¬ HasLoop l
-  pub no_first : l.first ≡ []
-  pub no_around : l.around ≡ []
+-- each diagram of the location is held
+pub record IsHeldLocation (l : Location) : Type 0 where
   pub control : IsHeld l.control
   pub conditions : (j : ℕ) (e : Entry) → slice_get l.entries j ≡ Some e → IsHeld e.condition
 
--- The certificate has the counts and ranges of a document of the flat system, and no turn of a loop.
+-- The certificate has the counts and ranges of a document of the flat system, and a location without a turn of a loop has empty `first`
+-- and `around`.
 pub record FitsCertificate (f : Flat) (c : Certificate) : Type 0 where
   pub range : IsInRange (control_of f) c
-  pub plain : (k : ℕ) (l : Location) → slice_get c.locations k ≡ Some l → IsPlainLocation l
-
--- No location has a turn of a loop, nor rows in `first` and `around`.
-abbrev pub IsWithoutLoops : Certificate → Type 0
-IsWithoutLoops c = (k : ℕ) (l : Location) → slice_get c.locations k ≡ Some l → (¬ HasLoop l) × (l.first ≡ []) × (l.around ≡ [])
+  pub free : HasFree c
+  pub held : (k : ℕ) (l : Location) → slice_get c.locations k ≡ Some l → IsHeldLocation l
 
 -- ---- By which rule it is read: one location.
 abbrev pub known_at : Known → ℕ → Option ℕ
@@ -110,21 +105,42 @@ abbrev pub high_of : Option ℕ → ℕ
 high_of None = 1024
 high_of (Some n) = n
 
--- The four lists of rows, of which `first` and `around` are empty.
+-- The four lists of rows.
+abbrev pub after_around : ℕ → List Row → List Row → List Row → Rule Lists
+after_around memories entry first around =
+    bind (a_list memories (codes "state") 0 1024) (λ state. done (record { entry = entry; first = first; around = around; state = state }))
+
+abbrev pub after_first : ℕ → List Row → List Row → Rule Lists
+after_first memories entry first = bind (a_list memories (codes "around") 0 1024) (after_around memories entry first)
+
 abbrev pub after_entry : ℕ → List Row → Rule Lists
-after_entry memories entry =
-    bind (counts (codes "first") 0 0) (λ a.
-    bind (counts (codes "around") 0 0) (λ b.
-    bind (a_list memories (codes "state") 0 1024) (λ state.
-    done (record { entry = entry; state = state }))))
+after_entry memories entry = bind (a_list memories (codes "first") 0 1024) (after_first memories entry)
 
 abbrev pub row_lists : ℕ → ℕ → ℕ → Rule Lists
 row_lists memories low high = bind (a_list memories (codes "entry") low high) (after_entry memories)
 
--- what stands before the entries: the control set, the rows, a proof of each row of `state` from `entry`, and a count
+-- Rows that a location without a turn of a loop does not have.
+abbrev pub has_turned : Lists → Bool
+has_turned lists = nat_lt 0 (length lists.first) || nat_lt 0 (length lists.around)
+
+-- What stands before the entries: the control set, the rows, a proof of each row of `state` from `entry`, in a location with a turn a
+-- proof of each from `first`, and a count, which is at least 1 where there must be a turn.
+abbrev pub count_rule : Frozen → Lists → List Multipliers → ℕ → List Multipliers → Rule Front
+count_rule control lists by_entry least by_first =
+    bind (counts (codes "cases") least 4294967295)
+    (λ n. done (record { control = control; lists = lists; by_entry = by_entry; by_first = by_first; cases = n }))
+
+abbrev pub second_rule : Frozen → Lists → List Multipliers → ℕ → Rule Front
+second_rule control lists by_entry n = bind (times n (a_proof (2 ^ 30) (length lists.first))) (count_rule control lists by_entry 1)
+
+-- so many proofs from `first`, or none
+abbrev pub second_or : Frozen → Lists → List Multipliers → ℕ → Rule Front
+second_or control lists by_entry zero = count_rule control lists by_entry 0 []
+second_or control lists by_entry (suc n) = either (second_rule control lists by_entry (suc n)) (count_rule control lists by_entry 0 [])
+
 abbrev pub after_proofs : Frozen → Lists → List Multipliers → Rule Front
 after_proofs control lists by_entry =
-    bind (counts (codes "cases") 0 4294967295) (λ n. done (record { control = control; lists = lists; by_entry = by_entry; cases = n }))
+    cond (has_turned lists) (second_rule control lists by_entry (length lists.state)) (second_or control lists by_entry (length lists.state))
 
 abbrev pub after_lists : Frozen → Lists → Rule Front
 after_lists control lists = bind (times (length lists.state) (a_proof (2 ^ 30) (length lists.entry))) (after_proofs control lists)
@@ -175,38 +191,102 @@ whole_go s locations state next known = bind (a_target locations) (λ target. go
 abbrev pub whole_dead : Shape → ℕ → Then Entry → Known → Rule Certificate
 whole_dead s state next known = bind (exactly (codes "dead" ∷ [])) (λ u. dead_rule s state next known)
 
--- an entry of a location with so many rows in `state`
-abbrev pub entry_forms : ℕ → List Form
-entry_forms locations = going locations ∷ fixed (codes "dead" ∷ []) ∷ []
+-- a step or a dead entry of a location with so many rows in `state`
+abbrev pub plain_forms : ℕ → List Form
+plain_forms locations = going locations ∷ fixed (codes "dead" ∷ []) ∷ []
 
-abbrev pub entry_rule : Shape → ℕ → ℕ → Then Entry → Known → Rule Certificate
-entry_rule s locations state next known =
-    await (entry_forms locations)
+abbrev pub plain_rule : Shape → ℕ → ℕ → Then Entry → Known → Rule Certificate
+plain_rule s locations state next known =
+    await (plain_forms locations)
     (λ r. cond (bytes_eq (word_of r) (codes "go")) (go_rule s state (natural (field r 1)) next known) (dead_rule s state next known))
 
--- so many entries after these
-unfoldable pub entries_rule : Shape → ℕ → ℕ → ℕ → List Entry → Then (List Entry) → Known → Rule Certificate
-entries_rule s locations state zero before next known = next before known
-entries_rule s locations state (suc n) before next known =
-    entry_rule s locations state (λ e. entries_rule s locations state n (before ++ e ∷ []) next) known
+-- ---- Turns of a loop. Their multipliers are as many as the lists of the location have rows.
+abbrev pub turn_entry : Frozen → List Multipliers → List Multipliers → List Multipliers → List Multipliers → Entry
+turn_entry when first before around state = record { condition = when; kind = Loop first before around state }
+
+-- so many proofs from so many rows and the tests
+abbrev pub a_part : Shape → ℕ → ℕ → Rule (List Multipliers)
+a_part s rows n = times n (a_proof (2 ^ 30) (rows + s.tests))
+
+abbrev pub after_third : Shape → Outline → Frozen → List Multipliers → List Multipliers → List Multipliers → Rule Entry
+after_third s o when first before around = bind (a_part s (o.around + o.state) o.state) (λ state. done (turn_entry when first before around state))
+
+abbrev pub after_second : Shape → Outline → Frozen → List Multipliers → List Multipliers → Rule Entry
+after_second s o when first before = bind (a_part s (o.around + o.state) o.around) (after_third s o when first before)
+
+abbrev pub after_one : Shape → Outline → Frozen → List Multipliers → Rule Entry
+after_one s o when first = bind (a_part s o.first o.around) (after_second s o when first)
+
+abbrev pub after_when : Shape → Outline → Frozen → Rule Entry
+after_when s o when = bind (a_part s o.entry o.first) (after_one s o when)
+
+abbrev pub turn_rule : Shape → Outline → Rule Entry
+turn_rule s o = bind (a_diagram s (codes "when") false) (after_when s o)
+
+abbrev pub whole_turn : Shape → Outline → Rule Entry
+whole_turn s o = bind (exactly (codes "loop" ∷ [])) (λ u. turn_rule s o)
+
+abbrev pub turn_then : Shape → Outline → Then Entry → Known → Rule Certificate
+turn_then s o next known = bind (whole_turn s o) (λ e. next e known)
+
+-- ---- Entries of any kind.
+-- the entry is a turn of a loop
+abbrev pub is_turn_kind : EntryKind → Bool
+is_turn_kind (Dead by) = false
+is_turn_kind (Go target reach) = false
+is_turn_kind (Loop first before around state) = true
+
+abbrev pub is_turn : Entry → Bool
+is_turn e = is_turn_kind e.kind
+
+-- Which kinds are awaited, where so many entries follow this one: a turn where the location may have one; and nothing else where it is
+-- the last entry and the location needs a turn still.
+abbrev pub kinds_at : Bool → Bool → ℕ → Kinds
+kinds_at turns needed left = cond turns (cond (needed && nat_eq left 0) kinds.Turn kinds.Any) kinds.Plain
+
+abbrev pub entry_rule : Shape → ℕ → Outline → Kinds → Then Entry → Known → Rule Certificate
+entry_rule s locations o kinds.Plain next known = plain_rule s locations o.state next known
+entry_rule s locations o kinds.Any next known = either (turn_then s o next known) (plain_rule s locations o.state next known)
+entry_rule s locations o kinds.Turn next known = turn_then s o next known
+
+-- so many entries after these, of which one is a turn where that is needed still
+unfoldable pub entries_rule : Shape → ℕ → Outline → Bool → ℕ → List Entry → Then (List Entry) → Known → Rule Certificate
+entries_rule s locations o needed zero before next known = next before known
+entries_rule s locations o needed (suc n) before next known =
+    entry_rule s locations o (kinds_at o.turns needed n) (λ e. entries_rule s locations o (needed && not (is_turn e)) n (before ++ e ∷ []) next) known
 
 -- ---- Locations.
 abbrev pub location_of : Front → List Entry → Location
 location_of front entries = record {
   control = front.control;
   entry = front.lists.entry;
-  first = [];
-  around = [];
+  first = front.lists.first;
+  around = front.lists.around;
   state = front.lists.state;
   by_entry = front.by_entry;
-  by_first = [];
+  by_first = front.by_first;
   entries = entries;
 }
+
+-- A location may have a turn of a loop where there is a proof from `first` of each row of `state`.
+abbrev pub outline : Front → Outline
+outline front = record {
+  entry = length front.lists.entry;
+  first = length front.lists.first;
+  around = length front.lists.around;
+  state = length front.lists.state;
+  turns = nat_eq (length front.by_first) (length front.lists.state);
+}
+
+-- It must have one where there are rows in `first` or `around`, or proofs from `first`.
+abbrev pub needs_turn : Front → Bool
+needs_turn front = has_turned front.lists || nat_lt 0 (length front.by_first)
 
 -- the location with this number
 abbrev pub after_front : Shape → ℕ → ℕ → Then Location → Known → Front → Rule Certificate
 after_front s locations i next known front =
-    entries_rule s locations (length front.lists.state) front.cases [] (λ entries. next (location_of front entries)) (learn known i (length front.lists.entry))
+    entries_rule s locations (outline front) (needs_turn front) front.cases [] (λ entries. next (location_of front entries))
+    (learn known i (length front.lists.entry))
 
 abbrev pub location_rule : Shape → ℕ → ℕ → Then Location → Known → Rule Certificate
 location_rule s locations i next known =

@@ -6,3 +6,4 @@ pub mod Pieces
 pub mod Continues
 pub mod Certificates
 pub mod Writes
+pub mod Outlines

@@ -6,6 +6,7 @@ ghost use Rattle.rv_invfile.specs.Parts.{turns};
 ghost use Rattle.rv_invfile.specs.Readers.{Reads, run};
 ghost use Rattle.rv_invariant.specs.Certificates as spec;
 ghost use Rattle.rv_invariant.specs.Continues.{Continues};
+ghost use Rattle.rv_invariant.specs.Outlines.{IsSmall};
 ghost use Rattle.rv_invariant.specs.Pieces as pieces;
 
 use crate::counts::Shape;
@@ -13,6 +14,8 @@ use crate::diagrams::read_diagram;
 use crate::groups::has_groups;
 use crate::multipliers::{read_proof, read_proofs};
 use crate::numbers::below;
+use crate::outlines::{Kinds, Outline, kinds_at, needs_after, takes};
+use crate::turns::{has_turn, read_turn};
 use rv_base::Many;
 use rv_invfile::{FileFault, Records, read_exactly};
 use rv_proofs::{Entry, EntryKind};
@@ -132,8 +135,8 @@ fn read_dead(
     Ok(Entry { condition, kind })
 }
 
-/// One entry of a location with so many rows in `state`.
-fn read_entry(
+/// A step or a dead entry of a location with so many rows in `state`.
+fn read_plain(
     alloc: Global,
     records: &mut Records<'_>,
     shape: Shape,
@@ -141,7 +144,7 @@ fn read_entry(
     known: &mut Many<Option<u32>>,
 ) -> Result<Entry, FileFault>
     requires { state ≤ 1024 }
-    ensures read { Continues (λ next. run (spec.entry_rule shape (length known.old) state next known.old) records.old) result known.new records.new }
+    ensures read { Continues (λ next. run (spec.plain_rule shape (length known.old) state next known.old) records.old) result known.new records.new }
     ensures same { length known.new ≡ length known.old }
 {
     if records.is_word(b"go") {
@@ -151,22 +154,48 @@ fn read_entry(
     }
 }
 
-/// So many entries.
+/// One entry, of these kinds.
+fn read_entry(
+    alloc: Global,
+    records: &mut Records<'_>,
+    shape: Shape,
+    outline: Outline,
+    kinds: Kinds,
+    known: &mut Many<Option<u32>>,
+) -> Result<Entry, FileFault>
+    requires { IsSmall outline }
+    ensures read { Continues (λ next. run (spec.entry_rule shape (length known.old) outline kinds next known.old) records.old) result known.new records.new }
+    ensures same { length known.new ≡ length known.old }
+{
+    let here = has_turn(records);
+    if takes(kinds, here) {
+        read_turn(alloc, records, shape, outline)
+    } else {
+        read_plain(alloc, records, shape, outline.state, known)
+    }
+}
+
+/// So many entries, of which one is a turn of a loop where that is needed.
 pub fn read_entries(
     alloc: Global,
     records: &mut Records<'_>,
     shape: Shape,
-    state: u64,
+    outline: Outline,
+    needed: bool,
     count: u64,
     known: &mut Many<Option<u32>>,
 ) -> Result<Many<Entry>, FileFault>
-    requires { state ≤ 1024 }
-    ensures read { Continues (λ next. run (spec.entries_rule shape (length known.old) state count [] next known.old) records.old) result known.new records.new }
+    requires { IsSmall outline }
+    ensures read { Continues (λ next. run (spec.entries_rule shape (length known.old) outline needed count [] next known.old) records.old)
+        result known.new records.new }
     ensures same { length known.new ≡ length known.old }
 {
     let mut entries = Many::new(alloc);
+    let mut still = needed;
     for done in 0..count {
-        let entry = read_entry(alloc, records, shape, state, known)?;
+        let kinds = kinds_at(outline.turns, still, count - done - 1);
+        let entry = read_entry(alloc, records, shape, outline, kinds, known)?;
+        still = needs_after(still, &entry);
         entries.push(entry)?;
     }
     Ok(entries)

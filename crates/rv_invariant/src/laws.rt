@@ -9,8 +9,8 @@ ghost use Rattle.rv_proofs.specs.Counts.{HasFree};
 ghost use Rattle.rv_proofs.specs.declared.certificate.Certificate.{Certificate as CertificateModel};
 ghost use Rattle.rv_invariant.specs.Certificates.{BeginsCertificate, FitsCertificate, certificate_records, certificate_rule};
 
-/// A certificate that has a document has the counts and ranges of one, of whatever flat system; and its locations, none of which
-/// has a loop, have no rows in `first` and `around`.
+/// A certificate that has a document has the counts and ranges of one, of whatever flat system; and a location of it without a turn of
+/// a loop has no rows in `first` and `around`.
 pub fn documents_fit()
     ensures fits { (f : FlatModel) (rs : List Fields) (c : CertificateModel) → IsDocument (certificate_rule f) rs c → FitsCertificate f c }
     ensures free { (f : FlatModel) (rs : List Fields) (c : CertificateModel) → IsDocument (certificate_rule f) rs c → HasFree c }
@@ -22,8 +22,9 @@ pub fn documents_are_written()
     ensures { (f : FlatModel) (rs : List Fields) (c : CertificateModel) → IsDocument (certificate_rule f) rs c → rs ≡ certificate_records f c }
 {}
 
-/// A certificate that has the counts and ranges of a document of a flat system, and no turn of a loop, has a document: the
-/// records that the rules of formats write for it. The names in the text of the flat system are letters, digits and `_`.
+/// A certificate that has the counts and ranges of a document of a flat system, in which a location without a turn of a loop has no rows
+/// in `first` and `around`, has a document: the records that the rules of formats write for it. The names in the text of the flat system
+/// are letters, digits and `_`.
 pub fn documents_exist()
     ensures { (f : FlatModel) (c : CertificateModel) → IsTold f → FitsCertificate f c → IsDocument (certificate_rule f) (certificate_records f c) c }
 {}

@@ -8,29 +8,31 @@ ghost use Rattle.rv_invariant.specs.Continues.{Continues};
 use crate::counts::Shape;
 use crate::entries::read_entries;
 use crate::fronts::{Front, read_front};
+use crate::outlines::{needs_turn, outline_of};
 use rv_base::Many;
 use rv_invfile::{FileFault, Records, read_exactly};
 use rv_proofs::{Certificate, Entry, Location};
 use std::alloc::{AllocError, Global};
 
 /// The location of this front with these entries.
-fn location_of(alloc: Global, front: Front, entries: Many<Entry>) -> Location
+fn location_of(front: Front, entries: Many<Entry>) -> Location
     ensures { result ≡ spec.location_of front entries }
 {
     let Front {
         control,
         lists,
         by_entry,
+        by_first,
         cases: _,
     } = front;
     Location {
         control,
         entry: lists.entry,
-        first: Many::new(alloc),
-        around: Many::new(alloc),
+        first: lists.first,
+        around: lists.around,
         state: lists.state,
         by_entry,
-        by_first: Many::new(alloc),
+        by_first,
         entries,
     }
 }
@@ -72,9 +74,10 @@ fn read_location(
     let count = *known.at(index);
     let front = read_front(alloc, records, shape, low_of(count), high_of(count))?;
     known.set(index, Some(front.lists.entry.len() as u32));
-    let state = front.lists.state.len() as u64;
-    let entries = read_entries(alloc, records, shape, state, front.cases, known)?;
-    Ok(location_of(alloc, front, entries))
+    let outline = outline_of(&front);
+    let needed = needs_turn(&front);
+    let entries = read_entries(alloc, records, shape, outline, needed, front.cases, known)?;
+    Ok(location_of(front, entries))
 }
 
 /// So many locations of which nothing is known.

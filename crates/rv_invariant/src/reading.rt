@@ -64,12 +64,11 @@ fn read_whole(alloc: Global, flat: &Flat, bytes: &[u8]) -> Result<Certificate, F
     Ok(certificate)
 }
 
-/// Reads the records of the bytes as a certificate of this flat system, without turns of loops. `flat` is the answer of
-/// `flatten` for some source. `Ok` exactly where the records are the document of a certificate. Otherwise the fault of the
-/// first record that is not awaited after those before it: `NotRecords` for a byte outside 32 to 126, else `WrongKind` for
-/// another kind of record, else `WrongProgram` for a name or texts that are not those of the flat system, else `BadNumber`
-/// with the first field that is no number in its range; `Ends` where more records are awaited. `Memory` comes where memory
-/// runs out.
+/// Reads the records of the bytes as a certificate of this flat system. `flat` is the answer of `flatten` for some source. `Ok` exactly
+/// where the records are the document of a certificate. Otherwise the fault of the first record that is not awaited after those before
+/// it: `NotRecords` for a byte outside 32 to 126, else `WrongKind` for another kind of record, else `WrongProgram` for a name or texts
+/// that are not those of the flat system, else `BadNumber` with the first field that is no number in its range, or that is a count which
+/// the records before it do not allow; `Ends` where more records are awaited. `Memory` comes where memory runs out.
 pub fn read_certificate(alloc: Global, flat: &Flat, bytes: &[u8]) -> Result<Certificate, FileFault>
     requires { length bytes.now ≤ 67108864 }
     // What is read is a document with this value.

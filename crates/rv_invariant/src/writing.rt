@@ -6,10 +6,11 @@ ghost use Rattle.rv_invfile.specs.Csv.{records_of};
 ghost use Rattle.rv_invfile.specs.Rules.{IsDocument};
 ghost use Rattle.rv_invfile.specs.Told.{IsTold};
 ghost use Rattle.rv_invfile.specs.Writes.{Adds, lines};
+ghost use Rattle.rv_proofs.specs.Counts.{HasFree};
 ghost use Rattle.rv_proofs.specs.Ranges.{IsInRange};
 ghost use Rattle.rv_proofs.specs.declared.certificate.EntryKind.TheVariants as kind;
 ghost use Rattle.rv_invariant.specs.Certificates as spec;
-ghost use Rattle.rv_invariant.specs.Certificates.{IsHeld, IsWithoutLoops};
+ghost use Rattle.rv_invariant.specs.Certificates.{IsHeld};
 ghost use Rattle.rv_invariant.specs.Pieces as pieces;
 ghost use Rattle.rv_invariant.specs.Writes.{AllHeld, HasHeld, HaveHeld};
 
@@ -203,9 +204,9 @@ fn write_records(
     put(writer, &[b"end"])
 }
 
-/// Writes the document of a certificate without turns of loops: the bytes of its records, each a line of fields with commas
-/// between them. `flat` is the answer of `flatten` for some source, and the certificate has the counts and ranges of one of it.
-/// Fails for want of memory alone.
+/// Writes the document of a certificate: the bytes of its records, each a line of fields with commas between them. `flat` is the
+/// answer of `flatten` for some source, and the certificate has the counts and ranges of one of it, and no rows in `first` and `around`
+/// where a location has no turn of a loop. Fails for want of memory alone.
 pub fn write_certificate(
     alloc: Global,
     flat: &Flat,
@@ -213,7 +214,7 @@ pub fn write_certificate(
 ) -> Result<Vec<u8>, Memory>
     requires told { IsTold flat.now }
     requires range { IsInRange (control_of flat.now) certificate.now }
-    requires plain { IsWithoutLoops certificate.now }
+    requires free { HasFree certificate.now }
     // The bytes are the lines of the certificate's records.
     ensures text { IfOk result (λ bytes. bytes.items ≡ lines (spec.certificate_records flat.now certificate.now)) }
     // The bytes are the document of the certificate.

@@ -9,7 +9,6 @@ ghost use Rattle.rv_tree.specs.Words.{HasPlainNames};
 ghost use Rattle.rv_types.specs.Instances.{name_at};
 ghost use Rattle.rv_types.specs.Variables.{is_integer};
 ghost use Rattle.rv_control.specs.Control.{control_of};
-ghost use Rattle.rv_invariant.specs.Certificates.{IsWithoutLoops};
 ghost use Rattle.rv_meaning.specs.Integers.{IsControl};
 ghost use Rattle.rv_diagram.specs.declared.frozen.Frozen.{Frozen};
 ghost use Rattle.rv_proofs.specs.Accepted.{IsAccepted};
@@ -168,7 +167,7 @@ fn decided(alloc: Global, source: &Source, flat: &Flat, nodes: u32) -> Result<Ve
     }
 }
 
-/// The verdict on a source with an accepted certificate without loops.
+/// The verdict on a source with an accepted certificate.
 fn safe(
     alloc: Global,
     source: &Source,
@@ -178,7 +177,6 @@ fn safe(
     requires plain { HasPlainNames (program_tree source.now.program) }
     requires known { IsKnown (program_tree source.now.program) (name_at (program_tree source.now.program) source.now.typed.main) flat.now }
     requires accepted { IsAccepted (control_of flat.now) certificate }
-    requires loops { IsWithoutLoops certificate }
     ensures judged { (nodes : ℕ) → IfOk result (λ v. IsVerdictOf nodes v (program_tree source.now.program)
         (name_at (program_tree source.now.program) source.now.typed.main)) }
     ensures memory { IsErrOf result StoreFault.Nodes → ⊥ }

@@ -1,32 +1,38 @@
-use Rattle.std.proofs.Common.{◌∙◌, length, refl, sym}
+use Rattle.std.proofs.Common.{◌∙◌, length, refl, sym, ap}
 use Rattle.rv_proofs.specs.declared.certificate.Entry.{Entry}
-use Rattle.rv_invfile.specs.Readers.{run}
-use Rattle.rv_invariant.specs.{Certificates.entry_rule, Certificates.whole_go, Certificates.whole_dead, Continues.Then}
-use Rattle.rv_invariant.proofs.{Going.entry-go, Going.entry-dead, Choices.continues-after}
+use Rattle.rv_invfile.specs.{Readers.run, Parts.bind}
+use Rattle.rv_invariant.specs.{Certificates.entry_rule, Certificates.plain_rule, Certificates.whole_turn, Continues.Then, Outlines.takes_turn}
+use Rattle.rv_invariant.proofs.{Going.entry-taken, Going.entry-plain, Choices.continues-after, Choices.continues-read}
 use Rattle.rv_invariant.proofs.entries.read_entry.Goals as goal
 
-pub returns-then-is_word : goal.returns-then-is_word
-returns-then-is_word c =
+pub returns-then-takes : goal.returns-then-takes
+returns-then-takes c =
     let s = c.args.shape in
+    let o = c.args.outline in
+    let k = c.args.kinds in
     let known = c.args.known.now in
     let a = c.args.records.now in
+    let taken = ap (takes_turn k) (sym c.has_turn-here.ensures) ∙ sym c.takes.ensures ∙ c.if-takes.true in
     record {
-      read = continues-after (λ (next : Then Entry). run (entry_rule s (length known) c.args.state next known) a)
-          (λ (next : Then Entry). run (whole_go s (length known) c.args.state next known) a)
-          c.read_go.result c.read_go.new.known c.read_go.new.records (λ next w. entry-go s (length known) c.args.state next known a
-          (sym c.is_word.ensures ∙ c.if-is_word.true)) c.read_go.ensures.read;
-      same = c.read_go.ensures.same;
+      read = continues-after (λ (next : Then Entry). run (entry_rule s (length known) o k next known) a)
+          (λ (next : Then Entry). run (bind (whole_turn s o) (λ e. next e known)) a)
+          c.read_turn.result known c.read_turn.new.records (λ next w. entry-taken s (length known) o next known a k taken)
+          (continues-read (whole_turn s o) a c.read_turn.result known c.read_turn.new.records c.read_turn.ensures);
+      same = refl;
     }
 
-pub returns-else-is_word : goal.returns-else-is_word
-returns-else-is_word c =
+pub returns-else-takes : goal.returns-else-takes
+returns-else-takes c =
     let s = c.args.shape in
+    let o = c.args.outline in
+    let k = c.args.kinds in
     let known = c.args.known.now in
     let a = c.args.records.now in
+    let plain = ap (takes_turn k) (sym c.has_turn-here.ensures) ∙ sym c.takes.ensures ∙ c.if-takes.false in
     record {
-      read = continues-after (λ (next : Then Entry). run (entry_rule s (length known) c.args.state next known) a)
-          (λ (next : Then Entry). run (whole_dead s c.args.state next known) a)
-          c.read_dead.result known c.read_dead.new.records (λ next w. entry-dead s (length known) c.args.state next known a
-          (sym c.is_word.ensures ∙ c.if-is_word.false)) c.read_dead.ensures;
-      same = refl;
+      read = continues-after (λ (next : Then Entry). run (entry_rule s (length known) o k next known) a)
+          (λ (next : Then Entry). run (plain_rule s (length known) o.state next known) a)
+          c.read_plain.result c.read_plain.new.known c.read_plain.new.records (λ next w. entry-plain s (length known) o next known a k plain)
+          c.read_plain.ensures.read;
+      same = c.read_plain.ensures.same;
     }

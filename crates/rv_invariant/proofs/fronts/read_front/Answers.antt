@@ -1,15 +1,15 @@
-use Rattle.std.proofs.{Common.◌≡◌, Common.ℕ, Common.length, Common.refl, Common.sym, Common.subst, Common.◌≤◌, lemmas.Result.err_from_is_err_and}
+use Rattle.std.proofs.{Common.◌≡◌, Common.refl, Common.sym, Common.subst, lemmas.Result.err_from_is_err_and}
 use Rattle.std.specs.Prelude.{codes, true, Ok, Err, Result, IfOk}
 use Rattle.rv_diagram.specs.declared.frozen.Frozen.{Frozen}
 use Rattle.rv_invfile.specs.{Readers.run, declared.fault.FileFault.FileFault}
 use Rattle.rv_invariant.specs.Certificates.{after_control, after_lists, front_rule, row_lists}
-use Rattle.rv_invariant.specs.{declared.fronts.Front.Front, declared.fronts.Lists.Lists, Pieces.a_diagram}
+use Rattle.rv_invariant.specs.{declared.fronts.Front.Front, declared.fronts.Lists.Lists, Outlines.AreSmall, Pieces.a_diagram}
 use Rattle.rv_invariant.proofs.Choices.{chain-ok, chain-stops, chain-last}
 use Rattle.rv_invariant.proofs.fronts.read_front.Goals as goal
 
-few : (r : Result Front FileFault) (size : Lists → ℕ) (ls : Lists) (m : ℕ) → size ls ≤ m → IfOk r (λ f. f.lists ≡ ls) → IfOk r (λ f. size f.lists ≤ m)
-few (Ok f) size ls m a h = subst (λ (l : Lists). size l ≤ m) (sym h) a
-few (Err e) size ls m a h = tt
+few : (r : Result Front FileFault) (ls : Lists) → AreSmall ls → IfOk r (λ f. f.lists ≡ ls) → IfOk r (λ f. AreSmall f.lists)
+few (Ok f) ls a h = subst AreSmall (sym h) a
+few (Err e) ls a h = tt
 
 pub returns-in_err-control-clause-read : goal.returns-in_err-control-clause-read
 returns-in_err-control-clause-read c =
@@ -45,6 +45,5 @@ returns c =
     record {
       read = chain-last (λ (f : Front). f) (after_lists d ls) whole c.read_lists.new.records c.read_cases.result c.read_cases.new.records w2
           c.read_cases.ensures.read;
-      entry = few c.read_cases.result (λ l. length l.entry) ls 4294967295 c.in_ok-lists.ensures.entry c.read_cases.ensures.same;
-      state = few c.read_cases.result (λ l. length l.state) ls 1024 c.in_ok-lists.ensures.state c.read_cases.ensures.same;
+      small = few c.read_cases.result ls c.in_ok-lists.ensures.small c.read_cases.ensures.same;
     }

@@ -2,14 +2,15 @@ use Rattle.std.proofs.{Common.◌≡◌, Common.ℕ, Common.List, Common.length,
 use Rattle.std.specs.Prelude.{codes, Ok, Err, Result, IfOk}
 use Rattle.rv_rows.specs.declared.linear.Row.{Row}
 use Rattle.rv_invfile.specs.{Readers.run, declared.fault.FileFault.FileFault}
-use Rattle.rv_invariant.specs.{declared.fronts.Lists.Lists, Certificates.after_entry, Certificates.row_lists, Pieces.a_list}
+use Rattle.rv_invariant.specs.{declared.fronts.Lists.Lists, Certificates.after_entry, Certificates.row_lists, Outlines.AreSmall, Pieces.a_list}
 use Rattle.rv_invariant.proofs.Choices.{chain-ok, chain-stops, chain-last}
 use Rattle.rv_invariant.proofs.fronts.read_lists.Goals as goal
 
-few : (r : Result Lists FileFault) (entry : List Row) (n m : ℕ) → length entry ≤ n → n ≤ m → IfOk r (λ ls. ls.entry ≡ entry)
-    → IfOk r (λ ls. length ls.entry ≤ m)
-few (Ok ls) entry n m a b h = omega (arith, ap length h, a, b)
-few (Err e) entry n m a b h = tt
+small : (r : Result Lists FileFault) (entry : List Row) (n : ℕ) → length entry ≤ n → n ≤ 4294967295 → IfOk r (λ ls. ls.entry ≡ entry)
+    → IfOk r (λ ls. length ls.first ≤ 1024) → IfOk r (λ ls. length ls.around ≤ 1024) → IfOk r (λ ls. length ls.state ≤ 1024) → IfOk r AreSmall
+small (Ok ls) entry n a b h first around state =
+    record { entry = omega (arith, ap length h, a, b); first = first; around = around; state = state }
+small (Err e) entry n a b h first around state = tt
 
 pub returns-in_err-entry-clause-read : goal.returns-in_err-entry-clause-read
 returns-in_err-entry-clause-read c =
@@ -29,6 +30,6 @@ returns c =
     record {
       read = chain-last (λ (l : Lists). l) (after_entry m entry) (run (row_lists m c.args.low c.args.high) c.args.records.now) c.read_list.new.records
           c.read_others.result c.read_others.new.records there c.read_others.ensures.read;
-      entry = few c.read_others.result entry c.args.high 4294967295 c.in_ok-entry.ensures.counted c.requires.high c.read_others.ensures.same;
-      state = c.read_others.ensures.few;
+      small = small c.read_others.result entry c.args.high c.in_ok-entry.ensures.counted c.requires.high c.read_others.ensures.same
+          c.read_others.ensures.first c.read_others.ensures.around c.read_others.ensures.state;
     }

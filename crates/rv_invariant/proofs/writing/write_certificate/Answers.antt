@@ -36,7 +36,7 @@ pub returns-clause-document : goal.returns-clause-document
 returns-clause-document c =
     let f = c.args.flat.now in
     let x = c.args.certificate.now in
-    let fits = held-fits f x c.requires.range c.requires.plain c.in_ok-write_records.ensures.held in
+    let fits = held-fits f x c.requires.range c.requires.free c.in_ok-write_records.ensures.held in
     is-document f x c.finish.result (λ v. v.items) (document-exists f x c.requires.told fits)
     (reads-as f x c.finish.result (λ v. v.items)
     (c.finish.ensures (wide (certificate_records f x)) (c.in_ok-write_records.ensures.added [] c.new_writer-writer.ensures)))

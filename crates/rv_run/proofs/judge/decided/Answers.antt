@@ -22,10 +22,6 @@ safe-requires-clause-accepted c =
     subst (λ (f : Flat). IsAccepted (control_of f) c.in-Good.certificate) c.in_ok-reading.ensures.flat
     (c.in_ok-certificate.ensures.good c.in-Good.certificate (ap Ok c.in-Good.is))
 
-pub safe-requires-clause-loops : goal.safe-requires-clause-loops
-safe-requires-clause-loops c = λ k l at. let plain = c.in_ok-certificate.ensures.plain c.in-Good.certificate (ap Ok c.in-Good.is) k l at in
-    (plain.no_loop, plain.no_first, plain.no_around)
-
 pub returns-in-Good-clause-wide : goal.returns-in-Good-clause-wide
 returns-in-Good-clause-wide c = λ nodes. absurd (c.safe.ensures.memory nodes)
 

@@ -39,10 +39,6 @@ safe-requires-clause-accepted c =
     (sym (c.flat-system.ensures ∙ ap (λ (r : Reading). flat_of r) c.in_ok-end.ensures.same))
     (c.in_ok-end.ensures.proved c.in-Proved.certificate (ap Ok c.in-Proved.is))
 
-pub safe-requires-clause-loops : goal.safe-requires-clause-loops
-safe-requires-clause-loops c = λ k l at. let plain = c.in_ok-end.ensures.plain c.in-Proved.certificate (ap Ok c.in-Proved.is) k l at in
-    (plain.no_loop, plain.no_first, plain.no_around)
-
 pub returns-in-Proved-clause-judged : goal.returns-in-Proved-clause-judged
 returns-in-Proved-clause-judged c = c.safe.ensures.judged
 

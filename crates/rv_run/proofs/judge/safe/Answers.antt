@@ -17,6 +17,10 @@ write_certificate-requires-clause-told c =
 pub write_certificate-requires-clause-range : goal.write_certificate-requires-clause-range
 write_certificate-requires-clause-range c = c.requires.accepted.partition.in_range
 
+pub write_certificate-requires-clause-free : goal.write_certificate-requires-clause-free
+write_certificate-requires-clause-free c = λ k l at none. let included = c.requires.accepted.partition.included k l at in
+    (included.no_first none, included.no_around none)
+
 pub returns-clause-judged : goal.returns-clause-judged
 returns-clause-judged c = λ nodes.
     let f = c.args.flat.now in
