@@ -1,0 +1,2 @@
+mod MainNode
+mod Fitting

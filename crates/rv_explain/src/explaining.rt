@@ -1,0 +1,109 @@
+//! Which text is made of a source and a document.
+
+ghost use Rattle.std.specs.Prelude.{◌≤◌, length};
+ghost use Rattle.rv_tree.specs.Tree.{program_tree};
+ghost use Rattle.rv_tree.specs.Words.{HasPlainNames};
+
+use crate::invariant::invariant_text;
+use crate::lines::Lines;
+use crate::names::Names;
+use crate::places::places_text;
+use crate::refusal::refusal_text;
+use crate::rejected::rejected_text;
+use crate::request::{Answer, Asked};
+use crate::trace::{Told, trace_text};
+use rv_base::Memory;
+use rv_instances::Source;
+use rv_source::{SourceFault, read_source};
+use rv_syntax::{one_tree, plain_names};
+use rv_tree::SOURCE_LIMIT;
+use std::alloc::Global;
+
+/// The most bytes of a document.
+const DOCUMENT_LIMIT: usize = 67_108_864;
+
+/// The most bytes of a trace: what is made of a longer one takes more than a gigabyte.
+const TRACE_LIMIT: usize = 50_000_000;
+
+/// Why nothing is told of a source that was neither proved nor refuted.
+const UNKNOWN: &str =
+    "no partition stands in the document of a source that was neither proved nor refuted";
+
+/// Why nothing is told of another document.
+const OTHER_KIND: &str = "documents of this kind are not explained; traces and invariant files are";
+
+/// Tells of a source, and of a document about it where there is one, what an engineer wants to know: of a refused source why; of an accepted
+/// one its places, or what the document says. A document of a kind that is not explained is refused, and so is a source of more than
+/// 1,048,576 bytes.
+pub fn explain(
+    alloc: Global,
+    asked: &Asked,
+    source: &[u8],
+    document: Option<&[u8]>,
+) -> Result<Answer, Memory> {
+    one_tree();
+    plain_names();
+    if source.len() > SOURCE_LIMIT {
+        return refused(alloc, "the source has more than 1,048,576 bytes");
+    }
+    match read_source(alloc, source, asked.node) {
+        Ok(read) => explain_accepted(alloc, asked, source, &read, document),
+        Err(SourceFault::Memory) => Err(Memory::Memory),
+        Err(fault) => Ok(Answer::Explained(refusal_text(alloc, asked, source, &fault)?)),
+    }
+}
+
+/// An answer that there is no text.
+fn refused(alloc: Global, why: &str) -> Result<Answer, Memory> {
+    Ok(Answer::Refused(String::from_str(alloc, why)?))
+}
+
+/// What is told of an accepted source.
+fn explain_accepted(
+    alloc: Global,
+    asked: &Asked,
+    bytes: &[u8],
+    source: &Source,
+    document: Option<&[u8]>,
+) -> Result<Answer, Memory>
+    requires plain { HasPlainNames (program_tree source.now.program) }
+{
+    let names = Names::new(alloc, &source.program)?;
+    let lines = Lines::new(alloc, bytes)?;
+    let told = Told {
+        alloc,
+        asked,
+        main: source.typed.main,
+        names: &names,
+        lines: &lines,
+    };
+    match document {
+        None => Ok(Answer::Explained(places_text(alloc, source, &names, &lines)?)),
+        Some(document) => explain_document(&told, source, document),
+    }
+}
+
+/// What is told of a document, by its first record.
+fn explain_document(told: &Told, source: &Source, document: &[u8]) -> Result<Answer, Memory>
+    requires plain { HasPlainNames (program_tree source.now.program) }
+{
+    if document.len() > DOCUMENT_LIMIT {
+        return refused(told.alloc, "the document has more than 67,108,864 bytes");
+    }
+    if document.starts_with(b"reaver,trace,") {
+        if document.len() > TRACE_LIMIT {
+            return refused(told.alloc, "the trace has more than 50,000,000 bytes");
+        }
+        return trace_text(told, source, document);
+    }
+    if document.starts_with(b"reaver,invariant,") {
+        return invariant_text(told, source, document);
+    }
+    if document.starts_with(b"reaver,rejected,") {
+        return rejected_text(told, source, document);
+    }
+    if document.starts_with(b"reaver,unknown") {
+        return refused(told.alloc, UNKNOWN);
+    }
+    refused(told.alloc, OTHER_KIND)
+}

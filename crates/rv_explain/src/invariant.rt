@@ -1,0 +1,215 @@
+//! The text on an invariant file.
+
+ghost use Rattle.std.specs.Prelude.{◌≤◌, length};
+
+use crate::cover::cover_of;
+use crate::formula::{MOST_PARTS, Scene, put_formula};
+use crate::known::Known;
+use crate::naming::Words;
+use crate::regions::Region;
+use crate::request::Answer;
+use crate::rows::row_texts;
+use crate::table::put_wrapped;
+use crate::trace::{Told, file_fault};
+use crate::vocabulary::Vocabulary;
+use rv_base::{Many, Memory};
+use rv_flat::Flat;
+use rv_flatten::flatten;
+use rv_instances::Source;
+use rv_invariant::read_certificate;
+use rv_proofs::{Certificate, Entry, EntryKind, Location};
+use rv_rows::Row;
+
+/// How many locations are told, and how many steps of all of them.
+const MOST_LOCATIONS: usize = 200;
+
+const MOST_STEPS: usize = 500;
+
+/// The text on the bytes of an invariant file.
+pub fn invariant_text(told: &Told, source: &Source, document: &[u8]) -> Result<Answer, Memory>
+    requires short { length document.now ≤ 67108864 }
+{
+    let flat = flatten(told.alloc, source)?;
+    match read_certificate(told.alloc, &flat, document) {
+        Ok(certificate) => described(told, &flat, &certificate),
+        Err(fault) => file_fault(told.alloc, fault),
+    }
+}
+
+/// The text on a certificate of a flat system.
+fn described(told: &Told, flat: &Flat, certificate: &Certificate) -> Result<Answer, Memory> {
+    let vocabulary = vocabulary_of(told, flat)?;
+    let scene = Scene {
+        alloc: told.alloc,
+        flat,
+        vocabulary: &vocabulary,
+    };
+    let text = certificate_text(&scene, certificate, told.asked.entries)?;
+    Ok(Answer::Explained(text))
+}
+
+/// The quantities of a flat system.
+pub fn vocabulary_of(told: &Told, flat: &Flat) -> Result<Vocabulary, Memory> {
+    Vocabulary::new(&Words {
+        alloc: told.alloc,
+        names: told.names,
+        main: told.main,
+        flat,
+    })
+}
+
+/// The text on a certificate: each location with its control states and rows, and with its steps where they are asked for.
+fn certificate_text(
+    scene: &Scene,
+    certificate: &Certificate,
+    with_entries: bool,
+) -> Result<String, Memory> {
+    let mut text = String::new(scene.alloc);
+    text.push_str("`pre x` stands for what is kept of x: its value at the instant before.\n")?;
+    let nothing = Known::nothing(scene.alloc, scene.vocabulary)?;
+    let mut number: u32 = 0;
+    let mut left = MOST_STEPS;
+    for location in certificate.locations.as_slice().iter().take(MOST_LOCATIONS) {
+        put_location(scene, &mut text, location, number, &nothing)?;
+        if with_entries {
+            left = put_steps(scene, &mut text, location, number, left)?;
+        }
+        number = number.saturating_add(1);
+    }
+    let count = certificate.locations.len();
+    if count > MOST_LOCATIONS {
+        write!(
+            text,
+            "\nThere are {count} locations; of these the first are told.\n"
+        )?;
+    }
+    Ok(text)
+}
+
+/// Adds the control states and rows of the location with this number.
+fn put_location(
+    scene: &Scene,
+    text: &mut String,
+    location: &Location,
+    number: u32,
+    nothing: &Known,
+) -> Result<(), Memory> {
+    text.push('\n')?;
+    let lead = format!(in scene.alloc; "Location {number}: ")?;
+    put_formula(scene, text, 0, lead.as_str(), &location.control, nothing)?;
+    put_bounds(scene, text, location)
+}
+
+/// Adds the rows of a location.
+fn put_bounds(scene: &Scene, text: &mut String, location: &Location) -> Result<(), Memory> {
+    if is_same(&location.entry, &location.state) {
+        return put_rows(scene, text, 2, "always", &location.state);
+    }
+    put_rows(scene, text, 2, "where a run comes in", &location.entry)?;
+    put_rows(scene, text, 2, "always", &location.state)
+}
+
+/// Whether two lists have the same rows.
+fn is_same(left: &Many<Row>, right: &Many<Row>) -> bool {
+    left.as_slice() == right.as_slice()
+}
+
+/// Adds rows, each on a line of its own below a heading.
+pub fn put_rows(
+    scene: &Scene,
+    text: &mut String,
+    indent: usize,
+    heading: &str,
+    rows: &Many<Row>,
+) -> Result<(), Memory> {
+    if rows.is_empty() {
+        return Ok(());
+    }
+    put_wrapped(text, indent, heading)?;
+    let names = scene.vocabulary.columns.as_slice();
+    for row in row_texts(scene.alloc, names, rows.as_slice())? {
+        put_wrapped(text, indent.saturating_add(2), row.as_str())?;
+    }
+    Ok(())
+}
+
+/// The regions of the control states of a location, and all where these have no short formula.
+fn control_regions(scene: &Scene, location: &Location) -> Result<Vec<Region>, Memory> {
+    let alloc = scene.alloc;
+    let whole = scene.vocabulary.whole(alloc)?;
+    let variables = scene.vocabulary.variables.as_slice();
+    let cover = cover_of(alloc, variables, &whole, &location.control)?;
+    match cover {
+        Some(regions) => if regions.len() <= MOST_PARTS {
+            Ok(regions)
+        } else {
+            Ok(vec![in alloc; whole]?)
+        },
+        None => Ok(vec![in alloc; whole]?),
+    }
+}
+
+/// What is known in a location: its control states and rows.
+pub fn known_in(scene: &Scene, location: &Location) -> Result<Known, Memory> {
+    let within = control_regions(scene, location)?;
+    let rows = location.state.as_slice();
+    Known::new(scene.alloc, scene.vocabulary, within, rows)
+}
+
+/// Adds the steps of the location with this number, no more than are left to be told, and how many cases its rows rule out. It answers how
+/// many are left then.
+fn put_steps(
+    scene: &Scene,
+    text: &mut String,
+    location: &Location,
+    own: u32,
+    left: usize,
+) -> Result<usize, Memory> {
+    let known = known_in(scene, location)?;
+    put_wrapped(text, 2, "steps")?;
+    let mut count: usize = 0;
+    for entry in location.entries.as_slice() {
+        if !is_dead(entry) {
+            if count < left {
+                put_entry(scene, text, 4, entry, own, &known)?;
+            }
+            count = count.saturating_add(1);
+        }
+    }
+    let more = count.saturating_sub(left);
+    if more > 0 {
+        write!(text, "    and {more} more\n")?;
+    }
+    let dead = location.entries.len().saturating_sub(count);
+    if dead > 0 {
+        write!(text, "    cases that no integers meet: {dead}\n")?;
+    }
+    Ok(left.saturating_sub(count))
+}
+
+/// Whether an entry says that its case never comes.
+fn is_dead(entry: &Entry) -> bool {
+    matches!(&entry.kind, EntryKind::Dead(_))
+}
+
+/// Adds an entry of the location with this number: where it leads, and when.
+pub fn put_entry(
+    scene: &Scene,
+    text: &mut String,
+    indent: usize,
+    entry: &Entry,
+    own: u32,
+    known: &Known,
+) -> Result<(), Memory> {
+    let mut lead = String::new(scene.alloc);
+    match &entry.kind {
+        EntryKind::Dead(_) => lead.push_str("never: ")?,
+        EntryKind::Go { target, .. } => if *target == own {
+            lead.push_str("to itself: ")?;
+        } else {
+            write!(lead, "to {target}: ")?;
+        },
+        EntryKind::Loop { .. } => lead.push_str("a turn of its loop: ")?,
+    }
+    put_formula(scene, text, indent, lead.as_str(), &entry.condition, known)
+}

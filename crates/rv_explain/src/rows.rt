@@ -1,0 +1,161 @@
+//! Rows as inequalities over names.
+
+use rv_base::Memory;
+use rv_rows::Row;
+use std::alloc::Global;
+
+/// What rows say of one sum of columns, the first of which has a positive coefficient: its least and its greatest value.
+#[derive(Debug, Drop)]
+struct Bounded {
+    coefficients: Vec<i128>,
+    least: Option<i128>,
+    greatest: Option<i128>,
+}
+
+/// Whether the first coefficient that is not 0 is negative.
+fn is_turned(coefficients: &[i128]) -> bool {
+    for coefficient in coefficients {
+        if *coefficient != 0 {
+            return *coefficient < 0;
+        }
+    }
+    false
+}
+
+/// A number with the other sign.
+fn opposite(number: i128) -> i128 {
+    number.checked_neg().unwrap_or(i128::MAX)
+}
+
+/// What a row says alone.
+fn said_by(alloc: Global, row: &Row) -> Result<Bounded, Memory> {
+    let is_turned = is_turned(row.coefficients.as_slice());
+    let mut coefficients = Vec::new(alloc);
+    for coefficient in row.coefficients.as_slice() {
+        coefficients.push(if is_turned {
+            opposite(*coefficient)
+        } else {
+            *coefficient
+        })?;
+    }
+    let (least, greatest) = if is_turned {
+        (Some(opposite(row.bound)), None)
+    } else {
+        (None, Some(row.bound))
+    };
+    Ok(Bounded {
+        coefficients,
+        least,
+        greatest,
+    })
+}
+
+/// The number of what is said already of the same sum.
+fn same_sum(all: &[Bounded], one: &Bounded) -> Option<usize> {
+    let mut number: usize = 0;
+    for other in all {
+        if other.coefficients.as_slice() == one.coefficients.as_slice() {
+            return Some(number);
+        }
+        number = number.saturating_add(1);
+    }
+    None
+}
+
+/// The greater of two lower bounds.
+fn greater(one: Option<i128>, other: Option<i128>) -> Option<i128> {
+    match (one, other) {
+        (Some(one), Some(other)) => Some(one.max(other)),
+        (Some(one), None) => Some(one),
+        (None, other) => other,
+    }
+}
+
+/// The lesser of two upper bounds.
+fn lesser(one: Option<i128>, other: Option<i128>) -> Option<i128> {
+    match (one, other) {
+        (Some(one), Some(other)) => Some(one.min(other)),
+        (Some(one), None) => Some(one),
+        (None, other) => other,
+    }
+}
+
+/// Adds what a row says to what is said of the same sum, or beside it.
+fn add(alloc: Global, all: &mut Vec<Bounded>, row: &Row) -> Result<(), Memory> {
+    let one = said_by(alloc, row)?;
+    if let Some(number) = same_sum(all.as_slice(), &one) {
+        if let Some(place) = all.get_mut(number) {
+            place.least = greater(place.least, one.least);
+            place.greatest = lesser(place.greatest, one.greatest);
+        }
+        return Ok(());
+    }
+    all.push(one)?;
+    Ok(())
+}
+
+/// Adds a sum of columns.
+fn put_sum(text: &mut String, names: &[String], coefficients: &[i128]) -> Result<(), Memory> {
+    let mut is_first = true;
+    for (name, coefficient) in names.iter().zip(coefficients) {
+        if *coefficient != 0 {
+            let sign = match (is_first, *coefficient < 0) {
+                (true, true) => "-",
+                (true, false) => "",
+                (false, true) => " - ",
+                (false, false) => " + ",
+            };
+            text.push_str(sign)?;
+            let size = coefficient.unsigned_abs();
+            if size != 1 {
+                write!(text, "{size}*")?;
+            }
+            text.push_str(name.as_str())?;
+            is_first = false;
+        }
+    }
+    if is_first {
+        text.push('0')?;
+    }
+    Ok(())
+}
+
+/// Adds what is said of a sum.
+fn put_bounded(text: &mut String, names: &[String], one: &Bounded) -> Result<(), Memory> {
+    let coefficients = one.coefficients.as_slice();
+    match (one.least, one.greatest) {
+        (Some(least), Some(greatest)) => if least == greatest {
+            put_sum(text, names, coefficients)?;
+            write!(text, " = {greatest}")?;
+        } else {
+            write!(text, "{least} <= ")?;
+            put_sum(text, names, coefficients)?;
+            write!(text, " <= {greatest}")?;
+        },
+        (Some(least), None) => {
+            put_sum(text, names, coefficients)?;
+            write!(text, " >= {least}")?;
+        }
+        (None, Some(greatest)) => {
+            put_sum(text, names, coefficients)?;
+            write!(text, " <= {greatest}")?;
+        }
+        (None, None) => text.push_str("true")?,
+    }
+    Ok(())
+}
+
+/// The texts of rows over columns of these names, those of one sum together.
+pub fn row_texts(alloc: Global, names: &[String], rows: &[Row]) -> Result<Vec<String>, Memory> {
+    let mut all = Vec::new(alloc);
+    for row in rows {
+        add(alloc, &mut all, row)?;
+    }
+    let mut texts = Vec::new(alloc);
+    for one in all.as_slice() {
+        let mut text = String::new(alloc);
+        put_bounded(&mut text, names, one)?;
+        texts.push(text)?;
+    }
+    Ok(texts)
+}
