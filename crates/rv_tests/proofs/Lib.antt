@@ -1,3 +1,4 @@
+pub mod Listed
 mod Mapped
 pub mod Named
 pub mod Room

@@ -10,19 +10,24 @@
 //!   `seek_row`, `seek_refutation`, `seek_bound` (`linear.rt`);
 //! - polyhedra and abstract values: `meet`, `join`, `after`, `eliminate`, `included`, `whole_point`, `post`, `includes`, `both`
 //!   (`polyhedra.rt`);
-//! - decision diagrams: `diagram` (`diagrams.rt`);
+//! - loops that are taken any number of times, and partitions of control states: `accelerate` (`accelerated.rt`), `partition`
+//!   (`partitions.rt`);
+//! - decision diagrams: `diagram` (`diagrams.rt`), and covers of random ones: `cover` (`covered.rt`);
 //! - the whole program over files and sinks in memory: `run`, `prove`, `replay`, `replaylong`, `surely`, `long`, `bytes`, `weighed`,
 //!   `printed`
 //!   (`runs.rt`).
 #![tactic(auto)]
 
+mod accelerated;
 mod cased;
 mod causes;
+mod covered;
 mod diagrams;
 mod limits;
 mod linear;
 mod numbers;
 mod outside;
+mod partitions;
 mod places;
 mod polyhedra;
 mod presence;

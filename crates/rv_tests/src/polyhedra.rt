@@ -18,7 +18,7 @@ use rv_state::Abstract;
 use std::alloc::Global;
 
 /// The most rows of a polyhedron.
-const MOST_ROWS: usize = 1024;
+pub const MOST_ROWS: usize = 1024;
 
 /// How many variables the control sets are over.
 const VARIABLES: u32 = 2;
@@ -52,7 +52,7 @@ pub fn polyhedral(alloc: Global, kind: &str, fields: &str) -> Result<Option<Stri
 }
 
 /// Three fields with `~` between them.
-fn three(fields: &str) -> Option<(&str, &str, &str)> {
+pub fn three(fields: &str) -> Option<(&str, &str, &str)> {
     let (one, rest) = fields.split_once('~')?;
     let (two, three) = rest.split_once('~')?;
     Some((one, two, three))
@@ -78,7 +78,7 @@ fn hold_at(rows: &[Row], point: &[i128]) -> bool {
 }
 
 /// Whether all rows hold, for each point in turn. Points have semicolons between them.
-fn told_at(alloc: Global, rows: &Many<Row>, points: &str) -> Result<Option<String>, Memory> {
+pub fn told_at(alloc: Global, rows: &Many<Row>, points: &str) -> Result<Option<String>, Memory> {
     let mut text = String::new(alloc);
     for part in points.split(';') {
         let Some(point) = numbers_in(alloc, part)? else {
@@ -169,17 +169,22 @@ fn joined(alloc: Global, fields: &str) -> Result<Option<String>, Memory> {
 
 /// Rows, and what they are updated by.
 #[derive(Drop)]
-struct Update {
+pub struct Update {
     /// The rows.
-    rows: Many<Row>,
+    pub rows: Many<Row>,
     /// The rows of the case.
-    tests: Many<Row>,
+    pub tests: Many<Row>,
     /// The form of each column.
-    forms: Many<Form>,
+    pub forms: Many<Form>,
 }
 
 /// Rows, rows of a case and forms, where the rows can be updated by these.
-fn update_in(alloc: Global, rows: &str, tests: &str, forms: &str) -> Result<Option<Update>, Memory>
+pub fn update_in(
+    alloc: Global,
+    rows: &str,
+    tests: &str,
+    forms: &str,
+) -> Result<Option<Update>, Memory>
     ensures poly { IfOk result (λ o. IfSome o (λ u. IsPoly u.rows)) }
     ensures width { IfOk result (λ o. IfSome o (λ u. All (λ r. length r.coefficients ≡ length u.forms) u.rows)) }
     ensures forms { IfOk result (λ o. IfSome o (λ u. All (λ f. length f.coefficients ≡ forms_width u.forms) u.forms)) }
@@ -270,7 +275,7 @@ fn met_text(rows: &Many<Row>, point: &Many<i128>) -> &'static str {
 }
 
 /// All control states, or none of them.
-fn constant(alloc: Global, truth: bool) -> Frozen
+pub fn all_or_none(alloc: Global, truth: bool) -> Frozen
     ensures { (variables : ℕ) → IsOrderedOver variables result }
 {
     Frozen {
@@ -284,8 +289,8 @@ fn control_in(alloc: Global, text: &str) -> Option<Frozen>
     ensures { IfSome result (λ set. (variables : ℕ) → IsOrderedOver variables set) }
 {
     match text {
-        "all" => Some(constant(alloc, true)),
-        "none" => Some(constant(alloc, false)),
+        "all" => Some(all_or_none(alloc, true)),
+        "none" => Some(all_or_none(alloc, false)),
         _ => None,
     }
 }
@@ -302,17 +307,17 @@ fn posted(alloc: Global, fields: &str) -> Result<Option<String>, Memory> {
     };
     let Update { rows, tests, forms } = update;
     let value = Abstract {
-        control: constant(alloc, true),
+        control: all_or_none(alloc, true),
         poly: Poly { rows },
     };
     let case = Case {
-        condition: constant(alloc, true),
+        condition: all_or_none(alloc, true),
         tests: Many::new(alloc),
         rows: tests,
         updates: forms,
         observer: true,
     };
-    let found = value.post(alloc, &case, constant(alloc, true))?;
+    let found = value.post(alloc, &case, all_or_none(alloc, true))?;
     told_at(alloc, &found.poly.rows, points)
 }
 

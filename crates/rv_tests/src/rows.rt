@@ -1,10 +1,13 @@
 //! A row of the table: what kind of text it is, the text, and what is answered on it.
 
+use crate::accelerated::accelerated;
 use crate::cased::cased;
 use crate::causes::ordered;
+use crate::covered::covered;
 use crate::diagrams::diagram;
 use crate::linear::linear;
 use crate::outside::outside;
+use crate::partitions::partitioned;
 use crate::places::remembered;
 use crate::polyhedra::polyhedral;
 use crate::probed::probed;
@@ -41,6 +44,7 @@ pub fn answer(alloc: Global, row: &str) -> Result<String, Memory> {
     }
     let found = match kind {
         "diagram" => diagram(alloc, fields)?,
+        "cover" => covered(alloc, fields)?,
         _ => on_call(alloc, kind, fields)?,
     };
     match found {
@@ -63,7 +67,11 @@ fn on_call(alloc: Global, kind: &str, fields: &str) -> Result<Option<String>, Me
     if let Some(text) = polyhedral(alloc, kind, fields)? {
         return Ok(Some(text));
     }
-    ran(alloc, kind, fields)
+    match kind {
+        "accelerate" => accelerated(alloc, fields),
+        "partition" => partitioned(alloc, fields),
+        _ => ran(alloc, kind, fields),
+    }
 }
 
 /// The answer on a text, or a part of one, of one of these kinds:
