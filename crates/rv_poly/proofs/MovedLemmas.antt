@@ -1,18 +1,17 @@
 -- Rows moved by the constants of updates.
-use Rattle.std.proofs.Common.{◌≡◌, ◌⊎◌, ℕ, zero, suc, ◌+◌, ◌*◌, ◌≤◌, ◌<◌, ◌^◌, ℤ, pos, ◌+ℤ◌, ◌-ℤ◌, ◌*ℤ◌, ◌≤ℤ◌, List, [], ◌∷◌, ◌++◌, length, map}
+use Rattle.std.proofs.Common.{◌≡◌, ◌⊎◌, ℕ, zero, suc, ◌+◌, ◌*◌, ◌≤◌, ◌<◌, ◌^◌, ℤ, pos, ◌+ℤ◌, ◌-ℤ◌, ◌*ℤ◌, ◌≤ℤ◌, List, [], ◌∷◌, length, map}
 use Rattle.std.proofs.Common.{take, get_or, slice_get, add-one}
 use Rattle.std.proofs.Common.{All, Option, Some, None, MatchOption, arith, refl, ap, sym, ◌∙◌, subst, inl, inr}
 use Rattle.std.proofs.{Math.Seq.take-length, lemmas.Int.ints, lemmas.Bool.cases_lt, lemmas.Option.get_or_from_slice_get}
-use Rattle.std.proofs.lemmas.List.{length-map, length_push, get_or-map, get_or_default, get_or_past}
-use Rattle.std.proofs.lemmas.List.Elements.{All-nil, All-push, All-contains, Contains-get_or, Contains-append_left, Contains-push}
-use Rattle.std.specs.{List.Contains, Int.RustNames.unsigned_abs}
+use Rattle.std.proofs.lemmas.List.{length-map, get_or-map, get_or_past}
+use Rattle.std.specs.{Int.RustNames.unsigned_abs}
 use Rattle.rv_rows.specs.{declared.linear.Row.Row, declared.linear.Form.Form, Rows.dot, Rows.Holds, Rows.coefficient, Tight.Fits}
 use Rattle.rv_rows.specs.Forms.{number, value, values}
 use Rattle.rv_rows.proofs.RowLemmas.{dot-cons, dot-none, get_or-tail, tail_of}
 use Rattle.rv_poly.specs.{Points.HasPoint, Images.IsImage, Images.AreMoves, Images.IsNarrow, Images.StaysWithin, Images.IsCut, Polys.IsPoly}
-use Rattle.rv_poly.specs.Moves.{IsOwnPlus, IsMoved, CanMove, IsMovedRow, IsMovedAdded, AreMoved}
-use Rattle.rv_poly.proofs.ImageLemmas.{back, length-back, back-at, dot-back, dot-agree, dot-comm, dot-unit, image-of}
-use Rattle.rv_poly.proofs.ListLemmas.{one_width}
+use Rattle.rv_poly.specs.Moves.{IsOwnPlus, IsMoved, CanMove, AreMoved}
+use Rattle.rv_poly.proofs.ImageLemmas.{back, back-at, dot-back, dot-agree, dot-comm, dot-unit, image-of}
+use Rattle.rv_poly.proofs.{ListLemmas.one_width, CarriedLemmas.carried-all, CarriedLemmas.carried-back}
 
 none_form : Form
 none_form = record { coefficients = []; constant = pos 0 }
@@ -120,37 +119,35 @@ pub cut-fits-moved : (updates : List Form) (old cut : Row) (bound : ℤ) → Fit
     → Fits (record { coefficients = cut.coefficients; bound = bound })
 cut-fits-moved updates old cut bound f h = record { coefficients = f.coefficients; bound = rw h.0 h.1.stays }
 
--- one more row
-pub moved-more : (updates : List Form) (rows : List Row) (n : ℕ) (d : Row) (old new : List Row) → n < length rows → AreMoved updates rows n old
-    → IsMovedAdded updates (get_or rows n d) old new → AreMoved updates rows (n + 1) new
-moved-more updates rows n d old new l m (inl x) = rw x.new_is (record {
-  few = let a = m.few in let b = length_push old x.row in omega arith;
-  fits = All-push Fits old x.row m.fits x.fits;
-  from = All-push (λ s. (r : Row) × Contains rows r × IsMoved updates r s) old x.row m.from (get_or rows n d, Contains-get_or rows n d l, x.moved);
-  kept = λ i e j k can. go i e k can (cases_lt i n) j;
-})
-  where
-    go : (i : ℕ) (e : Row) → i < length rows → CanMove updates (get_or rows i e) → (i < n) ⊎ (n ≤ i) → i < n + 1
-        → (s : Row) × Contains (old ++ x.row ∷ []) s × IsMoved updates (get_or rows i e) s
-    go i e k can (inl b) j = let y = m.kept i e b k can in (y.0, Contains-append_left old (x.row ∷ []) (y.0) (y.1), y.2)
-    go i e k can (inr b) j =
-        let same : i ≡ n = omega arith in
-        let row : get_or rows i e ≡ get_or rows n d = ap (λ q. get_or rows q e) same ∙ get_or_default rows n e d l in
-        (x.row, Contains-push old x.row, subst (λ (q : Row). IsMoved updates q x.row) (sym row) x.moved)
-moved-more updates rows n d old new l m (inr x) = rw x.1 (record {
-  few = let a = m.few in omega arith;
-  fits = m.fits;
-  from = m.from;
-  kept = λ i e j k can. go i e k can (cases_lt i n) j;
-})
-  where
-    go : (i : ℕ) (e : Row) → i < length rows → CanMove updates (get_or rows i e) → (i < n) ⊎ (n ≤ i) → i < n + 1
-        → (s : Row) × Contains old s × IsMoved updates (get_or rows i e) s
-    go i e k can (inl b) j = m.kept i e b k can
-    go i e k can (inr b) j =
-        let same : i ≡ n = omega arith in
-        let row : get_or rows i e ≡ get_or rows n d = ap (λ q. get_or rows q e) same ∙ get_or_default rows n e d l in
-        absurd (x.0 (subst (λ (q : Row). CanMove updates q) row can))
+-- the updated point of moves, with the constants taken off again, has the numbers of the point
+module _ (updates : List Form) (moves : AreMoves updates) (point : List ℤ) where
+  new_size : length (values updates point) ≡ length updates
+  new_size = length-map updates (λ f. value f point)
+
+  pub back-values : (k : ℕ) → k < length updates → number k (back (values updates point) updates) ≡ number k point
+  back-values k l =
+      let move = moves k none_form l in
+      let there : number k (values updates point) ≡ value (get_or updates k none_form) point =
+      get_or-map (λ f. value f point) updates k none_form (pos 0) l in
+      let picked : dot (get_or updates k none_form).coefficients point ≡ number k point = dot-comm (get_or updates k none_form).coefficients point
+      ∙ dot-unit (get_or updates k none_form).coefficients point k (move.0) (move.1) in
+      apart (number k (back (values updates point) updates)) (number k (values updates point)) (get_or updates k none_form).constant
+      (dot (get_or updates k none_form).coefficients point) (number k point)
+      (back-at (values updates point) updates k none_form (let e = new_size in omega arith) l) there picked
+    where
+      apart : (v n c w x : ℤ) → v ≡ n -ℤ c → n ≡ w +ℤ c → w ≡ x → v ≡ x
+      apart v n c w x e f g = omega (arith, ints)
+
+  -- moves add to a sum that of their constants
+  pub dot-values : (cs : List ℤ) → length cs ≤ length updates → dot cs (values updates point) ≡ dot cs point +ℤ dot cs (map (λ f. f.constant) updates)
+  dot-values cs l =
+      let before : dot cs (back (values updates point) updates) ≡ dot cs point = dot-comm cs (back (values updates point) updates)
+      ∙ dot-agree cs (back (values updates point) updates) point (λ k m. back-values k (omega arith)) ∙ dot-comm point cs in
+      apart (dot cs (back (values updates point) updates)) (dot cs (values updates point)) (dot cs (map (λ f. f.constant) updates)) (dot cs point)
+      (dot-back cs (values updates point) updates new_size) before
+    where
+      apart : (v n t w : ℤ) → v ≡ n -ℤ t → v ≡ w → n ≡ w +ℤ t
+      apart v n t w e f = omega (arith, ints)
 
 -- a moved row at the updated points of moves
 module _ (updates : List Form) (r s : Row) (m : IsMoved updates r s) where
@@ -166,49 +163,26 @@ module _ (updates : List Form) (r s : Row) (m : IsMoved updates r s) where
       finish v n t b q u e f g h = omega (arith, ints)
 
   module _ (moves : AreMoves updates) (point : List ℤ) where
-    new_size : length (values updates point) ≡ length updates
-    new_size = length-map updates (λ f. value f point)
-
-    read : (k : ℕ) → k < length updates → number k (back (values updates point) updates) ≡ number k point
-    read k l =
-        let move = moves k none_form l in
-        let there : number k (values updates point) ≡ value (get_or updates k none_form) point =
-        get_or-map (λ f. value f point) updates k none_form (pos 0) l in
-        let picked : dot (get_or updates k none_form).coefficients point ≡ number k point = dot-comm (get_or updates k none_form).coefficients point
-        ∙ dot-unit (get_or updates k none_form).coefficients point k (move.0) (move.1) in
-        apart (number k (back (values updates point) updates)) (number k (values updates point)) (get_or updates k none_form).constant
-        (dot (get_or updates k none_form).coefficients point) (number k point)
-        (back-at (values updates point) updates k none_form (let e = new_size in omega arith) l) there picked
-      where
-        apart : (v n c w x : ℤ) → v ≡ n -ℤ c → n ≡ w +ℤ c → w ≡ x → v ≡ x
-        apart v n c w x e f g = omega (arith, ints)
-
     pub moved-forth : Holds r point → Holds s (values updates point)
     moved-forth h =
-        let before : dot s.coefficients (back (values updates point) updates) ≡ dot s.coefficients point =
-        dot-comm s.coefficients (back (values updates point) updates)
-        ∙ dot-agree s.coefficients (back (values updates point) updates) point (λ k l. read k (let e = m.size in omega arith))
-        ∙ dot-comm point s.coefficients in
-        finish (dot s.coefficients (back (values updates point) updates)) (dot s.coefficients (values updates point)) (dot s.coefficients point)
-        (dot r.coefficients point) (dot s.coefficients (map (λ f. f.constant) updates)) (dot r.coefficients (map (λ f. f.constant) updates)) r.bound s.bound
-        (dot-back s.coefficients (values updates point) updates new_size) before (same-dot point) (same-dot (map (λ f. f.constant) updates)) m.bound h
+        let sum = dot-values updates moves point s.coefficients (let e = m.size in omega arith) in
+        finish (dot s.coefficients (values updates point)) (dot s.coefficients point) (dot s.coefficients (map (λ f. f.constant) updates))
+        (dot r.coefficients point) (dot r.coefficients (map (λ f. f.constant) updates)) r.bound s.bound sum (same-dot point)
+        (same-dot (map (λ f. f.constant) updates)) m.bound h
       where
-        finish : (v n w x t u b q : ℤ) → v ≡ n -ℤ t → v ≡ w → w ≡ x → t ≡ u → q ≡ b +ℤ u → x ≤ℤ b → n ≤ℤ q
-        finish v n w x t u b q e f g i j h = omega (arith, ints)
+        finish : (n w t x u b q : ℤ) → n ≡ w +ℤ t → w ≡ x → t ≡ u → q ≡ b +ℤ u → x ≤ℤ b → n ≤ℤ q
+        finish n w t x u b q e f g i h = omega (arith, ints)
 
 module _ (updates : List Form) (rows new : List Row) (m : AreMoved updates rows (length rows) new) (moves : AreMoves updates) where
   pub moved-contains : (point : List ℤ) → IsImage rows updates point → HasPoint new point
-  moved-contains point i k d l =
-      let f = m.from k d l in
-      subst (λ (x : List ℤ). Holds (get_or new k d) x) (sym i.updated)
-      (moved-forth updates (f.0) (get_or new k d) (f.2) moves i.point (All-contains (λ q. Holds q i.point) rows (f.0) i.has (f.1)))
+  moved-contains point i = subst (HasPoint new) (sym i.updated) (carried-all (CanMove updates) (IsMoved updates) (λ r. Holds r i.point)
+      (λ s. Holds s (values updates i.point)) rows new m (λ r s k h. moved-forth updates r s k moves i.point h) i.has)
 
   pub moved-exact : All (IsNarrow (length updates)) rows → All (StaysWithin updates) rows → (point : List ℤ) → length point ≡ length updates
       → HasPoint new point → IsImage rows updates point
   moved-exact narrow stays point size h =
-      image-of rows updates moves point size (λ i d l.
-      let k = m.kept i d l l (record { narrow = narrow i d l; stays = stays i d l }) in
-      moved-back updates (get_or rows i d) (k.0) (k.2) point size (All-contains (λ q. Holds q point) new (k.0) h (k.1)))
+      image-of rows updates moves point size (carried-back (CanMove updates) (IsMoved updates) (λ r. Holds r (back point updates)) (λ s. Holds s point)
+      rows new m (λ i d l. record { narrow = narrow i d l; stays = stays i d l }) (λ r s k g. moved-back updates r s k point size g) h)
 
 -- moved rows are those of a polyhedron
 pub moved-width : (updates : List Form) (rows new : List Row) (n : ℕ) → AreMoved updates rows n new → All (λ r. length r.coefficients ≡ length updates) new
@@ -219,12 +193,4 @@ moved-poly updates rows new n few m = record {
   widths = one_width (length updates) new (moved-width updates rows new n m);
   fits = m.fits;
   few = let a = m.few in omega arith;
-}
-
-pub moved-none : (updates : List Form) (rows : List Row) → AreMoved updates rows 0 []
-moved-none updates rows = record {
-  few = omega arith;
-  fits = All-nil Fits;
-  from = All-nil (λ s. (r : Row) × Contains rows r × IsMoved updates r s);
-  kept = λ i e j k can. absurd (omega arith);
 }

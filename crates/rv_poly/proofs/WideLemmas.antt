@@ -1,5 +1,5 @@
 -- Sums in two parts.
-use Rattle.std.proofs.Common.{◌≡◌, ℕ, ◌+◌, ◌*◌, ◌≤◌, ◌<◌, ◌^◌, ℤ, pos, ◌+ℤ◌, ◌*ℤ◌, ◌≤ℤ◌, ◌<ℤ◌, FitsSigned, arith, ap, sym, ◌∙◌}
+use Rattle.std.proofs.Common.{◌≡◌, ◌+◌, ◌*◌, ◌≤◌, ◌<◌, ◌^◌, ℤ, pos, ◌+ℤ◌, ◌*ℤ◌, ◌≤ℤ◌, ◌<ℤ◌, FitsSigned, arith, ap, sym, ◌∙◌}
 use Rattle.std.proofs.{Math.Nat.mul-le-mul, lemmas.Int.ints, lemmas.Int.unsigned_abs-mul, lemmas.Int.fits_signed_from_abs}
 use Rattle.std.specs.{Int.w128, Int.RustNames.unsigned_abs}
 use Rattle.rv_rows.proofs.IntLemmas.{mul_add, mul_comm_int, mul_assoc_int, abs-add}

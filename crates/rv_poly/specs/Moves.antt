@@ -1,8 +1,7 @@
 -- Rows moved by the constants of updates, and sums of any size in two parts.
-use Rattle.std.specs.Prelude.{◌≡◌, ◌⊎◌, ℕ, ◌<◌, ◌≤◌, ◌^◌, ℤ, pos, ◌+ℤ◌, ◌*ℤ◌, ◌≤ℤ◌, ◌<ℤ◌, List, [], ◌∷◌, ◌++◌, length, map, All, slice_index_or}
-use Rattle.std.specs.List.{Contains}
-use Rattle.rv_rows.specs.{declared.linear.Row.Row, declared.linear.Form.Form, Forms.number, Rows.coefficient, Rows.dot, Tight.Fits}
-use Rattle.rv_poly.specs.{Images.IsNarrow, Images.StaysWithin, declared.wide.Wide.Wide}
+use Rattle.std.specs.Prelude.{◌≡◌, ℕ, ◌^◌, ℤ, pos, ◌+ℤ◌, ◌*ℤ◌, ◌≤ℤ◌, ◌<ℤ◌, List, length, map}
+use Rattle.rv_rows.specs.{declared.linear.Row.Row, declared.linear.Form.Form, Forms.number, Rows.coefficient, Rows.dot}
+use Rattle.rv_poly.specs.{Images.IsNarrow, Images.StaysWithin, Carried.IsCarriedAdded, Carried.AreCarried, declared.wide.Wide.Wide}
 
 -- what a sum in two parts is: the high part times 2^96, plus the low part
 abbrev pub whole_of : Wide → ℤ
@@ -28,21 +27,10 @@ pub record CanMove (updates : List Form) (r : Row) : Type 0 where
   pub narrow : IsNarrow (length updates) r
   pub stays : StaysWithin updates r
 
--- A row within the limits, the given one moved, is added.
-pub record IsMovedRow (updates : List Form) (r : Row) (old new : List Row) : Type 0 where
-  pub row : Row
-  pub moved : IsMoved updates r row
-  pub fits : Fits row
-  pub new_is : new ≡ old ++ row ∷ []
-
--- That is so where the row can be moved, and else nothing is added.
+-- A row that can be moved is added, moved, and another is not.
 abbrev pub IsMovedAdded : List Form → Row → List Row → List Row → Type 0
-IsMovedAdded updates r old new = IsMovedRow updates r old new ⊎ ((¬ CanMove updates r) × (new ≡ old))
+IsMovedAdded updates r old new = IsCarriedAdded (CanMove updates) (IsMoved updates) r old new
 
 -- Of the first n rows those that can be moved are there, moved, and each row that is there is one of the rows, moved.
-pub record AreMoved (updates : List Form) (old : List Row) (n : ℕ) (new : List Row) : Type 0 where
-  pub few : length new ≤ n
-  pub fits : All Fits new
-  pub from : All (λ s. (r : Row) × Contains old r × IsMoved updates r s) new
-  pub kept : (i : ℕ) (d : Row) → i < n → i < length old → CanMove updates (slice_index_or old i d)
-      → (s : Row) × Contains new s × IsMoved updates (slice_index_or old i d) s
+abbrev pub AreMoved : List Form → List Row → ℕ → List Row → Type 0
+AreMoved updates old n new = AreCarried (CanMove updates) (IsMoved updates) old n new

@@ -127,7 +127,7 @@ fn are_all_small(forms: &Many<Form>) -> bool
 }
 
 /// Whether all numbers of the forms, and how many forms there are, are within the limits of updates.
-fn are_updates(updates: &Many<Form>) -> bool
+pub fn are_updates(updates: &Many<Form>) -> bool
     requires { All (λ f. length f.coefficients ≡ forms_width updates.now) updates.now }
     ensures { MatchBool result (AreUpdates updates.now) (¬ (AreUpdates updates.now)) }
 {

@@ -51,7 +51,7 @@ pub fn are_moves(updates: &Many<Form>) -> bool
 }
 
 /// Whether the row has no coefficient from a column on.
-fn is_narrow(row: &Row, width: usize) -> bool
+pub fn is_narrow(row: &Row, width: usize) -> bool
     ensures { MatchBool result (IsNarrow width row.now) (¬ IsNarrow width row.now) }
 {
     for column in 0..row.coefficients.len() {
@@ -78,7 +78,7 @@ fn wide_bound(row: &Row, updates: &Many<Form>) -> Wide
 }
 
 /// The moved bound of the row, where it is within the limit of a kept row.
-fn near_bound(row: &Row, updates: &Many<Form>) -> Option<i128>
+pub fn near_bound(row: &Row, updates: &Many<Form>) -> Option<i128>
     requires { Fits row.now }
     ensures { MatchOption result (¬ StaysWithin updates.now row.now)
         (λ z. (z ≡ row.now.bound +ℤ dot row.now.coefficients (map (λ f. f.constant) updates.now)) × StaysWithin updates.now row.now) }

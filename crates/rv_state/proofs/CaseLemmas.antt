@@ -1,15 +1,16 @@
--- Successors by a case of a system, and the answers that hold them.
+-- Successors and predecessors by a case of a system, and the answers that hold them.
 use Rattle.std.proofs.Common.{◌≡◌, ◌⊎◌, ℕ, zero, suc, ◌+◌, ◌-◌, ◌≤◌, ◌<◌, ℤ, List, [], ◌∷◌, ◌++◌, length, All, Option, Some, None, arith, refl, ap, sym}
 use Rattle.std.proofs.Common.{◌∙◌, subst, inl, inr}
 use Rattle.std.proofs.lemmas.List.{length-append, length_push, get_or_append_left, get_or_push}
 use Rattle.std.proofs.{lemmas.Bool.cases_lt, lemmas.List.Elements.All-nil, lemmas.List.Elements.All-push, lemmas.List.Elements.All-append}
 use Rattle.rv_diagram.specs.{Nodes.Valuation, declared.frozen.Frozen.Frozen}
 use Rattle.rv_rows.specs.{declared.linear.Row.Row, declared.linear.Form.Form, Rows.Holds, Forms.values, Tight.Fits}
-use Rattle.rv_poly.specs.{Points.HasPoint, Images.IsImage as IsImagePoint, Images.AreMoves, Images.IsNarrow, Images.StaysWithin}
+use Rattle.rv_poly.specs.{Points.HasPoint, Images.IsImage as IsImagePoint, Images.AreMoves, Images.IsNarrow, Images.StaysWithin, Befores.IsBefore}
 use Rattle.rv_proofs.specs.Systems.{System, IsSystem, Agrees, rows_among, held_row}
-use Rattle.rv_proofs.specs.{Scopes.IsIn, Cases.IsCaseOf, Cases.IsImage, declared.report.Case.Case}
+use Rattle.rv_proofs.specs.{Scopes.IsIn, Cases.IsCaseOf, Cases.IsImage, Cases.IsPreimage, declared.report.Case.Case}
 use Rattle.rv_proofs.proofs.{CaseRows.case_rows, Claims.updates_long}
 use Rattle.rv_state.specs.{declared.value.Abstract.Abstract, States.HasState, States.IsUpdated, States.IsMove, States.IsSuccessor}
+use Rattle.rv_state.specs.Predecessors.{IsPredecessor}
 use Rattle.rv_state.proofs.PointLemmas.{image-updated}
 
 -- the rows of a valuation hold at a point exactly where each row of a test does
@@ -48,6 +49,11 @@ module _ (s : System) (c : Case) (of : IsCaseOf s c) where
   count : length c.updates ≡ s.memories
   count = ap length (sym (of.updates of.some.0 of.some.1)) ∙ updates_long s of.some.0 s.memories
 
+  -- a point that agrees with a valuation of the case meets its rows
+  pub case-meets : (v : Valuation) → IsIn c.condition v → (point : List ℤ) → Agrees s v point → HasPoint c.rows point
+  case-meets v inside point agrees =
+      subst (λ (rows : List Row). HasPoint rows point) (case_rows s c v of inside) (rows-hold s v point agrees s.tests (omega arith))
+
   module _ (a : Abstract) (image : Frozen) (p : List Row) (im : IsImage s a.control c image) where
     -- successors are in the answer
     pub successor-there : ((inputs : ℕ) (new : List ℤ) → IsUpdated a.poly.rows c inputs new → HasPoint p new)
@@ -60,8 +66,7 @@ module _ (s : System) (c : Case) (of : IsCaseOf s c) where
         size = x.size ∙ sym count;
         count = refl;
         has = x.state.rows;
-        meets = subst (λ (rows : List Row). HasPoint rows (x.point ++ x.inputs)) (case_rows s c x.valuation of x.inside)
-            (rows-hold s x.valuation (x.point ++ x.inputs) x.agrees s.tests (omega arith));
+        meets = case-meets x.valuation x.inside (x.point ++ x.inputs) x.agrees;
         updated = x.updated ∙ ap (λ (us : List Form). values us (x.point ++ x.inputs)) (of.updates x.valuation x.inside);
       }),
     )
@@ -89,6 +94,43 @@ module _ (s : System) (c : Case) (of : IsCaseOf s c) where
           updated = u.updated ∙ ap (λ (us : List Form). values us (u.point ++ u.further)) (sym (of.updates from.0 from.2));
         }
 
+  module _ (a : Abstract) (preimage : Frozen) (p : List Row) (im : IsPreimage s a.control c preimage) where
+    -- predecessors are in the answer
+    pub predecessor-there : ((inputs : ℕ) (point : List ℤ) → IsBefore a.poly.rows c.rows c.updates inputs point → HasPoint p point)
+        → (w : Valuation) (point : List ℤ) → IsPredecessor s a c w point → IsIn preimage w × HasPoint p point
+    predecessor-there contains w point x = (
+      (im.exact w).1 (x.valuation, x.same, x.inside, x.leads),
+      contains (length x.inputs) point (record {
+        size = x.size ∙ sym count;
+        further = x.inputs;
+        count = refl;
+        meets = case-meets x.valuation x.inside (point ++ x.inputs) x.agrees;
+        after = subst (λ (us : List Form). HasPoint a.poly.rows (values us (point ++ x.inputs))) (of.updates x.valuation x.inside) x.after;
+      }),
+    )
+
+    -- and where it has no other points, each state of the answer is a predecessor
+    pub predecessor-of : IsSystem s
+        → ((inputs : ℕ) (point : List ℤ) → length point ≡ length c.updates → HasPoint p point → IsBefore a.poly.rows c.rows c.updates inputs point)
+        → (w : Valuation) (point : List ℤ) → length point ≡ s.memories → IsIn preimage w → HasPoint p point → IsPredecessor s a c w point
+    predecessor-of is exact w point size inside has =
+        let from = (im.exact w).0 inside in
+        let u = exact (s.columns - s.memories) point (size ∙ sym count) has in
+        record {
+          valuation = from.0;
+          inputs = u.further;
+          same = from.1;
+          inside = from.2;
+          leads = from.3;
+          size = size;
+          agrees = record {
+            size = let e = length-append point u.further in let g = u.count in let h = is.few_memories in omega arith;
+            rows = tests-hold s from.0 (point ++ u.further) s.tests
+                (subst (λ (rows : List Row). HasPoint rows (point ++ u.further)) (sym (case_rows s c from.0 of from.2)) u.meets);
+          };
+          after = subst (λ (us : List Form). HasPoint a.poly.rows (values us (point ++ u.further))) (sym (of.updates from.0 from.2)) u.after;
+        }
+
 -- in the words of the call: where its answer has no point but images of the rows together, it has only updated points
 pub only-updated : (own p : List Row) (c : Case) → All (λ r. length r.coefficients ≡ length c.updates) own
     → (AreMoves c.updates → All (IsNarrow (length c.updates)) c.rows → All Fits c.rows → All (StaysWithin c.updates) (own ++ c.rows)
@@ -111,3 +153,19 @@ pub successors-only : (s : System) (a b : Abstract) (c : Case) (image : Frozen) 
 successors-only s a b c image p is of im control rows exact w new size h =
     successor-of s c of a image p im is exact w new size (subst (λ (f : Frozen). IsIn f w) control h.control)
     (subst (λ (rs : List Row). HasPoint rs new) rows h.rows)
+
+pub predecessors-there : (s : System) (a b : Abstract) (c : Case) (preimage : Frozen) (p : List Row) → IsCaseOf s c → IsPreimage s a.control c preimage
+    → b.control ≡ preimage → b.poly.rows ≡ p
+    → ((inputs : ℕ) (point : List ℤ) → IsBefore a.poly.rows c.rows c.updates inputs point → HasPoint p point)
+    → (w : Valuation) (point : List ℤ) → IsPredecessor s a c w point → HasState b w point
+predecessors-there s a b c preimage p of im control rows contains w point x =
+    let h = predecessor-there s c of a preimage p im contains w point x in
+    record { control = subst (λ (f : Frozen). IsIn f w) (sym control) h.0; rows = subst (λ (rs : List Row). HasPoint rs point) (sym rows) h.1 }
+
+pub predecessors-only : (s : System) (a b : Abstract) (c : Case) (preimage : Frozen) (p : List Row) → IsSystem s → IsCaseOf s c
+    → IsPreimage s a.control c preimage → b.control ≡ preimage → b.poly.rows ≡ p
+    → ((inputs : ℕ) (point : List ℤ) → length point ≡ length c.updates → HasPoint p point → IsBefore a.poly.rows c.rows c.updates inputs point)
+    → (w : Valuation) (point : List ℤ) → length point ≡ s.memories → HasState b w point → IsPredecessor s a c w point
+predecessors-only s a b c preimage p is of im control rows exact w point size h =
+    predecessor-of s c of a preimage p im is exact w point size (subst (λ (f : Frozen). IsIn f w) control h.control)
+    (subst (λ (rs : List Row). HasPoint rs point) rows h.rows)

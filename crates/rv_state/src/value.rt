@@ -6,11 +6,13 @@ ghost use Rattle.rv_rows.specs.Forms.{forms_width};
 ghost use Rattle.rv_rows.specs.Multipliers.{ShowsAtOnce};
 ghost use Rattle.rv_poly.specs.Points.{HasPoint, Covers};
 ghost use Rattle.rv_poly.specs.Polys.{IsPoly, HaveOneWidth};
+ghost use Rattle.rv_poly.specs.Befores.{IsBefore, IsBackMove};
 ghost use Rattle.rv_proofs.specs.Systems.{System, IsSystem};
 ghost use Rattle.rv_proofs.specs.Scopes.{IsIn};
 ghost use Rattle.rv_proofs.specs.Ranges.{IsControlSet};
-ghost use Rattle.rv_proofs.specs.Cases.{IsCaseOf, IsImage};
+ghost use Rattle.rv_proofs.specs.Cases.{IsCaseOf, IsImage, IsPreimage};
 ghost use Rattle.rv_state.specs.States.{HasState, IsUpdated, IsMove, IsSuccessor};
+ghost use Rattle.rv_state.specs.Predecessors.{IsPredecessor};
 
 use crate::polys::{is_included, joined};
 use crate::sets::{is_within, union_of};
@@ -56,6 +58,38 @@ impl Abstract {
         let poly = self.poly.after(alloc, &case.rows, &case.updates)?;
         Ok(Abstract {
             control: image,
+            poly,
+        })
+    }
+
+    /// The states before a case: the control set that is handed in, and a polyhedron with each point that, with some whole inputs, meets the
+    /// rows of the case, and whose updated point is one of its own; the case has one update for each column of the own rows. With the preimage
+    /// of the own control set by the case it so has every predecessor. Where each update is its own column plus a constant, the rows of the
+    /// case have no input, and they, and the own rows moved by the negatives of the constants, are within the limits of kept rows and at most
+    /// 1,024, it has no other points, and with the preimage no other states, whatever the size of the constants. The only error is want of
+    /// memory.
+    pub fn pre(&self, alloc: Global, case: &Case, preimage: Frozen) -> Result<Abstract, Memory>
+        requires poly { IsPoly self.now.poly.rows }
+        requires width { All (λ r. length r.coefficients ≡ length case.now.updates) self.now.poly.rows }
+        requires updates { All (λ f. length f.coefficients ≡ forms_width case.now.updates) case.now.updates }
+        ensures control { IfOk result (λ a. a.control ≡ preimage) }
+        ensures poly { IfOk result (λ a. IsPoly a.poly.rows) }
+        ensures few { IfOk result (λ a. length a.poly.rows ≤ 1024) }
+        ensures width { IfOk result (λ a. All (λ r. length r.coefficients ≡ length case.now.updates) a.poly.rows) }
+        ensures contains { IfOk result (λ a. (inputs : ℕ) (point : List ℤ)
+            → IsBefore self.now.poly.rows case.now.rows case.now.updates inputs point → HasPoint a.poly.rows point) }
+        ensures exact { IfOk result (λ a. IsBackMove self.now.poly.rows case.now.rows case.now.updates → (inputs : ℕ) (point : List ℤ)
+            → length point ≡ length case.now.updates → HasPoint a.poly.rows point
+            → IsBefore self.now.poly.rows case.now.rows case.now.updates inputs point) }
+        ensures predecessors { IfOk result (λ a. (s : System) → IsCaseOf s case.now → IsPreimage s self.now.control case.now preimage
+            → (w : Valuation) (point : List ℤ) → IsPredecessor s self.now case.now w point → HasState a w point) }
+        ensures only { IfOk result (λ a. (s : System) → IsSystem s → IsCaseOf s case.now → IsPreimage s self.now.control case.now preimage
+            → IsBackMove self.now.poly.rows case.now.rows case.now.updates → (w : Valuation) (point : List ℤ) → length point ≡ s.memories
+            → HasState a w point → IsPredecessor s self.now case.now w point) }
+    {
+        let poly = self.poly.before(alloc, &case.rows, &case.updates)?;
+        Ok(Abstract {
+            control: preimage,
             poly,
         })
     }

@@ -1,4 +1,4 @@
-use Rattle.std.proofs.Common.{length, arith}
+use Rattle.std.proofs.Common.{arith}
 use Rattle.rv_poly.proofs.MovedLemmas.{moves-more, moves-not, moves-all}
 use Rattle.rv_poly.proofs.moving.are_moves.Goals as goal
 

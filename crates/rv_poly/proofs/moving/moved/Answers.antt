@@ -1,11 +1,11 @@
 use Rattle.std.proofs.Common.{◌≡◌, ℕ, ◌<◌, ap, ◌∙◌, arith, length, get_or, subst}
 use Rattle.rv_rows.specs.declared.linear.Row.{Row}
-use Rattle.rv_poly.specs.Moves.{IsMovedAdded, AreMoved}
-use Rattle.rv_poly.proofs.MovedLemmas.{moved-more, moved-none, moved-contains, moved-exact}
+use Rattle.rv_poly.specs.Moves.{CanMove, IsMoved, IsMovedAdded, AreMoved}
+use Rattle.rv_poly.proofs.{MovedLemmas.moved-contains, MovedLemmas.moved-exact, CarriedLemmas.carried-none, CarriedLemmas.carried-more}
 use Rattle.rv_poly.proofs.moving.moved.Goals as goal
 
 pub loop-row-init : goal.loop-row-init
-loop-row-init c = rw c.new-new.ensures (moved-none c.args.updates.now c.args.rows.now)
+loop-row-init c = rw c.new-new.ensures (carried-none (CanMove c.args.updates.now) (IsMoved c.args.updates.now) c.args.rows.now)
 
 pub loop-row-preserved : goal.loop-row-preserved
 loop-row-preserved c =
@@ -13,8 +13,8 @@ loop-row-preserved c =
     c.row-item.is ∙ ap (λ l. get_or l c.loop-row.row-index c.row-item.result) c.as_slice-row-items.ensures in
     let inside : c.loop-row.row-index < length c.args.rows.now = omega (arith, ap length c.as_slice-row-items.ensures) in
     let P : Row → Type 0 = λ r. IsMovedAdded c.args.updates.now r c.loop-row.new c.add_moved.new.rows in
-    moved-more c.args.updates.now c.args.rows.now c.loop-row.row-index c.row-item.result c.loop-row.new c.add_moved.new.rows inside c.loop-row.invariant
-    (subst P here c.in_ok-add_moved.ensures)
+    carried-more (CanMove c.args.updates.now) (IsMoved c.args.updates.now) c.args.rows.now c.loop-row.row-index c.row-item.result c.loop-row.new
+    c.add_moved.new.rows inside c.loop-row.invariant (subst P here c.in_ok-add_moved.ensures)
 
 pub returns-clause-rows : goal.returns-clause-rows
 returns-clause-rows c =

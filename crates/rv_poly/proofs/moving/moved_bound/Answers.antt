@@ -1,5 +1,3 @@
-use Rattle.std.proofs.Common.{◌+ℤ◌, map}
-use Rattle.rv_rows.specs.Rows.{dot}
 use Rattle.rv_poly.proofs.MovedLemmas.{can-from, cannot}
 use Rattle.rv_poly.proofs.moving.moved_bound.Goals as goal
 
