@@ -1,6 +1,7 @@
 -- References, questions and covers in a store that grows.
-use Rattle.std.proofs.Common.{◌≡◌, ℕ, ◌<◌, List, [], ◌∷◌, ◌++◌, length, arith, sym, ap, ◌∙◌, subst, ⊎_elim, Some, slice_get, ◌⊎◌, inl}
+use Rattle.std.proofs.Common.{◌≡◌, ℕ, ◌<◌, List, [], ◌∷◌, ◌++◌, length, arith, sym, ap, ◌∙◌, subst, ⊎_elim, Some, slice_get, ◌⊎◌, inl, All}
 use Rattle.std.proofs.Common.{inr}
+use Rattle.std.proofs.lemmas.List.Elements.{All-weaker}
 use Rattle.std.proofs.{lemmas.Bool.cases_lt, lemmas.List.get_or_append_left, lemmas.List.length_push, Math.Seq.get_or-append_seam}
 use Rattle.rv_base.proofs.Lists.{push_cases, none_at}
 use Rattle.rv_diagram.proofs.Growing.{extends_trans}
@@ -10,7 +11,7 @@ use Rattle.rv_proofs.specs.{Systems.System, declared.certificate.Entry.Entry, de
 use Rattle.rv_cases.specs.{declared.asking.Questions.Questions, Conditions.AreRefs}
 use Rattle.rv_cases.proofs.Keeping.{questions_later}
 use Rattle.rv_cover.specs.{declared.frame.Frame.Frame, declared.covering.Cover.Cover, Entries.IsPlainKind, Entries.IsReadable, Entries.IsPlainEntry}
-use Rattle.rv_cover.specs.{Entries.AreShortEntries, Covering.IsCover, Seeking.IsSearched}
+use Rattle.rv_cover.specs.{Entries.AreShortEntries, Covering.IsCover, Seeking.IsSearched, declared.several.Target.Target, Toward.IsTarget}
 
 pub ref_later : (a b : Diagrams) (r : ℕ) → Extends a b → IsRef a.nodes r → IsRef b.nodes r
 ref_later a b r e h = let l = e.longer in omega (arith, l, h)
@@ -49,6 +50,12 @@ cover_later a b f n c e is = record {
   left = ref_later a b c.left e is.left;
   rest = ref_later a b c.rest e is.rest;
 }
+
+pub target_later : (s : System) (a b : Diagrams) (t : Target) → Extends a b → IsTarget s a.nodes t → IsTarget s b.nodes t
+target_later s a b t e is = record { into = ref_later a b t.into e is.into; wanted = is.wanted }
+
+pub targets_later : (s : System) (a b : Diagrams) (ts : List Target) → Extends a b → All (IsTarget s a.nodes) ts → All (IsTarget s b.nodes) ts
+targets_later s a b ts e are = All-weaker (IsTarget s a.nodes) (IsTarget s b.nodes) (λ t is. target_later s a b t e is) ts are
 
 -- one entry more
 pub short_more : (f : Frame) (n : ℕ) (es more : List Entry) (condition : Frozen) (kind : EntryKind) → AreShortEntries f n es → length es < 16384

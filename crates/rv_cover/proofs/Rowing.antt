@@ -114,9 +114,9 @@ dead_found nodes n m by found kind answers is one size = record {
   answers = answers;
 }
 
-pub step_found : (nodes : List Triple) (n m : ℕ) (reach : List Multipliers) (found : Found) → found.kind ≡ Go 1 reach → AreRefs nodes found.answers.items
-    → All (IsRecord m) reach → m ≡ n → IsFound nodes n found
-step_found nodes n m reach found kind answers are size = record {
+pub step_found : (nodes : List Triple) (n m target : ℕ) (reach : List Multipliers) (found : Found) → found.kind ≡ Go target reach
+    → AreRefs nodes found.answers.items → All (IsRecord m) reach → m ≡ n → IsFound nodes n found
+step_found nodes n m target reach found kind answers are size = record {
   kind = subst (IsPlainKind n) (sym kind) (subst (λ (k : ℕ). All (IsRecord k) reach) size are);
   answers = answers;
 }

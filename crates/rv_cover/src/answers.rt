@@ -46,7 +46,8 @@ fn told_row(
     copy_row(alloc, rows.at(place - 1))
 }
 
-/// A row for each test at a valuation.
+/// The row that each test says at a valuation, which has a truth value for each variable: `0 <= 0` where the test is absent. The only error is
+/// want of memory.
 pub fn told_rows(
     alloc: Global,
     store: &Store,
@@ -85,7 +86,7 @@ fn form_at(
     copy_form(alloc, forms.at(place))
 }
 
-/// The form that each memory becomes at a valuation.
+/// The form that each memory becomes at a valuation, which has a truth value for each variable. The only error is want of memory.
 pub fn told_forms(
     alloc: Global,
     store: &Store,
@@ -130,7 +131,8 @@ fn add_if(
     Ok(())
 }
 
-/// The answers that a valuation has to the questions of the tests whose flags are set.
+/// The answers that a valuation, which has a truth value for each variable, has to the questions of the tests whose flags are set in `named`. The
+/// only error is want of memory.
 pub fn test_answers(
     alloc: Global,
     store: &Store,
@@ -161,7 +163,8 @@ fn is_moved(rows: &Many<Row>, memory: usize) -> bool {
     false
 }
 
-/// The answers that a valuation has to the questions of the memories that some row has, after those that are there.
+/// The answers that a valuation, which has a truth value for each variable, has to the questions of the memories that some wanted row has, after
+/// those of `before`. The only error is want of memory.
 pub fn with_updates(
     store: &Store,
     sample: &Many<bool>,

@@ -41,7 +41,7 @@ pub fn copy_form(alloc: Global, form: &Form) -> Result<Form, Memory>
     })
 }
 
-/// The same set.
+/// The same set. The only error is want of memory.
 pub fn copy_set(alloc: Global, set: &Frozen) -> Result<Frozen, Memory>
     ensures { IfOk result (λ f. f ≡ set.now) }
 {

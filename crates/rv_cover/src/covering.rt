@@ -6,6 +6,7 @@ ghost use Rattle.rv_diagram.specs.Nodes.{IsRef, IsOrderedOver};
 ghost use Rattle.rv_diagram.specs.Growing.{Extends};
 ghost use Rattle.rv_proofs.specs.Systems.{System};
 ghost use Rattle.rv_proofs.specs.Ranges.{AreKept};
+ghost use Rattle.rv_cases.specs.Conditions.{AreRefs};
 ghost use Rattle.rv_cover.specs.declared.frame.Frame.{Frame as FrameModel};
 ghost use Rattle.rv_cover.specs.Entries.{IsPlainKind, AreShortEntries};
 ghost use Rattle.rv_cover.specs.Covering.{IsCover};
@@ -80,8 +81,53 @@ fn add_entry(
     }
 }
 
-/// The cover with a step more, at this valuation, or none where the wanted rows are not proved there.
+/// The cover with one entry more: a step that was found, where its answers are given and a step may be taken, which is `into`.
 #[tactic(auto, using(crate::proofs::Chaining::cover_later))]
+pub fn add_found_step(
+    store: &mut Store,
+    frame: &Frame,
+    scope: Ref,
+    into: Ref,
+    found: Found,
+    cover: Cover,
+) -> Result<Option<Cover>, StoreFault>
+    requires scope { IsRef store.old.nodes scope }
+    requires into { IsRef store.old.nodes into }
+    requires answers { AreRefs store.old.nodes found.answers.items }
+    requires left { IsRef store.old.nodes cover.left }
+    requires rest { IsRef store.old.nodes cover.rest }
+    ensures extends { Extends store.old store.new }
+    ensures roomy { IsErrOf result StoreFault.Nodes → store.old.limit < 2 ^ (2 ^ store.old.variables) }
+    ensures cover { (n : ℕ) → IsCover store.old.nodes frame.now n cover → IsPlainKind n found.kind
+        → IfOk result (λ o. IfSome o (IsCover store.new.nodes frame.now n)) }
+{
+    let Found { kind, answers } = found;
+    let condition = step_condition(store, scope, into, answers.as_slice())?;
+    add_entry(store, frame, cover, condition, kind)
+}
+
+/// The cover with one entry more: a dead one that was found, where its answers are given.
+#[tactic(auto, using(crate::proofs::Chaining::cover_later))]
+pub fn add_found_dead(
+    store: &mut Store,
+    frame: &Frame,
+    found: Found,
+    cover: Cover,
+) -> Result<Option<Cover>, StoreFault>
+    requires answers { AreRefs store.old.nodes found.answers.items }
+    requires left { IsRef store.old.nodes cover.left }
+    requires rest { IsRef store.old.nodes cover.rest }
+    ensures extends { Extends store.old store.new }
+    ensures roomy { IsErrOf result StoreFault.Nodes → store.old.limit < 2 ^ (2 ^ store.old.variables) }
+    ensures cover { (n : ℕ) → IsCover store.old.nodes frame.now n cover → IsPlainKind n found.kind
+        → IfOk result (λ o. IfSome o (IsCover store.new.nodes frame.now n)) }
+{
+    let Found { kind, answers } = found;
+    let condition = all_of(store, answers.as_slice())?;
+    add_entry(store, frame, cover, condition, kind)
+}
+
+/// The cover with a step more, at this valuation, or none where the wanted rows are not proved there.
 fn add_step_at(
     alloc: Global,
     store: &mut Store,
@@ -106,11 +152,7 @@ fn add_step_at(
     ensures cover { IfOk result (λ o. IfSome o (IsCover store.new.nodes frame.now (length given.now + length questions.now.rows))) }
 {
     match step_at(alloc, store, frame, sample, questions, lean, given, wanted)? {
-        Some(found) => {
-            let Found { kind, answers } = found;
-            let condition = step_condition(store, scope, safe, answers.as_slice())?;
-            add_entry(store, frame, cover, condition, kind)
-        }
+        Some(found) => add_found_step(store, frame, scope, safe, found, cover),
         None => Ok(None),
     }
 }
@@ -214,7 +256,6 @@ fn add_safe_step(
 }
 
 /// The cover with an entry more, at the least valuation that meets no condition: a dead one, or a step where nothing refutes the premises.
-#[tactic(auto, using(crate::proofs::Chaining::cover_later))]
 fn add_dead(
     alloc: Global,
     store: &mut Store,
@@ -238,11 +279,7 @@ fn add_dead(
 {
     let sample = sample_of(alloc, store, cover.rest)?;
     match dead_at(alloc, store, frame, &sample, questions, lean, given)? {
-        Some(found) => {
-            let Found { kind, answers } = found;
-            let condition = all_of(store, answers.as_slice())?;
-            add_entry(store, frame, cover, condition, kind)
-        }
+        Some(found) => add_found_dead(store, frame, found, cover),
         None => add_safe_step(
             alloc, store, frame, &sample, questions, lean, given, wanted, scope, safe, cover,
         ),
@@ -287,7 +324,7 @@ fn add_dead_entries(
 }
 
 /// The entries of a cover.
-fn entries_in(cover: Option<Cover>) -> Option<Many<Entry>>
+pub fn entries_in(cover: Option<Cover>) -> Option<Many<Entry>>
     ensures { (nodes : List TripleModel) (f : FrameModel) (n : ℕ) → IfSome cover (IsCover nodes f n) → IfSome result (AreShortEntries f n) }
 {
     match cover {

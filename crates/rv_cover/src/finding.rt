@@ -54,7 +54,7 @@ fn dead_by(
 }
 
 /// A dead entry at a valuation by these rows, or none where its premises are not refuted.
-fn dead_from(
+pub fn dead_from(
     alloc: Global,
     store: &Store,
     frame: &Frame,
@@ -76,7 +76,7 @@ fn dead_from(
     }
 }
 
-/// A step into location 1 by what proves the wanted rows, from premises of which the first ones are rows.
+/// A step into a location by what proves the wanted rows, from premises of which the first ones are rows.
 fn step_by(
     alloc: Global,
     store: &Store,
@@ -84,12 +84,13 @@ fn step_by(
     questions: &Questions,
     first: usize,
     wanted: &Many<Row>,
+    target: u32,
     reach: Many<Multipliers>,
 ) -> Result<Found, Memory>
     requires sized { length sample.now ≡ store.now.variables }
     requires answers { HaveAnswers store.now.nodes questions.now }
     requires few { length questions.now.questions < 2 ^ 32 }
-    ensures kind { IfOk result (λ f. f.kind ≡ Go 1 reach) }
+    ensures kind { IfOk result (λ f. f.kind ≡ Go target reach) }
     ensures answers { IfOk result (λ f. AreRefs store.now.nodes f.answers.items) }
 {
     let mut named = unset(alloc, questions.rows.len())?;
@@ -97,13 +98,13 @@ fn step_by(
     let tests = test_answers(alloc, store, sample, questions, &named)?;
     let answers = with_updates(store, sample, questions, wanted, tests)?;
     Ok(Found {
-        kind: EntryKind::Go { target: 1, reach },
+        kind: EntryKind::Go { target, reach },
         answers,
     })
 }
 
-/// A step into location 1 at a valuation by these rows, or none where the wanted rows are not proved there.
-fn step_from(
+/// A step into a location at a valuation by these rows, or none where the wanted rows are not proved there.
+pub fn step_into(
     alloc: Global,
     store: &Store,
     frame: &Frame,
@@ -111,6 +112,7 @@ fn step_from(
     questions: &Questions,
     given: &Many<Row>,
     wanted: &Many<Row>,
+    target: u32,
 ) -> Result<Option<Found>, Memory>
     requires sized { length sample.now ≡ store.now.variables }
     requires searched { (s : System) × IsSearched s store.now questions.now frame.now given.now × AreKept s wanted.now }
@@ -120,7 +122,16 @@ fn step_from(
     let updates = told_forms(alloc, store, sample, questions)?;
     match least_reach(alloc, frame.by, given, &mut told, &updates, wanted)? {
         Some(reach) => {
-            let found = step_by(alloc, store, sample, questions, given.len(), wanted, reach)?;
+            let found = step_by(
+                alloc,
+                store,
+                sample,
+                questions,
+                given.len(),
+                wanted,
+                target,
+                reach,
+            )?;
             Ok(Some(found))
         }
         None => Ok(None),
@@ -166,8 +177,8 @@ pub fn step_at(
     requires same_many { length lean.now ≡ length given.now }
     ensures { IfOk result (λ o. IfSome o (IsFound store.now.nodes (length given.now + length questions.now.rows))) }
 {
-    match step_from(alloc, store, frame, sample, questions, lean, wanted)? {
+    match step_into(alloc, store, frame, sample, questions, lean, wanted, 1)? {
         Some(found) => Ok(Some(found)),
-        None => step_from(alloc, store, frame, sample, questions, given, wanted),
+        None => step_into(alloc, store, frame, sample, questions, given, wanted, 1),
     }
 }

@@ -49,9 +49,16 @@ fn chosen_node(
     store.ite(by, hi, lo)
 }
 
-/// The valuations whose next control state is in a set: its nodes are gone through once, children first, and each becomes a choice by the
-/// reference of its state bit.
-fn led_into(alloc: Global, store: &mut Store, next: &[Ref], set: &Frozen) -> Result<Ref, StoreFault>
+/// The valuations whose next control state is in a set, where `next` are the next values of the state bits: the set's nodes are gone through
+/// once, children first, and each becomes a choice by the reference of its state bit. Nodes comes where the store has no room for what is built
+/// on the way, never where its limit holds every function of its variables, and Memory where there is none; what was built stays, after a fault
+/// too.
+pub fn led_into(
+    alloc: Global,
+    store: &mut Store,
+    next: &[Ref],
+    set: &Frozen,
+) -> Result<Ref, StoreFault>
     requires next { AreRefs store.old.nodes next.now }
     ensures extends { Extends store.old store.new }
     ensures roomy { IsErrOf result StoreFault.Nodes → store.old.limit < 2 ^ (2 ^ store.old.variables) }

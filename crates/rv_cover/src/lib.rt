@@ -13,6 +13,9 @@
 //! of them together, and where these rows do not do, by whole lists of entries as of a row claim. Where neither a step covers a valuation nor the
 //! kept rows refute it, it gets a step too, if it is safe.
 //!
+//! Entries of a location whose steps lead into several others are found the same way, into one after another (several.rt, specs/Toward.antt): so
+//! a certificate can have more than two locations.
+//!
 //! Begin with seeking.rt and specs/Seeking.antt.
 #![tactic(auto)]
 
@@ -34,6 +37,16 @@ mod reading;
 mod refs;
 mod rows;
 mod seeking;
+mod several;
 
+pub use answers::{test_answers, told_forms, told_rows, with_updates};
+pub use copies::copy_set;
 pub use frame::{By, Frame};
-pub use seeking::sought;
+pub use leading::led_into;
+pub use locations::location;
+pub use marks::{mark_entries, mark_named, mark_premise, next_place, unset};
+pub use pairing::{are_within, premises_of};
+pub use refs::{all_of, without};
+pub use rows::{chosen, only_marked};
+pub use seeking::{frame_of, sought};
+pub use several::{Target, entries_toward, steps_toward};

@@ -37,7 +37,7 @@ fn ones_of(alloc: Global, many: usize) -> Result<Many<Multipliers>, Memory>
     Ok(list)
 }
 
-/// The location with these control states, rows and entries.
+/// The location with these control states, rows and entries, which is entered by its rows and has no loop. The only error is want of memory.
 pub fn location(
     alloc: Global,
     control: Frozen,

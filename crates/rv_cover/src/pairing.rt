@@ -1,14 +1,15 @@
-//! What pairs of the premises of a valuation refute, and prove after its updates. Where no pair does, the simplex is asked.
+//! What pairs of the premises of a valuation refute, and prove after its updates. Where no pair does, the simplex is asked, for all wanted rows
+//! from one corner.
 
 ghost use Rattle.std.specs.Prelude.{◌≡◌, ◌<◌, ◌≤◌, ◌+◌, ◌^◌, pos, IsTrue, All, IfOk, OnOk, IfSome, length};
 ghost use Rattle.rv_rows.specs.Rows.{RowWithin};
-ghost use Rattle.rv_rows.specs.Forms.{CanSubstitute};
+ghost use Rattle.rv_rows.specs.Forms.{CanSubstitute, FormWithin};
 ghost use Rattle.rv_proofs.specs.Ranges.{IsRecord};
 
 use crate::copies::{copy_row, copy_rows};
 use rv_base::{Many, Memory};
 use rv_rows::{Form, Multipliers, Row, number_at};
-use rv_seek::{Best, Premises, pair_multipliers, seek_refutation};
+use rv_seek::{Best, Bounded, Premises, Search, pair_multipliers, seek_refutation};
 use std::alloc::Global;
 
 /// The greatest magnitude of a premise's number, 2^60.
@@ -36,7 +37,7 @@ fn is_within(row: &Row, most: u128) -> bool
 }
 
 /// Whether the numbers of each of the rows are those of a premise.
-fn are_within(rows: &Many<Row>) -> bool
+pub fn are_within(rows: &Many<Row>) -> bool
     ensures { IsTrue result → All (RowWithin (2 ^ 60)) rows.now }
 {
     for place in 0..rows.len() {
@@ -99,8 +100,9 @@ fn weak_rows(alloc: Global, many: usize) -> Result<Many<Row>, Memory>
     Ok(rows)
 }
 
-/// The given rows, and then those of the tests.
-fn premises_of(alloc: Global, given: &Many<Row>, told: &Many<Row>) -> Result<Many<Row>, Memory>
+/// The premises of a valuation: the given rows, and then those that the tests say there, of which one that holds everywhere is replaced by
+/// `0 <= 2^60`, which no proof names. The only error is want of memory.
+pub fn premises_of(alloc: Global, given: &Many<Row>, told: &Many<Row>) -> Result<Many<Row>, Memory>
     ensures { IfOk result (λ rows. length rows ≡ length given.now + length told.now) }
 {
     let mut rows = copy_rows(alloc, given)?;
@@ -214,8 +216,29 @@ fn pair_of(
     }
 }
 
-/// The multipliers that prove a row after the updates. Of those that are found the ones are taken that name the fewest tests: first a pair of
-/// the given rows is tried, then a test alone, or with a given row, then two tests, then the simplex. None where nothing is found.
+/// The multipliers of a pair that prove a row, or none. Of the pairs the one is taken that names the fewest tests: first a pair of the given
+/// rows is tried, then a test alone, or with a given row, then two tests.
+fn pair_for(
+    alloc: Global,
+    given: &Many<Row>,
+    own: &Premises,
+    rows: &Many<Row>,
+    premises: &Premises,
+    row: &Row,
+) -> Result<Option<Multipliers>, Memory>
+    requires first { length given.now ≤ length rows.now }
+    requires few { length rows.now < 2 ^ 32 }
+    requires row { RowWithin (2 ^ 78) row.now }
+    ensures { IfOk result (λ o. IfSome o (IsRecord (length rows.now))) }
+{
+    let least = own.least(alloc, &row.coefficients)?;
+    if let Some(by) = pair_within(alloc, given, least, row.bound)? {
+        return Ok(Some(by));
+    }
+    pair_of(alloc, rows, premises, given.len(), row)
+}
+
+/// The multipliers of a pair that prove a row after the updates, or none.
 fn reach_row(
     alloc: Global,
     given: &Many<Row>,
@@ -225,7 +248,6 @@ fn reach_row(
     updates: &Many<Form>,
     wanted: &Row,
 ) -> Result<Option<Multipliers>, Memory>
-    requires same { premises.now ≡ rows.now }
     requires first { length given.now ≤ length rows.now }
     requires few { length rows.now < 2 ^ 32 }
     requires wanted { CanSubstitute wanted.now updates.now }
@@ -235,17 +257,96 @@ fn reach_row(
     if !is_within(&row, MOST_WANTED) {
         return Ok(None);
     }
-    let least = own.least(alloc, &row.coefficients)?;
-    if let Some(by) = pair_within(alloc, given, least, row.bound)? {
-        return Ok(Some(by));
-    }
-    match pair_of(alloc, rows, premises, given.len(), &row)? {
-        Some(by) => Ok(Some(by)),
-        None => premises.row(alloc, &row),
+    pair_for(alloc, given, own, rows, premises, &row)
+}
+
+/// The form that is the row's left side.
+fn left_side(row: Row) -> Form
+    requires { RowWithin (2 ^ 78) row }
+    ensures { FormWithin (2 ^ 78) result }
+{
+    let Row { coefficients, .. } = row;
+    Form {
+        coefficients,
+        constant: 0,
     }
 }
 
-/// The multipliers that prove each row after the updates, or none where one is not proved.
+/// The multipliers that the simplex finds for a row, or none.
+fn found_by(alloc: Global, search: &Search, row: Row) -> Result<Option<Multipliers>, Memory>
+    requires { RowWithin (2 ^ 78) row }
+    ensures { IfOk result (λ o. IfSome o (IsRecord (length search.now))) }
+{
+    let most = row.bound;
+    let side = left_side(row);
+    match search.bound(alloc, &side)? {
+        Some(found) => {
+            let Bounded { bound, by } = found;
+            if bound > most {
+                return Ok(None);
+            }
+            Ok(Some(by))
+        }
+        None => Ok(None),
+    }
+}
+
+/// The multipliers that prove a row after the updates, of a pair or as the simplex finds them, or none.
+fn reach_searched(
+    alloc: Global,
+    given: &Many<Row>,
+    own: &Premises,
+    rows: &Many<Row>,
+    premises: &Premises,
+    search: &Search,
+    updates: &Many<Form>,
+    wanted: &Row,
+) -> Result<Option<Multipliers>, Memory>
+    requires same { search.now ≡ rows.now }
+    requires first { length given.now ≤ length rows.now }
+    requires few { length rows.now < 2 ^ 32 }
+    requires wanted { CanSubstitute wanted.now updates.now }
+    ensures { IfOk result (λ o. IfSome o (IsRecord (length rows.now))) }
+{
+    let row = wanted.substitute(alloc, updates)?;
+    if !is_within(&row, MOST_WANTED) {
+        return Ok(None);
+    }
+    match pair_for(alloc, given, own, rows, premises, &row)? {
+        Some(by) => Ok(Some(by)),
+        None => found_by(alloc, search, row),
+    }
+}
+
+/// The multipliers that prove each row after the updates, of pairs or as the simplex finds them, or none where one is not proved.
+fn reach_all(
+    alloc: Global,
+    given: &Many<Row>,
+    own: &Premises,
+    rows: &Many<Row>,
+    premises: &Premises,
+    updates: &Many<Form>,
+    wanted: &Many<Row>,
+) -> Result<Option<Many<Multipliers>>, Memory>
+    requires within { All (RowWithin (2 ^ 60)) rows.now }
+    requires first { length given.now ≤ length rows.now }
+    requires few { length rows.now < 2 ^ 32 }
+    requires wanted { All (λ r. CanSubstitute r updates.now) wanted.now }
+    ensures { IfOk result (λ o. IfSome o (All (IsRecord (length rows.now)))) }
+{
+    let search = Search::new(alloc, rows)?;
+    let mut reach = Many::new(alloc);
+    for place in 0..wanted.len() {
+        let row = wanted.at(place);
+        match reach_searched(alloc, given, own, rows, premises, &search, updates, row)? {
+            Some(by) => reach.push(by)?,
+            None => return Ok(None),
+        }
+    }
+    Ok(Some(reach))
+}
+
+/// The multipliers that prove each row after the updates, or none where one is not proved. The simplex is asked only where pairs do not do.
 fn reach_rows(
     alloc: Global,
     given: &Many<Row>,
@@ -255,7 +356,7 @@ fn reach_rows(
     updates: &Many<Form>,
     wanted: &Many<Row>,
 ) -> Result<Option<Many<Multipliers>>, Memory>
-    requires same { premises.now ≡ rows.now }
+    requires within { All (RowWithin (2 ^ 60)) rows.now }
     requires first { length given.now ≤ length rows.now }
     requires few { length rows.now < 2 ^ 32 }
     requires wanted { All (λ r. CanSubstitute r updates.now) wanted.now }
@@ -266,7 +367,9 @@ fn reach_rows(
         let row = wanted.at(place);
         match reach_row(alloc, given, own, rows, premises, updates, row)? {
             Some(by) => reach.push(by)?,
-            None => return Ok(None),
+            None => {
+                return reach_all(alloc, given, own, rows, premises, updates, wanted);
+            }
         }
     }
     Ok(Some(reach))

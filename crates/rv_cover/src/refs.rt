@@ -29,7 +29,8 @@ pub fn either(store: &mut Store, a: Ref, b: Ref) -> Result<Ref, StoreFault>
     store.or(a, b)
 }
 
-/// The valuations of the first reference that are not in the second.
+/// The valuations of the first reference that are not in the second. Nodes comes where the store has no room for what is built on the way, never
+/// where its limit holds every function of its variables, and Memory where there is none.
 pub fn without(store: &mut Store, a: Ref, b: Ref) -> Result<Ref, StoreFault>
     requires a { IsRef store.old.nodes a }
     requires b { IsRef store.old.nodes b }
@@ -53,7 +54,8 @@ pub fn within(store: &mut Store, a: Ref, set: &Frozen) -> Result<Ref, StoreFault
     store.and(a, one)
 }
 
-/// The conjunction of a list.
+/// The conjunction of a list, true where it is empty. Nodes comes where the store has no room for what is built on the way, never where its limit
+/// holds every function of its variables, and Memory where there is none.
 pub fn all_of(store: &mut Store, list: &[Ref]) -> Result<Ref, StoreFault>
     requires { AreRefs store.old.nodes list.now }
     ensures extends { Extends store.old store.new }

@@ -42,7 +42,7 @@ fn add_if(alloc: Global, list: &mut Many<Row>, row: &Row, asked: bool) -> Result
     Ok(())
 }
 
-/// The rows whose flags are set, in the same order.
+/// The rows whose flags are there and set, in the same order. The only error is want of memory.
 pub fn chosen(alloc: Global, rows: &Many<Row>, flags: &Many<bool>) -> Result<Many<Row>, Memory>
     ensures few { IfOk result (λ list. length list ≤ length rows.now) }
     ensures kept { IfOk result (λ list. (s : System) → AreKept s rows.now → AreKept s list) }

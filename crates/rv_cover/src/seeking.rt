@@ -99,8 +99,9 @@ fn located(
     Ok(found)
 }
 
-/// What is the same throughout the search.
-fn frame_of(alloc: Global, store: &Store, parts: &Parts, by: By) -> Result<Frame, Memory>
+/// What is the same throughout a search over the store's variables, by what proves rows: a condition may read all of them but the next copies of
+/// the state bits, of which there are as many as `parts` has next values. The only error is want of memory.
+pub fn frame_of(alloc: Global, store: &Store, parts: &Parts, by: By) -> Result<Frame, Memory>
     requires { HaveRefs store.now parts.now }
     ensures { IfOk result (IsFrameFor store.now.variables (length parts.now.next) by) }
 {

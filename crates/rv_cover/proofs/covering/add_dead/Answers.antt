@@ -1,15 +1,24 @@
 use Rattle.std.proofs.Common.{length, ◌+◌}
 use Rattle.rv_cover.specs.Entries.{IsFound}
-use Rattle.rv_cover.proofs.Chaining.{cover_later}
 use Rattle.rv_cover.proofs.covering.add_dead.Goals as goal
 
 pub returns-in-Some-clause-cover : goal.returns-in-Some-clause-cover
 returns-in-Some-clause-cover c =
     let found : IsFound c.args.store.now.nodes (length c.args.given.now + length c.args.questions.now.rows) c.in-Some.found = rw c.in-Some.is at
     c.in_ok-found.ensures in
-    c.add_entry.ensures.cover (length c.args.given.now + length c.args.questions.now.rows)
-    (cover_later c.args.store.now c.all_of.new.store c.args.frame.now (length c.args.given.now + length c.args.questions.now.rows) c.args.cover
-    c.all_of.ensures.extends c.requires.cover) found.kind
+    c.add_found_dead.ensures.cover (length c.args.given.now + length c.args.questions.now.rows) c.requires.cover found.kind
+
+pub add_found_dead-requires-clause-answers : goal.add_found_dead-requires-clause-answers
+add_found_dead-requires-clause-answers c =
+    let found : IsFound c.args.store.now.nodes (length c.args.given.now + length c.args.questions.now.rows) c.in-Some.found = rw c.in-Some.is at
+    c.in_ok-found.ensures in
+    found.answers
+
+pub add_found_dead-requires-clause-left : goal.add_found_dead-requires-clause-left
+add_found_dead-requires-clause-left c = c.requires.cover.left
+
+pub add_found_dead-requires-clause-rest : goal.add_found_dead-requires-clause-rest
+add_found_dead-requires-clause-rest c = c.requires.cover.rest
 
 pub dead_at-requires-clause-searched : goal.dead_at-requires-clause-searched
 dead_at-requires-clause-searched c = let (s, is, kept) = c.requires.searched in (s, is)

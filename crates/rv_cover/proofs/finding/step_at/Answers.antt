@@ -3,8 +3,8 @@ use Rattle.rv_cover.specs.Entries.{IsFound}
 use Rattle.rv_cover.proofs.Chaining.{searched_as_many}
 use Rattle.rv_cover.proofs.finding.step_at.Goals as goal
 
-pub step_from-requires-clause-searched : goal.step_from-requires-clause-searched
-step_from-requires-clause-searched c =
+pub step_into-requires-clause-searched : goal.step_into-requires-clause-searched
+step_into-requires-clause-searched c =
     let (s, is, kept) = c.requires.searched in
     (s, searched_as_many s c.args.store.now c.args.questions.now c.args.frame.now c.args.given.now c.args.lean.now c.requires.same_many is, kept)
 

@@ -1,0 +1,26 @@
+use Rattle.std.proofs.Common.{length, ◌+◌}
+use Rattle.rv_cover.proofs.Chaining.{searched_later, target_later, short_none}
+use Rattle.rv_cover.proofs.several.steps_toward.Goals as goal
+
+pub turned-requires-clause-into : goal.turned-requires-clause-into
+turned-requires-clause-into c = let (s, is, to) = c.requires.searched in to.into
+
+pub turned-requires-clause-rest : goal.turned-requires-clause-rest
+turned-requires-clause-rest c = c.requires.scope
+
+pub add_lean_steps-requires-clause-searched : goal.add_lean_steps-requires-clause-searched
+add_lean_steps-requires-clause-searched c =
+    let (s, is, to) = c.requires.searched in
+    let e = c.turned.ensures.extends in (
+      s,
+      searched_later s c.args.store.now c.turned.new.store c.args.questions.now c.args.frame.now c.args.given.now e is,
+      target_later s c.args.store.now c.turned.new.store c.args.target.now e to,
+    )
+
+pub add_lean_steps-requires-clause-cover : goal.add_lean_steps-requires-clause-cover
+add_lean_steps-requires-clause-cover c =
+    c.in_ok-cover.ensures.cover c.args.frame.now (length c.args.given.now + length c.args.questions.now.rows) record {
+      entries = short_none c.args.frame.now _ c.new-entries.result c.new-entries.ensures;
+      left = c.requires.scope;
+      rest = c.requires.scope;
+    }
