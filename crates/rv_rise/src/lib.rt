@@ -28,4 +28,8 @@ mod search;
 mod steps;
 mod table;
 
+pub use asking::{Asked, asked_of};
+pub use columns::columns_of;
+pub use rows::rows_of;
 pub use search::least_closed;
+pub use table::sides_of;

@@ -1,0 +1,3 @@
+mod Framing
+pub mod Planning
+pub mod Judging

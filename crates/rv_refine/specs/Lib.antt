@@ -1,0 +1,4 @@
+pub mod Sides
+pub mod Frames
+pub mod Bounds
+pub mod Plans
