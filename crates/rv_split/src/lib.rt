@@ -2,7 +2,7 @@
 //!
 //! It promises that the parts are pairwise disjoint nonempty sets of control states, at most as many as may be, whose union stays the same;
 //! which two sets a part becomes; and exactly when a part is not split. The store is left as it was after each call, and Nodes comes only
-//! where it has no room for four steps. No command calls this crate yet.
+//! where it has no room for four steps. `rv_left` makes partitions by it.
 //!
 //! Whether a part has one control state alone is read off its diagram, without the store, so that no want of nodes stands before that answer
 //! (freeing.rt): for each node whether some valuation makes it true, and then down from the root as long as one child alone does.
