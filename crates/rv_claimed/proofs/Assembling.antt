@@ -6,10 +6,10 @@ use Rattle.std.proofs.{lemmas.Int.ints, lemmas.Bool.cases_Bool, lemmas.List.Elem
 use Rattle.rv_diagram.specs.{Nodes.Valuation, declared.frozen.Frozen.Frozen}
 use Rattle.rv_rows.specs.Rows.{coefficient, row_at}
 use Rattle.rv_rows.specs.{declared.linear.Row.Row, declared.linear.Form.Form, declared.farkas.Multipliers.Multipliers, Tight.Fits}
-use Rattle.rv_proofs.specs.Scopes.{IsIn, refutation, after, Implication, each, rows_into, implications}
+use Rattle.rv_proofs.specs.Scopes.{IsIn, refutation, after, Implication, Wanted, each, rows_into, implications}
 use Rattle.rv_proofs.specs.Ranges.{IsRecord, HasDivisor, IsControlSet, IsCondition, AreKept, IsInRange}
 use Rattle.rv_proofs.specs.{Systems.System, Systems.rows_of, Counts.HasLoop, Counts.IsLoopKind, Counts.HasKindCounts, Samples.by_one, Cases.IsCaseOf}
-use Rattle.rv_proofs.specs.{Cases.AreCases, Cases.IsInitialSet, Left.IsLeftPartition, RowClaims.RowClaim, RowClaims.IsRowTaken, RowClaims.IsRowGood}
+use Rattle.rv_proofs.specs.{Cases.AreCases, Cases.IsInitialSet, RowClaims.RowClaim, RowClaims.IsRowTaken, RowClaims.IsRowGood}
 use Rattle.rv_proofs.specs.{declared.certificate.Certificate.Certificate, declared.certificate.Location.Location, declared.certificate.Entry.Entry}
 use Rattle.rv_proofs.specs.{declared.certificate.EntryKind.EntryKind, declared.certificate.EntryKind.TheVariants.Dead}
 use Rattle.rv_proofs.specs.{declared.certificate.EntryKind.TheVariants.Go, declared.certificate.EntryKind.TheVariants.Loop, declared.report.Case.Case}
@@ -18,12 +18,21 @@ use Rattle.rv_walk.specs.{Ends.has, Plain.ArePlain}
 use Rattle.rv_claims.specs.Certify.{IsUniform, IsClaimKind, IsClaimLocation, IsClaimCertificate}
 use Rattle.rv_claims.specs.{declared.claim.Claim.Claim, Claiming.claim_of}
 use Rattle.rv_claims.proofs.Certifying.{claim-accepted}
-use Rattle.rv_claimed.specs.Certifying.{IsBad, IsSetting, IsRangedKind, IsEntryOf, AreEntriesOf, IsBadCase, AreListed, IsLocationOf}
-use Rattle.rv_claimed.specs.Building.{ArePartsOf, IsRangedLocation, IsFailingPlace, IsPlaceOf, left_of, IsProof}
-use Rattle.rv_claimed.specs.{declared.locations.Part.Part, declared.locations.Place.Place}
-use Rattle.rv_claimed.proofs.{Pairing.no_row, Entering.no_form, Partition.all_each, Leaving.nothing_left, Leaving.some_left, Leaving.claim_left}
+use Rattle.rv_claimed.specs.Certifying.{IsSetting, IsRangedKind, IsEntryOf, AreEntriesOf, IsLocationOf}
+use Rattle.rv_claimed.specs.Building.{ArePartsOf, IsRangedLocation, IsPlaceOf, IsProof}
+use Rattle.rv_claimed.specs.declared.locations.Part.{Part}
+use Rattle.rv_claimed.proofs.{Pairing.no_row, Entering.no_form}
 use Rattle.rv_walk.proofs.Stages.{rest_from, rest_parts}
 use Rattle.rv_base.proofs.{Lists.found_or_not, Lists.item_at, Truths.clash}
+
+all_each : (P : Implication → Type 0) (want : Row → Wanted) (given rows : List Row) (by : List Multipliers)
+    → ((n : ℕ) (r : Row) (m : Multipliers) → slice_get rows n ≡ Some r → slice_get by n ≡ Some m
+    → P (record { given = given; wanted = want r; by = m }))
+    → All P (each want given rows by)
+all_each P want given [] by h = All-nil P
+all_each P want given (r ∷ rs) [] h = All-nil P
+all_each P want given (r ∷ rs) (m ∷ ms) h = All-cons P (record { given = given; wanted = want r; by = m }) (each want given rs ms) (h 0 r m refl refl)
+    (all_each P want given rs ms (λ n. h (suc n)))
 
 -- throughout a case the tests and the updates are the same
 module _ (s : System) (case : Case) (is : IsCaseOf s case) (v w : Valuation) (v_in : IsIn case.condition v) (w_in : IsIn case.condition w) where
@@ -49,12 +58,8 @@ module _ (s : System) (case : Case) (is : IsCaseOf s case) (v w : Valuation) (v_
       ∙ update_at s v no_form s.memories k known
 
 module _ (s : System) (c : RowClaim) (from : Frozen) (rows : List Row) (setting : IsSetting s c from rows) (cases : List Case)
-    (are : AreCases s from cases)
-    (few : length cases < 2 ^ 32) (es : List Entry) (fails : Bool) (listed : AreListed s c rows cases es fails) (l : Location)
+    (are : AreCases s from cases) (few : length cases < 2 ^ 32) (es : List Entry) (entries : AreEntriesOf s c rows cases es) (l : Location)
     (is : IsLocationOf from rows es l) where
-  entries : AreEntriesOf s c rows cases (length cases) es
-  entries = listed.entries
-
   in_from : (v : Valuation) → IsIn l.control v → IsIn from v
   in_from v i = subst (λ (f : Frozen). IsIn f v) is.control i
 
@@ -104,30 +109,11 @@ module _ (s : System) (c : RowClaim) (from : Frozen) (rows : List Row) (setting 
       let r = entries.each j x e at there in
       (j, e, ap (λ (xs : List Entry). slice_get xs j) is.entries ∙ there, subst (λ (f : Frozen). IsIn f v) (sym r.condition) on)
 
-  good_case : fails ≡ false → (v : Valuation) → IsRowTaken s c v → (j : ℕ) × (x : Case) × (slice_get cases j ≡ Some x) × IsIn x.condition v
-      → IsTrue (s.observer v)
-  good_case off v t (j, x, at, on) = listed.good off j x at v on t
-
-  failing : (j : ℕ) × (x : Case) × (e : Entry) × (slice_get cases j ≡ Some x) × (slice_get es j ≡ Some e) × IsBadCase s c x e → IsFailingPlace s c l
-  failing (j, x, e, at, e_at, bad) =
-      let r = entries.each j x e at e_at in
-      let v = bad.valuation in
-      let t = bad.taken in record {
-        number = j;
-        entry = e;
-        at = ap (λ (xs : List Entry). slice_get xs j) is.entries ∙ e_at;
-        step = record {
-          step = bad.step;
-          valuation = v;
-          scope = record {
-            allowed = t.allowed;
-            control = subst (λ (f : Frozen). IsIn f v) (sym is.control) (are.within j x v at bad.within);
-            condition = subst (λ (f : Frozen). IsIn f v) (sym r.condition) bad.within;
-          };
-          fails = bad.fails;
-        };
-        taken = t;
-      }
+  good_case : (v : Valuation) → IsRowTaken s c v → (j : ℕ) × (x : Case) × (slice_get cases j ≡ Some x) × IsIn x.condition v → IsTrue (s.observer v)
+  good_case v t (j, x, at, on) =
+      let (e, there) = entry_there j (slice_get_within cases j x at) in
+      let r = entries.each j x e at there in
+      r.good v on t
 
   proved_rows : (n : ℕ) (r : Row) → slice_get l.state n ≡ Some r → n < length rows
   proved_rows n r at = omega (arith, slice_get_within l.state n r at, ap length is.state)
@@ -179,13 +165,12 @@ module _ (s : System) (c : RowClaim) (from : Frozen) (rows : List Row) (setting 
           let r = h.entry in
           subst (λ (f : Frozen). IsCondition s f) (sym r.condition) x.given.condition
 
-  pub place_of : IsPlaceOf s c from rows (record { location = l; fails = fails })
+  pub place_of : IsPlaceOf s c from rows l
   place_of = record {
     control = is.control;
     claimed = claimed;
     ranged = in_range;
-    good = λ off v i t. good_case off v t (are.covered v t.allowed i);
-    bad = λ on. failing (listed.bad on);
+    good = λ v i t. good_case v t (are.covered v t.allowed i);
   }
 
 if_true : (b : Bool) (xs ys : List Row) → b ≡ true → cond b xs ys ≡ xs
@@ -249,27 +234,23 @@ module _ (s : System) (many : ℕ) (c : Claim) (start others : Part) (are : AreP
     few = j.few;
   }
 
-  module _ (initial rest : Place) (one : IsPlaceOf s (claim_of c) start.control [] initial)
+  module _ (initial rest : Location) (one : IsPlaceOf s (claim_of c) start.control [] initial)
       (two : IsPlaceOf s (claim_of c) others.control c.rows rest) where
-    good_claim : initial.fails ≡ false → rest.fails ≡ false → IsRowGood s (claim_of c)
-    good_claim off also v t = go (cases_Bool (has start.control v))
+    good_claim : IsRowGood s (claim_of c)
+    good_claim v t = go (cases_Bool (has start.control v))
       where
         go : (has start.control v ≡ true) ⊎ (has start.control v ≡ false) → IsTrue (s.observer v)
-        go (inl i) = one.good off v i t
-        go (inr n) = two.good also v (in_others v t.reached n) t
+        go (inl i) = one.good v i t
+        go (inr n) = two.good v (in_others v t.reached n) t
 
-    bad_claim : (initial.fails ≡ true) ⊎ (rest.fails ≡ true) → IsBad s (claim_of c)
-    bad_claim (inl on) = let f = one.bad on in let e = f.step in (e.valuation, f.taken, e.fails)
-    bad_claim (inr on) = let f = two.bad on in let e = f.step in (e.valuation, f.taken, e.fails)
-
-    module _ (x : Certificate) (is : x.locations ≡ initial.location ∷ rest.location ∷ []) where
-      zeroth : slice_get x.locations 0 ≡ Some initial.location
+    module _ (x : Certificate) (is : x.locations ≡ initial ∷ rest ∷ []) where
+      zeroth : slice_get x.locations 0 ≡ Some initial
       zeroth = ap (λ (ls : List Location). slice_get ls 0) is
 
-      second : slice_get x.locations 1 ≡ Some rest.location
+      second : slice_get x.locations 1 ≡ Some rest
       second = ap (λ (ls : List Location). slice_get ls 1) is
 
-      rest_rows : rest.location.entry ≡ c.rows
+      rest_rows : rest.entry ≡ c.rows
       rest_rows = let w = two.claimed in w.entry
 
       -- each location is one of the two
@@ -281,9 +262,9 @@ module _ (s : System) (many : ℕ) (c : Claim) (start others : Part) (are : AreP
       either : (k : ℕ) (l : Location) → slice_get x.locations k ≡ Some l → IsEither l
       either k l at = go k (sym (ap (λ (ls : List Location). slice_get ls k) is) ∙ at)
         where
-          go : (k : ℕ) → slice_get (initial.location ∷ rest.location ∷ []) k ≡ Some l → IsEither l
-          go zero f = subst IsEither (same_Some initial.location l f) (record { given = []; claimed = one.claimed; ranged = one.ranged })
-          go (suc zero) f = subst IsEither (same_Some rest.location l f) (record { given = c.rows; claimed = two.claimed; ranged = two.ranged })
+          go : (k : ℕ) → slice_get (initial ∷ rest ∷ []) k ≡ Some l → IsEither l
+          go zero f = subst IsEither (same_Some initial l f) (record { given = []; claimed = one.claimed; ranged = one.ranged })
+          go (suc zero) f = subst IsEither (same_Some rest l f) (record { given = c.rows; claimed = two.claimed; ranged = two.ranged })
           go (suc (suc k)) f = cc
 
       not_loop : (n w : ℕ) (kind : EntryKind) → IsRangedKind n w kind → IsLoopKind kind → ⊥
@@ -300,7 +281,7 @@ module _ (s : System) (many : ℕ) (c : Claim) (start others : Part) (are : AreP
       counted : (l : Location) (n : ℕ) (kind : EntryKind) → IsRangedKind n (length c.rows) kind → HasKindCounts x l kind
       counted l n (Dead m) h = tt
       counted l n (Go target reach) (at_one, size, all) = (
-        rest.location,
+        rest,
         ap (slice_get x.locations) at_one ∙ second,
         size ∙ ap length (sym rest_rows),
       )
@@ -350,7 +331,7 @@ module _ (s : System) (many : ℕ) (c : Claim) (start others : Part) (are : AreP
         };
       }
 
-      made : IsClaimCertificate s (claim_of c) x initial.location rest.location
+      made : IsClaimCertificate s (claim_of c) x initial rest
       made = record {
         count = ap length is;
         first = zeroth;
@@ -368,25 +349,9 @@ module _ (s : System) (many : ℕ) (c : Claim) (start others : Part) (are : AreP
         in_range = in_range_of;
       }
 
-      good_start : initial.fails ≡ false → (v : Valuation) → IsIn initial.location.control v → IsRowTaken s (claim_of c) v → IsTrue (s.observer v)
-      good_start off v i = one.good off v (subst (λ (f : Frozen). IsIn f v) one.control i)
-
-      good_later : rest.fails ≡ false → (v : Valuation) → IsIn rest.location.control v → IsRowTaken s (claim_of c) v → IsTrue (s.observer v)
-      good_later off v i = two.good off v (subst (λ (f : Frozen). IsIn f v) two.control i)
-
-      nothing : (left : List ℕ) → left ≡ left_of initial.fails rest.fails → left ≡ [] → IsRowGood s (claim_of c)
-      nothing left e none = let (off, also) = nothing_left initial.fails rest.fails (sym e ∙ none) in good_claim off also
-
-      some : (left : List ℕ) → left ≡ left_of initial.fails rest.fails → ¬ (left ≡ []) → ¬ (left_of initial.fails rest.fails ≡ [])
-      some left e n none = n (e ∙ none)
-
-      pub proof_of : (left : List ℕ) → left ≡ left_of initial.fails rest.fails → IsProof s (claim_of c) (record { certificate = x; left = left })
-      proof_of left e = let k = are.kept in let j = are.judge in record {
+      pub proof_of : IsProof s (claim_of c) x
+      proof_of = let k = are.kept in let j = are.judge in record {
         plain = plain;
-        accepted = λ none. claim-accepted s are.thresholds (claim_of c) x initial.location rest.location j.system k.claim j.closed (nothing left e none) made;
-        good = λ none. nothing left e none;
-        bad = λ n. bad_claim (some_left initial.fails rest.fails (some left e n));
-        left = λ v starts n. subst (λ (ks : List ℕ). IsLeftPartition s x ks) (sym e)
-            (claim_left s are.thresholds (claim_of c) x initial.location rest.location j.system k.claim j.closed made initial.fails rest.fails good_start
-            one.bad good_later two.bad v starts (some left e n));
+        accepted = claim-accepted s are.thresholds (claim_of c) x initial rest j.system k.claim j.closed good_claim made;
+        good = good_claim;
       }

@@ -1,29 +1,24 @@
 -- The entry of a case in the certificate of a closed row claim.
-use Rattle.std.proofs.Common.{◌≡◌, ◌↔◌, ℕ, zero, suc, ◌+◌, ◌<◌, ◌≤◌, ◌^◌, pos, negsuc, Bool, true, false, IsTrue, List, [], ◌++◌, length, get_or, All, Option}
+use Rattle.std.proofs.Common.{◌≡◌, ℕ, zero, suc, ◌+◌, ◌<◌, ◌≤◌, ◌^◌, pos, negsuc, false, IsTrue, List, [], ◌++◌, length, get_or, All, Option}
 use Rattle.std.proofs.Common.{Some, slice_get, arith, refl, sym, ap, ◌∙◌, subst, None as Nothing}
 use Rattle.std.proofs.{lemmas.Option.slice_get_within, lemmas.Option.slice_get-get_or, lemmas.Option.get_or_from_slice_get, lemmas.List.length-append}
 use Rattle.std.proofs.{lemmas.List.Elements.All-append, lemmas.List.Elements.All-from_get_or, lemmas.List.Elements.All-weaker}
-use Rattle.std.specs.List.{Contains}
+use Rattle.std.specs.{List.Contains, Prelude.MatchOption}
 use Rattle.rv_diagram.specs.{Nodes.Valuation, declared.frozen.Frozen.Frozen}
 use Rattle.rv_rows.specs.{declared.linear.Row.Row, declared.linear.Form.Form, declared.farkas.Multipliers.Multipliers, Rows.row_at, Rows.RowWithin}
 use Rattle.rv_rows.specs.{Forms.IsSubstituted, Multipliers.ShowsAtOnce, Multipliers.AreShutAtOnce, Tight.Fits}
 use Rattle.rv_proofs.specs.Systems.{System, IsUpdate, rows_among, held_row, updates_of}
 use Rattle.rv_proofs.specs.declared.certificate.EntryKind.TheVariants.{Dead, Go, Loop}
-use Rattle.rv_proofs.specs.{Scopes.IsIn, Ranges.IsRecord, Cases.AreCases, Accepted.IsStepKind, RowClaims.IsRowTaken, RowClaims.premises_at}
+use Rattle.rv_proofs.specs.{Scopes.IsIn, Ranges.IsRecord, Cases.AreCases, RowClaims.IsRowTaken, RowClaims.premises_at}
 use Rattle.rv_proofs.specs.{declared.certificate.EntryKind.EntryKind, declared.report.Case.Case}
 use Rattle.rv_proofs.proofs.Rooms.{has_room, stays_small, premise_of_test, premise_of_kept}
 use Rattle.rv_proofs.proofs.{CaseRows.case_rows, Claims.update_at, Claims.updates_long}
 use Rattle.rv_claims.specs.{declared.claim.Claim.Claim, Claiming.claim_of, Certify.IsClaimKind}
 use Rattle.rv_claimed.specs.Placing.{IsPairOf}
 use Rattle.rv_claimed.specs.Certifying.{CanShow, premises_in, IsReached, IsShut, IsMadeKind, IsJudgeable, IsSetting, IsCaseIn, AreCasesIn, IsRangedKind}
-use Rattle.rv_claimed.specs.Certifying.{IsEntryOf, IsGoodCase, IsBadCase, IsMadeEntry}
+use Rattle.rv_claimed.specs.Certifying.{IsBad, IsEntryOf}
 use Rattle.rv_claimed.proofs.Pairing.{no_row, pair_to, shows_same, shows_swapped}
 use Rattle.rv_claimed.proofs.Placed.{pair_divisor, pair_record, reached_shown, shut_refuted}
-use Rattle.rv_base.proofs.Truths.{clash}
-
-pub unless : (b : Bool) → ¬ (b ≡ false) → b ≡ true
-unless true n = refl
-unless false n = absurd (n refl)
 
 pub cases_in : (s : System) (from : Frozen) (cases : List Case) → AreCases s from cases → AreCasesIn s from cases
 cases_in s from cases are j c at = record { case = are.each j c at; within = λ v i. are.within j c v at i }
@@ -47,6 +42,13 @@ pub shut_from : (many n : ℕ) (given premises : List Row) (case : Case) (m : Mu
 shut_from many n given premises case m e is pair =
     subst (λ (ps : List Row). IsPairOf (length given) many case.tests ps (record { coefficients = []; bound = negsuc 0 }) m) is
     (subst (λ (k : ℕ). IsPairOf k many case.tests premises (record { coefficients = []; bound = negsuc 0 }) m) e pair)
+
+-- what a step of a case that is not shut says of the case
+pub failing_here : (P : EntryKind → Type 0) (premises given : List Row) (case : Case) → premises ≡ premises_in given case → ¬ AreShutAtOnce premises
+    → (o : Option EntryKind) → MatchOption o (case.observer ≡ false) P
+    → MatchOption o ((case.observer ≡ false) × (¬ AreShutAtOnce (premises_in given case))) P
+failing_here P premises given case is opened Nothing off = (off, subst (λ (ps : List Row). ¬ AreShutAtOnce ps) is opened)
+failing_here P premises given case is opened (Some kind) made = made
 
 -- there are at most as many rows as tests
 rows_few : (s : System) (v : Valuation) (n : ℕ) → length (rows_among s v n) ≤ n
@@ -170,7 +172,7 @@ module _ (s : System) (many : ℕ) (c : Claim) (judge : IsJudgeable s many c) (f
   kind_at : (kind : EntryKind) → IsMadeKind s.tests given c.rows case kind → (v : Valuation) → IsIn case.condition v
       → IsClaimKind s (claim_of c) given v kind
   kind_at (Dead m) shut v on = shut_refuted s case of.case v on given m shut
-  kind_at (Go target reach) (one, o, are) v on = (
+  kind_at (Go target reach) (one, holds, o, are) v on = (
     one,
     taken_there o v on,
     λ n r m r_at m_at. reached_shown s case of.case v on given r m (are.each n r m r_at m_at),
@@ -179,7 +181,7 @@ module _ (s : System) (many : ℕ) (c : Claim) (judge : IsJudgeable s many c) (f
 
   ranged : (kind : EntryKind) → IsMadeKind s.tests given c.rows case kind → IsRangedKind (length given + s.tests) (length c.rows) kind
   ranged (Dead m) pair = (pair_record s case of.case some some_in given shut_row m pair, pair_divisor s case of.case some some_in given shut_row m pair)
-  ranged (Go target reach) (one, o, are) = (one, are.size, λ j d l. each j d l)
+  ranged (Go target reach) (one, holds, o, are) = (one, are.size, λ j d l. each j d l)
     where
       record_of : (r : Row) (m : Multipliers) → IsReached s.tests given case r m → IsRecord (length given + s.tests) m
       record_of r m (new, sub, pair) = pair_record s case of.case some some_in given new m pair
@@ -191,41 +193,25 @@ module _ (s : System) (many : ℕ) (c : Claim) (judge : IsJudgeable s many c) (f
           (are.each j (row_at c.rows j) (get_or reach j d) (slice_get-get_or c.rows j no_row (omega (arith, l, size))) (slice_get-get_or reach j d l))
   ranged (Loop first before around state) h = absurd h
 
-  entry_there : (kind : EntryKind) → IsMadeKind many given c.rows case kind
+  -- the observer is true at a step
+  good_case : (kind : EntryKind) → IsMadeKind many given c.rows case kind → (v : Valuation) → IsIn case.condition v → IsRowTaken s (claim_of c) v
+      → IsTrue (s.observer v)
+  good_case (Dead m) shut v on t = absurd (taken_opens v on t (shut_shows many given case m shut))
+  good_case (Go target reach) (one, holds, o, are) v on t = of.case.observer v on ∙ holds
+  good_case (Loop first before around state) h v on t = absurd h
+
+  pub made_entry : (kind : EntryKind) → IsMadeKind many given c.rows case kind
       → IsEntryOf s (claim_of c) given case (record { condition = case.condition; kind = kind })
-  entry_there kind made = record {
+  made_entry kind made = record {
     condition = refl;
     kind = kind_at kind (made_there kind made);
     ranged = ranged kind (made_there kind made);
+    good = good_case kind made;
   }
 
-  -- a case is good but where it is a step at which the observer is false
-  good_case : (kind : EntryKind) → IsMadeKind many given c.rows case kind → ¬ ((case.observer ≡ false) × IsStepKind kind)
-      → IsGoodCase s (claim_of c) case
-  good_case (Dead m) shut n v on t = absurd (taken_opens v on t (shut_shows many given case m shut))
-  good_case (Go target reach) made n v on t = of.case.observer v on ∙ unless case.observer (λ off. n (off, tt))
-  good_case (Loop first before around state) h n v on t = absurd h
-
-  bad_case : (kind : EntryKind) → IsMadeKind many given c.rows case kind → case.observer ≡ false → IsStepKind kind
-      → IsBadCase s (claim_of c) case (record { condition = case.condition; kind = kind })
-  bad_case (Dead m) shut off step = absurd step
-  bad_case (Go target reach) (one, o, are) off step = record {
-    step = tt;
-    valuation = some;
-    within = some_in;
-    taken = taken_there o some some_in;
-    fails = of.case.observer some some_in ∙ off;
-  }
-  bad_case (Loop first before around state) h off step = absurd h
-
-  pub made_entry : (kind : EntryKind) (fails : Bool) → IsMadeKind many given c.rows case kind
-      → IsTrue fails ↔ ((case.observer ≡ false) × IsStepKind kind)
-      → IsMadeEntry s (claim_of c) given case (record { entry = record { condition = case.condition; kind = kind }; fails = fails })
-  made_entry kind fails made is = record {
-    entry = entry_there kind made;
-    good = λ off. good_case kind made (λ bad. clash fails (is.1 bad) off);
-    bad = λ on. let (off, step) = is.0 on in bad_case kind made off step;
-  }
+  -- a case that is not shut, where the observer is false
+  pub bad_case : case.observer ≡ false → ¬ AreShutAtOnce here → IsBad s (claim_of c)
+  bad_case off o = (some, taken_there o some some_in, of.case.observer some some_in ∙ off)
 
   -- the same of premises that are these
   module _ (premises : List Row) (is : premises ≡ here) where

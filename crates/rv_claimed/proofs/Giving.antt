@@ -1,5 +1,7 @@
--- What is given in a store that is the same, and the parts of a claim.
-use Rattle.std.proofs.Common.{◌≡◌, ℕ, ◌+◌, ◌<◌, ◌^◌, ℤ, List, length, ◌∙◌, arith, subst, sym}
+-- What is given in a store that is the same, the parts of a claim, and what is answered.
+use Rattle.std.proofs.Common.{◌≡◌, ℕ, ◌+◌, ◌<◌, ◌^◌, ℤ, List, length, Option, Some, ◌∙◌, arith, subst, sym, None as Nothing}
+use Rattle.std.specs.Prelude.{MatchOption, IfSome, IfNone}
+use Rattle.rv_proofs.specs.declared.certificate.Certificate.{Certificate}
 use Rattle.rv_diagram.specs.Nodes.{Diagrams, IsMeant}
 use Rattle.rv_proofs.specs.{Systems.System, RowClaims.IsRowClosed}
 use Rattle.rv_symbolic.specs.{declared.relation.Relation.Relation, declared.relation.Parts.Parts, Represented.parts_of}
@@ -35,3 +37,12 @@ parts_given s thresholds d r q c many start others is_many given kept closed few
       is_start = st;
       are_others = ot;
     }
+
+-- what is said of both answers, said of one
+pub some_of : (B : Type 0) (o : Option Certificate) (P Q : Certificate → Type 0) → ((x : Certificate) → P x → Q x) → MatchOption o B P → IfSome o Q
+some_of B Nothing P Q f h = tt
+some_of B (Some x) P Q f h = f x h
+
+pub none_of : (P : Certificate → Type 0) (o : Option Certificate) (B : Type 0) → MatchOption o B P → IfNone o B
+none_of P Nothing B h = h
+none_of P (Some x) B h = tt

@@ -2,8 +2,6 @@ pub mod Pairing
 pub mod Placed
 pub mod Entering
 pub mod Reaching
-pub mod Partition
-pub mod Leaving
 pub mod Assembling
 pub mod Giving
 pub mod Sought

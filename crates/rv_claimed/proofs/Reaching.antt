@@ -1,14 +1,10 @@
 -- Lists of multipliers and of entries that grow along a loop.
-use Rattle.std.proofs.Common.{◌≡◌, ℕ, ◌+◌, Bool, true, false, ◌||◌, List, [], ◌∷◌, ◌++◌, length, Some, slice_get, arith, refl, sym, ap, ◌∙◌, subst, ◌⊎◌, inl}
-use Rattle.std.proofs.Common.{inr}
-use Rattle.std.proofs.{lemmas.Option.same_Some, lemmas.Option.slice_get_within, lemmas.List.length_push, lemmas.Bool.or_parts}
+use Rattle.std.proofs.Common.{◌≡◌, ℕ, ◌+◌, List, [], ◌∷◌, ◌++◌, length, Some, slice_get, arith, sym, ap, ◌∙◌, subst, ◌⊎◌, inl, inr}
+use Rattle.std.proofs.{lemmas.Option.same_Some, lemmas.Option.slice_get_within, lemmas.List.length_push}
 use Rattle.rv_rows.specs.{declared.linear.Row.Row, declared.farkas.Multipliers.Multipliers}
 use Rattle.rv_proofs.specs.{Systems.System, RowClaims.RowClaim, declared.certificate.Entry.Entry, declared.report.Case.Case}
-use Rattle.rv_claimed.specs.declared.entries.Made.{Made}
-use Rattle.rv_claimed.specs.Certifying.{IsReached, AreReached, IsEntryOf, AreEntriesOf, IsGoodCase, IsBadCase, IsMadeEntry, AreListed}
-use Rattle.rv_symbolic.proofs.Parting.{kept-append}
-use Rattle.rv_base.proofs.Lists.{get_push, push_cases}
-use Rattle.rv_diagram.proofs.Several.{true_or}
+use Rattle.rv_claimed.specs.Certifying.{IsReached, AreReached, IsEntryOf, AreEntriesOf}
+use Rattle.rv_base.proofs.Lists.{push_cases}
 
 pub reached_more : (many : ℕ) (given : List Row) (c : Case) (wanted : List Row) (n : ℕ) (reach : List Multipliers) (m : Multipliers) (r : Row)
     → AreReached many given c wanted n reach → slice_get wanted n ≡ Some r → IsReached many given c r m
@@ -26,59 +22,22 @@ reached_more many given c wanted n reach m r are at here = record {
         let q : r ≡ w = same_Some r w (sym at ∙ ap (slice_get wanted) (sym (e ∙ s)) ∙ w_at) in
         subst (λ (y : Row). IsReached many given c y x) q (subst (λ (y : Multipliers). IsReached many given c r y) same here)
 
-module _ (s : System) (c : RowClaim) (given : List Row) where
-  -- one entry more, for one case more
-  entries_more : (cases : List Case) (es : List Entry) (x : Case) (e : Entry) → AreEntriesOf s c given cases (length cases) es
-      → IsEntryOf s c given x e → AreEntriesOf s c given (cases ++ x ∷ []) (length (cases ++ x ∷ [])) (es ++ e ∷ [])
-  entries_more cases es x e are here = record {
-    size = let n = are.size in omega (arith, n, length_push cases x, length_push es e);
-    each = λ j y z y_at z_at. go j y z (push_cases cases x y j y_at) (push_cases es e z j z_at);
-  }
-    where
-      clash : (j : ℕ) (y : Case) → slice_get cases j ≡ Some y → j ≡ length es → IsEntryOf s c given y e
-      clash j y at q = let n = are.size in let l = slice_get_within cases j y at in absurd (omega (arith, n, l, q))
+-- one entry more, for one case more
+pub entries_more : (s : System) (c : RowClaim) (given : List Row) (cases : List Case) (es : List Entry) (x : Case) (e : Entry)
+    → AreEntriesOf s c given cases es → IsEntryOf s c given x e → AreEntriesOf s c given (cases ++ x ∷ []) (es ++ e ∷ [])
+entries_more s c given cases es x e are here = record {
+  size = let n = are.size in omega (arith, n, length_push cases x, length_push es e);
+  each = λ j y z y_at z_at. go j y z (push_cases cases x y j y_at) (push_cases es e z j z_at);
+}
+  where
+    clash : (j : ℕ) (y : Case) → slice_get cases j ≡ Some y → j ≡ length es → IsEntryOf s c given y e
+    clash j y at q = let n = are.size in let l = slice_get_within cases j y at in absurd (omega (arith, n, l, q))
 
-      go : (j : ℕ) (y : Case) (z : Entry) → (slice_get cases j ≡ Some y) ⊎ ((j ≡ length cases) × (x ≡ y)) → (slice_get es j ≡ Some z)
-          ⊎ ((j ≡ length es) × (e ≡ z))
-          → IsEntryOf s c given y z
-      go j y z (inl y_at) (inl z_at) = are.each j y z y_at z_at
-      go j y z (inl y_at) (inr (q, same)) = subst (λ (u : Entry). IsEntryOf s c given y u) same (clash j y y_at q)
-      go j y z (inr (q, same)) (inl z_at) = let n = are.size in let l = slice_get_within es j z z_at in absurd (omega (arith, n, l, q))
-      go j y z (inr (q, same)) (inr (p, also)) = subst (λ (u : Case). IsEntryOf s c given u z) same
-          (subst (λ (u : Entry). IsEntryOf s c given x u) also here)
-
-  -- no cases
-  pub listed_none : AreListed s c given [] [] false
-  listed_none = record {
-    entries = record { size = refl; each = λ j y e y_at e_at. cc };
-    good = λ off j y at. cc;
-    bad = λ on. cc;
-  }
-
-  -- one case more
-  pub listed_more : (cases : List Case) (es : List Entry) (fails : Bool) (x : Case) (m : Made) → AreListed s c given cases es fails
-      → IsMadeEntry s c given x m → AreListed s c given (cases ++ x ∷ []) (es ++ m.entry ∷ []) (fails || m.fails)
-  listed_more cases es fails x m are here = record {
-    entries = entries_more cases es x m.entry are.entries here.entry;
-    good = λ off j y at. go (or_parts fails m.fails off) j y (push_cases cases x y j at);
-    bad = λ on. some (true_or fails m.fails on);
-  }
-    where
-      go : (fails ≡ false) × (m.fails ≡ false) → (j : ℕ) (y : Case) → (slice_get cases j ≡ Some y) ⊎ ((j ≡ length cases) × (x ≡ y)) → IsGoodCase s c y
-      go (off, also) j y (inl at) = are.good off j y at
-      go (off, also) j y (inr (e, same)) = subst (λ (z : Case). IsGoodCase s c z) same (here.good also)
-
-      some : (fails ≡ true) ⊎ (m.fails ≡ true)
-          → (j : ℕ) × (y : Case) × (e : Entry) × (slice_get (cases ++ x ∷ []) j ≡ Some y) × (slice_get (es ++ m.entry ∷ []) j ≡ Some e) × IsBadCase s c y e
-      some (inl on) =
-          let (j, y, e, y_at, e_at, bad) = are.bad on in
-          (j, y, e, kept-append cases x y j y_at, kept-append es m.entry e j e_at, bad)
-      some (inr on) =
-          let size = are.entries.size in (
-            length cases,
-            x,
-            m.entry,
-            get_push cases x,
-            ap (slice_get (es ++ m.entry ∷ [])) (sym size) ∙ get_push es m.entry,
-            here.bad on,
-          )
+    go : (j : ℕ) (y : Case) (z : Entry) → (slice_get cases j ≡ Some y) ⊎ ((j ≡ length cases) × (x ≡ y)) → (slice_get es j ≡ Some z)
+        ⊎ ((j ≡ length es) × (e ≡ z))
+        → IsEntryOf s c given y z
+    go j y z (inl y_at) (inl z_at) = are.each j y z y_at z_at
+    go j y z (inl y_at) (inr (q, same)) = subst (λ (u : Entry). IsEntryOf s c given y u) same (clash j y y_at q)
+    go j y z (inr (q, same)) (inl z_at) = let n = are.size in let l = slice_get_within es j z z_at in absurd (omega (arith, n, l, q))
+    go j y z (inr (q, same)) (inr (p, also)) = subst (λ (u : Case). IsEntryOf s c given u z) same
+        (subst (λ (u : Entry). IsEntryOf s c given x u) also here)

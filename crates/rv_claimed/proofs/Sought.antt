@@ -1,20 +1,18 @@
 -- What a search is given in a store that has grown, and what follows from what it finds.
-use Rattle.std.proofs.Common.{◌≡◌, ℕ, ◌<◌, ℤ, Bool, true, false, List, [], length, MatchBool, refl, sym, ap, ◌∙◌, subst, arith, if◌then◌else◌}
+use Rattle.std.proofs.Common.{◌≡◌, ℕ, ℤ, Bool, true, false, List, MatchBool, refl, sym, ◌∙◌, subst, arith, if◌then◌else◌}
 use Rattle.rv_diagram.specs.{Nodes.Diagrams, Nodes.IsMeant, Nodes.IsRef, Nodes.value_of, Nodes.Valuation, Nodes.Answers, Nodes.choice, Growing.Extends}
 use Rattle.rv_diagram.specs.{declared.frozen.Frozen.Frozen}
-use Rattle.rv_proofs.specs.{Systems.System, Accepted.IsAccepted, Left.IsLeftPartition, Ranges.IsControlSet}
-use Rattle.rv_proofs.specs.{RowClaims.RowClaim, RowClaims.IsRowGood, declared.certificate.Certificate.Certificate}
+use Rattle.rv_proofs.specs.{Systems.System, Ranges.IsControlSet, RowClaims.RowClaim, RowClaims.IsRowGood, declared.certificate.Certificate.Certificate}
 use Rattle.rv_symbolic.specs.{declared.relation.Relation.Relation, declared.relation.Parts.Parts, Represented.parts_of, Represented.HaveRefs}
 use Rattle.rv_symbolic.specs.{Represented.AreParts}
 use Rattle.rv_symbolic.proofs.Scheduling.{relation_after}
 use Rattle.rv_cases.specs.declared.asking.Questions.{Questions}
 use Rattle.rv_cases.proofs.Keeping.{questions_later}
-use Rattle.rv_walk.specs.Plain.{ArePlain}
 use Rattle.rv_accept.specs.Passing as accepting
 use Rattle.rv_cover.specs.{declared.frame.By.TheVariants.Rows, Seeking.IsDocument, Seeking.IsSought}
 use Rattle.rv_pairs.specs.Taking.{IsTakenAt}
 use Rattle.rv_claims.specs.{declared.claim.Claim.Claim}
-use Rattle.rv_claimed.specs.{Certifying.IsBad, Certifying.IsGiven, Building.IsProof, Searching.IsSearchedFor}
+use Rattle.rv_claimed.specs.{Certifying.IsBad, Certifying.IsGiven, Searching.IsSearchedFor}
 use Rattle.rv_base.proofs.Truths.{clash}
 
 pub given_later : (s : System) (old new : Diagrams) (r : Relation) (q : Questions) → Extends old new → IsGiven s old r q → IsGiven s new r q
@@ -85,31 +83,6 @@ module _ (s : System) (d : Diagrams) (r : Relation) (q : Questions) (given : IsG
   bad_when c taken is true h e = cc
   bad_when c taken is false (v, on, off) e = let means = means_of in (v, (is.exact v).0 on, sym (means.observer v) ∙ off)
 
--- a good claim with an accepted certificate
-pub good_proof : (s : System) (c : RowClaim) (x : Certificate) (left : List ℕ) → ArePlain x → IsAccepted s x → IsRowGood s c → left ≡ []
-    → IsProof s c (record { certificate = x; left = left })
-good_proof s c x left plain accepted good none = record {
-  plain = plain;
-  accepted = λ e. accepted;
-  good = λ e. good;
-  bad = λ some. absurd (some none);
-  left = λ v starts some. absurd (some none);
-}
-
--- a bad claim with a left partition
-pub bad_proof : (s : System) (c : RowClaim) (x : Certificate) (left : List ℕ) → ArePlain x → IsBad s c → IsLeftPartition s x left → 0 < length left
-    → IsProof s c (record { certificate = x; left = left })
-bad_proof s c x left plain bad part some = record {
-  plain = plain;
-  accepted = λ e. absurd (none e);
-  good = λ e. absurd (none e);
-  bad = λ n. bad;
-  left = λ v starts n. part;
-}
-  where
-    none : left ≡ [] → ⊥
-    none e = let z : length left ≡ 0 = ap length e in omega (arith, z, some)
-
 -- a choice that is nowhere true, and one that is somewhere
 within_all : (whole part none rest : Bool) → rest ≡ (if whole then none else part) → rest ≡ false → part ≡ true → whole ≡ true
 within_all true part none rest e off on = refl
@@ -130,5 +103,5 @@ module _ (old new : Diagrams) (whole none part rest : ℕ) (off : (v : Valuation
       → (w : Valuation) × (value_of old.nodes part w ≡ true) × (value_of old.nodes whole w ≡ false)
   is_within_not v on =
       let p = within_not (value_of old.nodes whole v) (value_of old.nodes part v) (value_of old.nodes none v) (value_of new.nodes rest v) (a.means v)
-          (off v) on in
+      (off v) on in
       (v, p.0, p.1)

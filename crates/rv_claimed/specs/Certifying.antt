@@ -1,17 +1,17 @@
 -- The certificate of a closed row claim, entry by entry.
-use Rattle.std.specs.Prelude.{◌≡◌, ℕ, ◌+◌, ◌<◌, ◌^◌, pos, negsuc, Bool, true, false, List, [], ◌++◌, length, All, Some, IsTrue, slice_get}
+use Rattle.std.specs.Prelude.{◌≡◌, ℕ, ◌+◌, ◌<◌, ◌^◌, pos, negsuc, true, false, List, [], ◌++◌, length, All, Some, IsTrue, slice_get}
 use Rattle.rv_diagram.specs.{Nodes.Valuation, Nodes.Diagrams, declared.frozen.Frozen.Frozen}
 use Rattle.rv_rows.specs.{declared.linear.Row.Row, declared.linear.Form.Form, declared.farkas.Multipliers.Multipliers, Rows.RowWithin, Forms.CanSubstitute}
 use Rattle.rv_rows.specs.{Forms.IsSubstituted, Multipliers.ShowsAtOnce, Multipliers.AreShutAtOnce}
 use Rattle.rv_proofs.specs.RowClaims.{RowClaim, IsRowTaken, IsRowClosed, premises_at}
 use Rattle.rv_proofs.specs.{Systems.System, Systems.IsSystem, Systems.rows_of, Scopes.IsIn, Ranges.IsRecord, Ranges.IsControlSet, Ranges.AreKept}
-use Rattle.rv_proofs.specs.{Samples.by_one, Cases.IsCaseOf, Accepted.IsStepKind, declared.certificate.Location.Location, declared.certificate.Entry.Entry}
+use Rattle.rv_proofs.specs.{Samples.by_one, Cases.IsCaseOf, declared.certificate.Location.Location, declared.certificate.Entry.Entry}
 use Rattle.rv_proofs.specs.{declared.certificate.EntryKind.EntryKind, declared.certificate.EntryKind.TheVariants.Dead}
 use Rattle.rv_proofs.specs.{declared.certificate.EntryKind.TheVariants.Go, declared.certificate.EntryKind.TheVariants.Loop, declared.report.Case.Case}
 use Rattle.rv_symbolic.specs.{declared.relation.Relation.Relation, Represented.IsRelationOf}
 use Rattle.rv_cases.specs.{declared.asking.Questions.Questions, Questions.AreQuestions}
 use Rattle.rv_claims.specs.{declared.claim.Claim.Claim, Claiming.claim_of, Certify.IsClaimKind}
-use Rattle.rv_claimed.specs.{declared.entries.Made.Made, Placing.IsPairOf}
+use Rattle.rv_claimed.specs.Placing.{IsPairOf}
 
 -- What is given: a system, its relation and its questions in a store.
 pub record IsGiven (s : System) (d : Diagrams) (r : Relation) (q : Questions) : Type 0 where
@@ -45,11 +45,11 @@ pub record AreReached (many : ℕ) (given : List Row) (c : Case) (wanted : List 
   pub size : length reach ≡ n
   pub each : (k : ℕ) (r : Row) (m : Multipliers) → slice_get wanted k ≡ Some r → slice_get reach k ≡ Some m → IsReached many given c r m
 
--- A case is dead where its premises are shut at once, and else a step into location 1 that shows each wanted row.
+-- A case is dead where its premises are shut at once, and else a step into location 1 that shows each wanted row, at which the observer is true.
 abbrev pub IsMadeKind : ℕ → List Row → List Row → Case → EntryKind → Type 0
 IsMadeKind many given wanted c (Dead m) = IsShut many given c m
 IsMadeKind many given wanted c (Go target reach) =
-    (target ≡ 1) × (¬ AreShutAtOnce (premises_in given c)) × AreReached many given c wanted (length wanted) reach
+    (target ≡ 1) × (c.observer ≡ true) × (¬ AreShutAtOnce (premises_in given c)) × AreReached many given c wanted (length wanted) reach
 IsMadeKind many given wanted c (Loop first before around state) = ⊥
 
 -- A closed claim of a system with so many tests, whose rows can be kept and have, with the tests, numbers that a document can write.
@@ -83,41 +83,17 @@ IsRangedKind premises wanted (Dead m) = IsRecord premises m × (m.divisor ≡ po
 IsRangedKind premises wanted (Go target reach) = (target ≡ 1) × (length reach ≡ wanted) × All (IsRecord premises) reach
 IsRangedKind premises wanted (Loop first before around state) = ⊥
 
--- The entry of a case: throughout it, it is what the claim asks for.
+-- The entry of a case: throughout it, it is what the claim asks for, and the observer is true wherever the claim takes the valuation.
 pub record IsEntryOf (s : System) (c : RowClaim) (given : List Row) (case : Case) (e : Entry) : Type 0 where
   pub condition : e.condition ≡ case.condition
   pub kind : (v : Valuation) → IsIn case.condition v → IsClaimKind s c given v e.kind
   pub ranged : IsRangedKind (length given + s.tests) (length c.rows) e.kind
+  pub good : (v : Valuation) → IsIn case.condition v → IsRowTaken s c v → IsTrue (s.observer v)
 
--- There is such an entry for each of the first n cases.
-pub record AreEntriesOf (s : System) (c : RowClaim) (given : List Row) (cases : List Case) (n : ℕ) (es : List Entry) : Type 0 where
-  pub size : length es ≡ n
+-- There is such an entry for each case.
+pub record AreEntriesOf (s : System) (c : RowClaim) (given : List Row) (cases : List Case) (es : List Entry) : Type 0 where
+  pub size : length es ≡ length cases
   pub each : (j : ℕ) (case : Case) (e : Entry) → slice_get cases j ≡ Some case → slice_get es j ≡ Some e → IsEntryOf s c given case e
-
--- The observer is true at each valuation of the case that the claim takes.
-abbrev pub IsGoodCase : System → RowClaim → Case → Type 0
-IsGoodCase s c case = (v : Valuation) → IsIn case.condition v → IsRowTaken s c v → IsTrue (s.observer v)
-
--- The entry is a step, and the observer is false at a valuation of the case that the claim takes.
-pub record IsBadCase (s : System) (c : RowClaim) (case : Case) (e : Entry) : Type 0 where
-  pub step : IsStepKind e.kind
-  pub valuation : Valuation
-  pub within : IsIn case.condition valuation
-  pub taken : IsRowTaken s c valuation
-  pub fails : s.observer valuation ≡ false
-
--- The entry of a case, and whether the case is bad: else it is good.
-pub record IsMadeEntry (s : System) (c : RowClaim) (given : List Row) (case : Case) (m : Made) : Type 0 where
-  pub entry : IsEntryOf s c given case m.entry
-  pub good : m.fails ≡ false → IsGoodCase s c case
-  pub bad : m.fails ≡ true → IsBadCase s c case m.entry
-
--- The entries of cases, and whether one of the cases is bad: else each is good.
-pub record AreListed (s : System) (c : RowClaim) (given : List Row) (cases : List Case) (es : List Entry) (fails : Bool) : Type 0 where
-  pub entries : AreEntriesOf s c given cases (length cases) es
-  pub good : fails ≡ false → (j : ℕ) (case : Case) → slice_get cases j ≡ Some case → IsGoodCase s c case
-  pub bad : fails ≡ true
-      → (j : ℕ) × (case : Case) × (e : Entry) × (slice_get cases j ≡ Some case) × (slice_get es j ≡ Some e) × IsBadCase s c case e
 
 -- A location with these control states, rows and entries: the rows of its state are those of its entry.
 pub record IsLocationOf (from : Frozen) (rows : List Row) (es : List Entry) (l : Location) : Type 0 where

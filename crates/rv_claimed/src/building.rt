@@ -1,24 +1,23 @@
 //! The certificate of a closed row claim.
 
-ghost use Rattle.std.specs.Prelude.{◌≡◌, ◌<◌, ◌≤◌, ◌+◌, ◌^◌, ℤ, List, [], length, All, false, IsTrue, IfOk, IsErrOf};
+ghost use Rattle.std.specs.Prelude.{◌≡◌, ◌<◌, ◌≤◌, ◌+◌, ◌^◌, ℤ, List, length, All, false, IfOk, IfSome, IfNone, MatchOption, IsErrOf};
 ghost use Rattle.std.specs.Int.RustNames.{unsigned_abs};
 ghost use Rattle.rv_diagram.specs.Nodes.{Valuation};
 ghost use Rattle.rv_proofs.specs.Systems.{System};
 ghost use Rattle.rv_proofs.specs.Cases.{IsInitialSet};
 ghost use Rattle.rv_proofs.specs.Accepted.{IsAccepted};
-ghost use Rattle.rv_proofs.specs.Left.{IsLeftPartition};
 ghost use Rattle.rv_proofs.specs.RowClaims.{IsRowTaken, IsRowClosed, IsRowGood};
 ghost use Rattle.rv_walk.specs.Plain.{ArePlain};
 ghost use Rattle.rv_claims.specs.Claiming.{claim_of, IsKeptClaim};
-ghost use Rattle.rv_claimed.specs.Certifying.{IsGiven};
+ghost use Rattle.rv_claimed.specs.Certifying.{IsBad, IsGiven};
 ghost use Rattle.rv_claimed.specs.Building.{IsStart, AreOthers, IsProof};
 
-use crate::answer::Claimed;
 use crate::locations::{MOST, Part, assembled};
-use crate::searching::few_entries;
+use crate::searching::{Found, few_entries};
 use rv_cases::{Questions, cases};
 use rv_claims::Claim;
 use rv_diagram::{Frozen, Store, StoreFault};
+use rv_proofs::Certificate;
 use rv_symbolic::Relation;
 use rv_walk::without;
 use std::alloc::Global;
@@ -63,7 +62,7 @@ fn others_of(
     Ok(Part { control, cases })
 }
 
-/// The certificate of a closed row claim over its cases, and all that is proved of it. There are so many tests.
+/// The certificate of a good closed row claim over its cases, and none of a bad one. There are so many tests.
 fn over_cases(
     alloc: Global,
     store: &mut Store,
@@ -71,13 +70,14 @@ fn over_cases(
     questions: &Questions,
     claim: &Claim,
     many: usize,
-) -> Result<Claimed, StoreFault>
+) -> Result<Option<Certificate>, StoreFault>
     requires given { (s : System) × (thresholds : List ℤ) × IsGiven s store.old relation.now questions.now × IsKeptClaim s thresholds claim.now
         × IsRowClosed s (claim_of claim.now) }
     requires many { many ≡ length questions.now.rows }
     requires few { length claim.now.rows + many < 2 ^ 32 }
     ensures proof { (s : System) (thresholds : List ℤ) → IsGiven s store.old relation.now questions.now → IsKeptClaim s thresholds claim.now
-        → IsRowClosed s (claim_of claim.now) → IfOk result (IsProof s (claim_of claim.now)) }
+        → IsRowClosed s (claim_of claim.now)
+        → IfOk result (λ o. MatchOption o (IsBad s (claim_of claim.now)) (IsProof s (claim_of claim.now))) }
     ensures same { store.new ≡ store.old }
     ensures roomy { IsErrOf result StoreFault.Nodes → store.old.limit < 2 ^ (2 ^ store.old.variables) }
 {
@@ -86,18 +86,19 @@ fn over_cases(
     Ok(assembled(alloc, claim, many, start, others)?)
 }
 
-/// The certificate of a closed row claim, and all that is proved of it: the one with few entries that a search finds, and else that over its cases.
+/// The certificate of a good closed row claim, and none of a bad one: the one with few entries that a search finds, and else that over its cases.
 fn proved(
     alloc: Global,
     store: &mut Store,
     relation: &Relation,
     questions: &Questions,
     claim: &Claim,
-) -> Result<Claimed, StoreFault>
+) -> Result<Option<Certificate>, StoreFault>
     requires { (s : System) × (thresholds : List ℤ) × IsGiven s store.old relation.now questions.now × IsKeptClaim s thresholds claim.now
         × IsRowClosed s (claim_of claim.now) }
     ensures proof { (s : System) (thresholds : List ℤ) → IsGiven s store.old relation.now questions.now → IsKeptClaim s thresholds claim.now
-        → IsRowClosed s (claim_of claim.now) → IfOk result (IsProof s (claim_of claim.now)) }
+        → IsRowClosed s (claim_of claim.now)
+        → IfOk result (λ o. MatchOption o (IsBad s (claim_of claim.now)) (IsProof s (claim_of claim.now))) }
     ensures same { store.new ≡ store.old }
     ensures roomy { IsErrOf result StoreFault.Nodes → store.old.limit < 2 ^ (2 ^ store.old.variables) }
 {
@@ -106,41 +107,38 @@ fn proved(
         return Err(StoreFault::Memory);
     }
     match few_entries(alloc, store, relation, questions, claim)? {
-        Some(claimed) => Ok(claimed),
-        None => over_cases(alloc, store, relation, questions, claim, many),
+        Found::Bad => Ok(None),
+        Found::Shown(certificate) => Ok(Some(certificate)),
+        Found::Unknown => over_cases(alloc, store, relation, questions, claim, many),
     }
 }
 
-/// The certificate of a closed row claim, and the numbers of its locations in which the observer may be false. `relation` and `questions`
-/// are those of the system in the store. The certificate has no loop, and two locations: one for the initial control states, without
-/// rows, and one for the others of the claim, with rows of the claim. Where no location is left the claim is good and the
-/// certificate accepted. Else the observer is false at a valuation that the claim takes, and where there is an initial control state the
-/// certificate is a left partition. The store is left as it was, after a fault too. Nodes comes where the store has no room for what is
-/// built on the way, never where its limit holds every function of its variables, and Memory where there is none, or where a document
-/// has no numbers for so many premises or entries.
+/// The certificate of a closed row claim, where the claim is good: none where the observer is false at a valuation that the claim takes.
+/// `relation` and `questions` are those of the system in the store. The certificate is accepted and has no loop, and two locations: one for
+/// the initial control states, without rows, and one for the others of the claim, with rows of the claim. The store is left as it was,
+/// after a fault too. Nodes comes where the store has no room for what is built on the way, never where its limit holds every function of
+/// its variables, and Memory where there is none, or where a document has no numbers for so many premises or entries.
 pub fn certify(
     alloc: Global,
     store: &mut Store,
     relation: &Relation,
     questions: &Questions,
     claim: &Claim,
-) -> Result<Claimed, StoreFault>
+) -> Result<Option<Certificate>, StoreFault>
     requires { (s : System) × (thresholds : List ℤ) × IsGiven s store.old relation.now questions.now × IsKeptClaim s thresholds claim.now
         × IsRowClosed s (claim_of claim.now) × All (λ t. unsigned_abs t ≤ 2 ^ 41) thresholds }
     ensures accepted { (s : System) (thresholds : List ℤ) → IsGiven s store.old relation.now questions.now → IsKeptClaim s thresholds claim.now
         → IsRowClosed s (claim_of claim.now) → All (λ t. unsigned_abs t ≤ 2 ^ 41) thresholds
-        → IfOk result (λ x. x.left ≡ [] → IsAccepted s x.certificate) }
+        → IfOk result (λ o. IfSome o (IsAccepted s)) }
     ensures plain { (s : System) (thresholds : List ℤ) → IsGiven s store.old relation.now questions.now → IsKeptClaim s thresholds claim.now
-        → IsRowClosed s (claim_of claim.now) → All (λ t. unsigned_abs t ≤ 2 ^ 41) thresholds → IfOk result (λ x. ArePlain x.certificate) }
+        → IsRowClosed s (claim_of claim.now) → All (λ t. unsigned_abs t ≤ 2 ^ 41) thresholds
+        → IfOk result (λ o. IfSome o ArePlain) }
     ensures good { (s : System) (thresholds : List ℤ) → IsGiven s store.old relation.now questions.now → IsKeptClaim s thresholds claim.now
         → IsRowClosed s (claim_of claim.now) → All (λ t. unsigned_abs t ≤ 2 ^ 41) thresholds
-        → IfOk result (λ x. x.left ≡ [] → IsRowGood s (claim_of claim.now)) }
+        → IfOk result (λ o. IfSome o (λ x. IsRowGood s (claim_of claim.now))) }
     ensures bad { (s : System) (thresholds : List ℤ) → IsGiven s store.old relation.now questions.now → IsKeptClaim s thresholds claim.now
         → IsRowClosed s (claim_of claim.now) → All (λ t. unsigned_abs t ≤ 2 ^ 41) thresholds
-        → IfOk result (λ x. ¬ (x.left ≡ []) → (v : Valuation) × IsRowTaken s (claim_of claim.now) v × (s.observer v ≡ false)) }
-    ensures left { (s : System) (thresholds : List ℤ) → IsGiven s store.old relation.now questions.now → IsKeptClaim s thresholds claim.now
-        → IsRowClosed s (claim_of claim.now) → All (λ t. unsigned_abs t ≤ 2 ^ 41) thresholds → (v : Valuation) → IsTrue (s.initial v)
-        → IfOk result (λ x. ¬ (x.left ≡ []) → IsLeftPartition s x.certificate x.left) }
+        → IfOk result (λ o. IfNone o ((v : Valuation) × IsRowTaken s (claim_of claim.now) v × (s.observer v ≡ false))) }
     ensures same { store.new ≡ store.old }
     ensures roomy { IsErrOf result StoreFault.Nodes → store.old.limit < 2 ^ (2 ^ store.old.variables) }
 {

@@ -1,15 +1,15 @@
 //! Entries of a certificate: a case whose premises are shut at once is dead, and another is a step, in which a pair of premises shows
-//! each row of the claim after the updates. The premises of a case are made ready for all these questions once.
+//! each row of the claim after the updates. The premises of a case are made ready for all these questions once. A step at which the observer
+//! is false shows that the claim is bad: then there are no entries.
 
-ghost use Rattle.std.specs.Prelude.{◌≡◌, ◌↔◌, ◌<◌, ◌+◌, ◌^◌, ◌||◌, ℕ, false, Some, IsTrue, IfOk, IfSome, IfNone, length, slice_get};
+ghost use Rattle.std.specs.Prelude.{◌≡◌, ◌<◌, ◌+◌, ◌^◌, ℕ, false, Some, IfOk, IfSome, IfNone, MatchOption, length, slice_get};
 ghost use Rattle.rv_diagram.specs.declared.frozen.Frozen.{Frozen as FrozenModel};
 ghost use Rattle.rv_rows.specs.declared.linear.Row.{Row as RowModel};
 ghost use Rattle.rv_rows.specs.Multipliers.{AreShutAtOnce};
 ghost use Rattle.rv_proofs.specs.Systems.{System};
-ghost use Rattle.rv_proofs.specs.Accepted.{IsStepKind};
 ghost use Rattle.rv_claims.specs.Claiming.{claim_of};
 ghost use Rattle.rv_claimed.specs.Certifying.{CanShow, premises_in, IsReached, IsShut, AreReached, IsMadeKind};
-ghost use Rattle.rv_claimed.specs.Certifying.{IsJudgeable, IsSetting, IsCaseIn, AreCasesIn, IsMadeEntry, AreListed};
+ghost use Rattle.rv_claimed.specs.Certifying.{IsBad, IsJudgeable, IsSetting, IsCaseIn, AreCasesIn, IsEntryOf, AreEntriesOf};
 
 use crate::lists::premises_of;
 use crate::pairs::multipliers_of;
@@ -85,7 +85,7 @@ fn shut_by(
     }
 }
 
-/// A step into location 1.
+/// A step into location 1, or none where the observer is false at it.
 fn step_of(
     alloc: Global,
     premises: &Premises,
@@ -93,18 +93,22 @@ fn step_of(
     many: usize,
     case: &Case,
     wanted: &Many<Row>,
-) -> Result<EntryKind, Memory>
+) -> Result<Option<EntryKind>, Memory>
     requires are { premises.now ≡ premises_in given.now case.now }
     requires numbers { length given.now + many < 2 ^ 32 }
     requires opened { ¬ (AreShutAtOnce premises.now) }
     requires wanted { (n : ℕ) (r : RowModel) → slice_get wanted.now n ≡ Some r → CanShow premises.now case.now.updates r }
-    ensures { IfOk result (IsMadeKind many given.now wanted.now case.now) }
+    ensures { IfOk result (λ o. MatchOption o (case.now.observer ≡ false) (IsMadeKind many given.now wanted.now case.now)) }
 {
+    if !case.observer {
+        return Ok(None);
+    }
     let reach = reach_rows(alloc, premises, given, many, case, wanted)?;
-    Ok(EntryKind::Go { target: 1, reach })
+    Ok(Some(EntryKind::Go { target: 1, reach }))
 }
 
-/// What happens in a case: it is dead where its premises are shut at once, and else a step into location 1.
+/// What happens in a case: it is dead where its premises are shut at once, and else a step into location 1, or nothing where the observer
+/// is false at that.
 fn kind_of(
     alloc: Global,
     premises: &Premises,
@@ -112,98 +116,65 @@ fn kind_of(
     many: usize,
     case: &Case,
     wanted: &Many<Row>,
-) -> Result<EntryKind, Memory>
+) -> Result<Option<EntryKind>, Memory>
     requires are { premises.now ≡ premises_in given.now case.now }
     requires numbers { length given.now + many < 2 ^ 32 }
     requires wanted { ¬ (AreShutAtOnce premises.now) → (n : ℕ) (r : RowModel) → slice_get wanted.now n ≡ Some r
         → CanShow premises.now case.now.updates r }
-    ensures { IfOk result (IsMadeKind many given.now wanted.now case.now) }
+    ensures { IfOk result (λ o. MatchOption o ((case.now.observer ≡ false) × (¬ AreShutAtOnce (premises_in given.now case.now)))
+        (IsMadeKind many given.now wanted.now case.now)) }
 {
     match shut_by(alloc, premises, given, many, case)? {
-        Some(refutation) => Ok(EntryKind::Dead(refutation)),
+        Some(refutation) => Ok(Some(EntryKind::Dead(refutation))),
         None => step_of(alloc, premises, given, many, case, wanted),
     }
 }
 
-/// Whether what happens in a case is a step at which the observer is false.
-fn is_failing(case: &Case, kind: &EntryKind) -> bool
-    ensures { IsTrue result ↔ ((case.now.observer ≡ false) × IsStepKind kind.now) }
-{
-    match kind {
-        EntryKind::Dead(_) => false,
-        _ => !case.observer,
-    }
-}
-
-/// An entry, and whether it is a step at which the observer is false.
-#[derive(Debug, Drop)]
-pub struct Made {
-    /// The entry.
-    pub entry: Entry,
-    /// Whether it is such a step.
-    pub fails: bool,
-}
-
-/// The entry of a case.
+/// The entry of a case, or none where the case shows that the claim is bad.
 fn entry_of(
     alloc: Global,
     claim: &Claim,
     given: &Many<Row>,
     many: usize,
     case: Case,
-) -> Result<Made, Memory>
+) -> Result<Option<Entry>, Memory>
     requires { (s : System) × (from : FrozenModel) × IsJudgeable s many claim.now × IsSetting s (claim_of claim.now) from given.now
         × IsCaseIn s from case }
     ensures { (s : System) (from : FrozenModel) → IsJudgeable s many claim.now → IsSetting s (claim_of claim.now) from given.now
-        → IsCaseIn s from case → IfOk result (IsMadeEntry s (claim_of claim.now) given.now case) }
+        → IsCaseIn s from case
+        → IfOk result (λ o. MatchOption o (IsBad s (claim_of claim.now)) (IsEntryOf s (claim_of claim.now) given.now case)) }
 {
     let rows = premises_of(alloc, given, &case.rows)?;
     let premises = Premises::new(alloc, &rows)?;
-    let kind = kind_of(alloc, &premises, given, many, &case, &claim.rows)?;
-    let fails = is_failing(&case, &kind);
-    let entry = Entry {
-        condition: case.condition,
-        kind,
-    };
-    Ok(Made { entry, fails })
+    match kind_of(alloc, &premises, given, many, &case, &claim.rows)? {
+        Some(kind) => Ok(Some(Entry {
+            condition: case.condition,
+            kind,
+        })),
+        None => Ok(None),
+    }
 }
 
-/// Entries, and whether one of them is a step at which the observer is false.
-#[derive(Debug, Drop)]
-pub struct Listed {
-    /// The entries.
-    pub entries: Many<Entry>,
-    /// Whether one of them is such a step.
-    pub fails: bool,
-}
-
-/// Whether one of the two holds.
-fn either(first: bool, second: bool) -> bool
-    ensures { result ≡ (first || second) }
-{
-    first || second
-}
-
-/// The entries of cases.
+/// The entries of cases, or none where a case shows that the claim is bad.
 pub fn entries(
     alloc: Global,
     claim: &Claim,
     given: &Many<Row>,
     many: usize,
     cases: Many<Case>,
-) -> Result<Listed, Memory>
+) -> Result<Option<Many<Entry>>, Memory>
     requires { (s : System) × (from : FrozenModel) × IsJudgeable s many claim.now × IsSetting s (claim_of claim.now) from given.now
         × AreCasesIn s from cases }
     ensures { (s : System) (from : FrozenModel) → IsJudgeable s many claim.now → IsSetting s (claim_of claim.now) from given.now
         → AreCasesIn s from cases
-        → IfOk result (λ x. AreListed s (claim_of claim.now) given.now cases x.entries x.fails) }
+        → IfOk result (λ o. MatchOption o (IsBad s (claim_of claim.now)) (AreEntriesOf s (claim_of claim.now) given.now cases)) }
 {
     let mut entries = Many::new(alloc);
-    let mut fails = false;
     for case in cases.into_vec() {
-        let made = entry_of(alloc, claim, given, many, case)?;
-        fails = either(fails, made.fails);
-        entries.push(made.entry)?;
+        match entry_of(alloc, claim, given, many, case)? {
+            Some(entry) => entries.push(entry)?,
+            None => return Ok(None),
+        }
     }
-    Ok(Listed { entries, fails })
+    Ok(Some(entries))
 }

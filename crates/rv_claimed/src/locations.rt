@@ -1,16 +1,15 @@
 //! Locations of a certificate, and the certificate of two of them.
 
-ghost use Rattle.std.specs.Prelude.{◌≡◌, ◌<◌, ◌^◌, ℕ, [], ◌∷◌, length, IfOk, Some, slice_get};
+ghost use Rattle.std.specs.Prelude.{◌≡◌, ◌<◌, ◌^◌, ℕ, [], ◌∷◌, length, IfOk, MatchOption, Some, slice_get};
 ghost use Rattle.rv_proofs.specs.Systems.{System};
 ghost use Rattle.rv_proofs.specs.Samples.{by_one};
 ghost use Rattle.rv_proofs.specs.Cases.{AreCases};
 ghost use Rattle.rv_claimed.specs.declared.locations.Part.{Part as PartModel};
 ghost use Rattle.rv_claims.specs.Claiming.{claim_of};
-ghost use Rattle.rv_claimed.specs.Certifying.{IsJudgeable, IsSetting, IsLocationOf};
+ghost use Rattle.rv_claimed.specs.Certifying.{IsBad, IsJudgeable, IsSetting, IsLocationOf};
 ghost use Rattle.rv_claimed.specs.Building.{ArePartsOf, IsPlaceOf, IsProof};
 
-use crate::answer::{Claimed, left_among};
-use crate::entries::{Listed, entries};
+use crate::entries::entries;
 use crate::lists::copy_rows;
 use rv_base::{Many, Memory};
 use rv_claims::Claim;
@@ -81,35 +80,30 @@ fn location(
     })
 }
 
-/// A location, and whether one of its entries is a step at which the observer is false.
-#[derive(Debug, Drop)]
-pub struct Place {
-    /// The location.
-    pub location: Location,
-    /// Whether it has such an entry.
-    pub fails: bool,
-}
-
-/// The location of control states with their cases. More cases than a document can count are want of memory.
+/// The location of control states with their cases, or none where a case shows that the claim is bad. More cases than a document can count are
+/// want of memory.
 fn placed(
     alloc: Global,
     claim: &Claim,
     many: usize,
     rows: Many<Row>,
     part: Part,
-) -> Result<Place, Memory>
+) -> Result<Option<Location>, Memory>
     requires { (s : System) × IsJudgeable s many claim.now × IsSetting s (claim_of claim.now) part.control rows
         × AreCases s part.control part.cases }
     ensures { (s : System) → IsJudgeable s many claim.now → IsSetting s (claim_of claim.now) part.control rows
-        → AreCases s part.control part.cases → IfOk result (IsPlaceOf s (claim_of claim.now) part.control rows) }
+        → AreCases s part.control part.cases
+        → IfOk result (λ o. MatchOption o (IsBad s (claim_of claim.now)) (IsPlaceOf s (claim_of claim.now) part.control rows)) }
 {
     let Part { control, cases } = part;
     if cases.len() > MOST {
         return Err(Memory::Memory);
     }
-    let Listed { entries, fails } = entries(alloc, claim, &rows, many, cases)?;
+    let Some(entries) = entries(alloc, claim, &rows, many, cases)? else {
+        return Ok(None);
+    };
     let location = location(alloc, control, rows, entries)?;
-    Ok(Place { location, fails })
+    Ok(Some(location))
 }
 
 /// The certificate of two locations.
@@ -123,39 +117,53 @@ fn certificate(alloc: Global, start: Location, later: Location) -> Result<Certif
 }
 
 /// The location of the initial control states, which has no rows.
-fn first_place(alloc: Global, claim: &Claim, many: usize, start: Part) -> Result<Place, Memory>
+fn first_place(
+    alloc: Global,
+    claim: &Claim,
+    many: usize,
+    start: Part,
+) -> Result<Option<Location>, Memory>
     requires { (s : System) × (others : PartModel) × ArePartsOf s many claim.now start others }
     ensures { (s : System) (others : PartModel) → ArePartsOf s many claim.now start others
-        → IfOk result (IsPlaceOf s (claim_of claim.now) start.control []) }
+        → IfOk result (λ o. MatchOption o (IsBad s (claim_of claim.now)) (IsPlaceOf s (claim_of claim.now) start.control [])) }
 {
     let nothing = Many::new(alloc);
     placed(alloc, claim, many, nothing, start)
 }
 
 /// The location of the other control states, which has the rows of the claim.
-fn later_place(alloc: Global, claim: &Claim, many: usize, others: Part) -> Result<Place, Memory>
+fn later_place(
+    alloc: Global,
+    claim: &Claim,
+    many: usize,
+    others: Part,
+) -> Result<Option<Location>, Memory>
     requires { (s : System) × (start : PartModel) × ArePartsOf s many claim.now start others }
     ensures { (s : System) (start : PartModel) → ArePartsOf s many claim.now start others
-        → IfOk result (IsPlaceOf s (claim_of claim.now) others.control claim.now.rows) }
+        → IfOk result (λ o. MatchOption o (IsBad s (claim_of claim.now)) (IsPlaceOf s (claim_of claim.now) others.control claim.now.rows)) }
 {
     let rows = copy_rows(alloc, &claim.rows)?;
     placed(alloc, claim, many, rows, others)
 }
 
-/// The certificate of a closed claim, and which of its locations are left.
+/// The certificate of a closed claim over its cases, or none where one of them shows that it is bad.
 pub fn assembled(
     alloc: Global,
     claim: &Claim,
     many: usize,
     start: Part,
     others: Part,
-) -> Result<Claimed, Memory>
+) -> Result<Option<Certificate>, Memory>
     requires { (s : System) × ArePartsOf s many claim.now start others }
-    ensures { (s : System) → ArePartsOf s many claim.now start others → IfOk result (IsProof s (claim_of claim.now)) }
+    ensures { (s : System) → ArePartsOf s many claim.now start others
+        → IfOk result (λ o. MatchOption o (IsBad s (claim_of claim.now)) (IsProof s (claim_of claim.now))) }
 {
-    let first = first_place(alloc, claim, many, start)?;
-    let later = later_place(alloc, claim, many, others)?;
-    let left = left_among(alloc, first.fails, later.fails)?;
-    let certificate = certificate(alloc, first.location, later.location)?;
-    Ok(Claimed { certificate, left })
+    let Some(first) = first_place(alloc, claim, many, start)? else {
+        return Ok(None);
+    };
+    let Some(later) = later_place(alloc, claim, many, others)? else {
+        return Ok(None);
+    };
+    let certificate = certificate(alloc, first, later)?;
+    Ok(Some(certificate))
 }

@@ -1,40 +1,37 @@
-//! A certificate with few entries, where a search finds one that is accepted, or for a bad claim a left partition.
+//! A certificate with few entries of a good claim, where a search finds one that is accepted.
 
-ghost use Rattle.std.specs.Prelude.{◌≡◌, ◌<◌, ◌^◌, ℤ, List, length, true, false, IfOk, IfSome, IsErrOf, MatchBool};
+ghost use Rattle.std.specs.Prelude.{◌≡◌, ◌<◌, ◌^◌, ℤ, List, true, false, IfOk, MatchOption, IsErrOf, MatchBool};
 ghost use Rattle.rv_diagram.specs.Nodes.{Valuation, IsRef, value_of};
 ghost use Rattle.rv_diagram.specs.Growing.{Extends};
 ghost use Rattle.rv_proofs.specs.Systems.{System};
-ghost use Rattle.rv_proofs.specs.Ranges.{IsControlSet};
-ghost use Rattle.rv_proofs.specs.Left.{IsLeftPartition};
 ghost use Rattle.rv_proofs.specs.RowClaims.{RowClaim, IsRowGood};
-ghost use Rattle.rv_walk.specs.Plain.{ArePlain};
 ghost use Rattle.rv_cover.specs.Seeking.{IsDocument};
 ghost use Rattle.rv_pairs.specs.Taking.{IsTakenAt};
-ghost use Rattle.rv_claims.specs.Claiming.{claim_of, IsKeptClaim};
+ghost use Rattle.rv_claims.specs.Claiming.{claim_of};
 ghost use Rattle.rv_claimed.specs.Certifying.{IsBad, IsGiven};
 ghost use Rattle.rv_claimed.specs.Building.{IsProof};
-ghost use Rattle.rv_claimed.specs.Searching.{IsSearchedFor, IsFound};
+ghost use Rattle.rv_claimed.specs.Searching.{IsSearchedFor, IsOpened, IsGoodDocument, IsFound};
 
-use crate::answer::Claimed;
-use rv_accept::{accept, judge};
-use rv_base::Many;
+use rv_accept::accept;
 use rv_cases::Questions;
 use rv_claims::Claim;
 use rv_cover::{By, sought};
-use rv_diagram::{Frozen, Ref, Store, StoreFault};
+use rv_diagram::{Ref, Store, StoreFault};
 use rv_pairs::{open_rows, premises};
 use rv_proofs::{Certificate, Verdict};
 use rv_symbolic::Relation;
 use rv_walk::without;
 use std::alloc::Global;
 
-/// What a search finds for a claim.
+/// What is found of a claim.
 #[derive(Debug, Drop)]
-pub struct Found {
-    /// A certificate in the ranges of a document, without loops.
-    pub certificate: Certificate,
-    /// Whether the claim is good.
-    pub good: bool,
+pub enum Found {
+    /// The observer is false at a valuation that the claim takes.
+    Bad,
+    /// The claim is good, and this is a certificate of it.
+    Shown(Certificate),
+    /// Nothing.
+    Unknown,
 }
 
 /// Where the claim takes a valuation, with what was built of it.
@@ -75,81 +72,98 @@ fn is_within(store: &mut Store, part: Ref, whole: Ref) -> Result<bool, StoreFaul
     Ok(true)
 }
 
-/// What the search finds for the claim, which takes `taken`.
-fn found_from(
+/// Where a good claim takes a valuation, with what was built of it, or none of a bad one.
+fn opened(
     alloc: Global,
     store: &mut Store,
     relation: &Relation,
     questions: &Questions,
     claim: &Claim,
-    first: &Frozen,
-    rest: &Frozen,
-    taken: Ref,
-) -> Result<Option<Found>, StoreFault>
+) -> Result<Option<Ref>, StoreFault>
     requires { (s : System) × (thresholds : List ℤ) × IsSearchedFor s thresholds store.old relation.now questions.now claim.now
-        × IsControlSet s first.now × IsControlSet s rest.now × IsTakenAt s store.old.nodes (claim_of claim.now) taken }
+        × (0 < s.states) }
     ensures extends { Extends store.old store.new }
     ensures roomy { IsErrOf result StoreFault.Nodes → store.old.limit < 2 ^ (2 ^ store.old.variables) }
-    ensures found { (s : System) (thresholds : List ℤ) → IsSearchedFor s thresholds store.old relation.now questions.now claim.now
-        → IsControlSet s first.now → IsControlSet s rest.now → IsTakenAt s store.old.nodes (claim_of claim.now) taken
-        → IfOk result (λ o. IfSome o (IsFound s (claim_of claim.now))) }
+    ensures opened { (s : System) (thresholds : List ℤ) → IsSearchedFor s thresholds store.old relation.now questions.now claim.now
+        → 0 < s.states
+        → IfOk result (λ o. MatchOption o (IsBad s (claim_of claim.now)) (IsOpened s store.new.nodes (claim_of claim.now))) }
 {
-    let parts = relation.parts();
-    let good = is_within(store, taken, parts.observer)?;
+    let taken = taken_by(alloc, store, relation, questions, claim)?;
+    let good = is_within(store, taken, relation.parts().observer)?;
+    if good { Ok(Some(taken)) } else { Ok(None) }
+}
+
+/// What the search finds for a good claim, which takes `taken`.
+fn searched(
+    alloc: Global,
+    store: &mut Store,
+    relation: &Relation,
+    questions: &Questions,
+    claim: &Claim,
+    taken: Ref,
+) -> Result<Found, StoreFault>
+    requires { (s : System) × (thresholds : List ℤ) × IsSearchedFor s thresholds store.old relation.now questions.now claim.now
+        × IsOpened s store.old.nodes (claim_of claim.now) taken }
+    ensures found { (s : System) (thresholds : List ℤ) → IsSearchedFor s thresholds store.old relation.now questions.now claim.now
+        → IsOpened s store.old.nodes (claim_of claim.now) taken
+        → IfOk result (IsFound s (claim_of claim.now) (IsGoodDocument s (claim_of claim.now))) }
+    ensures same { store.new ≡ store.old }
+    ensures roomy { IsErrOf result StoreFault.Nodes → store.old.limit < 2 ^ (2 ^ store.old.variables) }
+{
+    let first = relation.initial(store)?;
+    let rest = without(store, &claim.reached, &first)?;
     match sought(
         alloc,
         store,
-        parts,
+        relation.parts(),
         questions,
         By::Rows,
-        first,
-        rest,
+        &first,
+        &rest,
         taken,
         &claim.reached,
         &claim.rows,
     )? {
-        Some(certificate) => Ok(Some(Found { certificate, good })),
-        None => Ok(None),
+        Some(certificate) => Ok(Found::Shown(certificate)),
+        None => Ok(Found::Unknown),
     }
 }
 
-/// What the search finds for the claim, with what was built of it. It finds nothing where there is no state bit.
+/// What is found of the claim, with what was built of it: nothing where there is no state bit.
 fn found_in(
     alloc: Global,
     store: &mut Store,
     relation: &Relation,
     questions: &Questions,
     claim: &Claim,
-) -> Result<Option<Found>, StoreFault>
+) -> Result<Found, StoreFault>
     requires { (s : System) × (thresholds : List ℤ) × IsSearchedFor s thresholds store.old relation.now questions.now claim.now }
     ensures extends { Extends store.old store.new }
     ensures roomy { IsErrOf result StoreFault.Nodes → store.old.limit < 2 ^ (2 ^ store.old.variables) }
     ensures found { (s : System) (thresholds : List ℤ) → IsSearchedFor s thresholds store.old relation.now questions.now claim.now
-        → IfOk result (λ o. IfSome o (IsFound s (claim_of claim.now))) }
+        → IfOk result (IsFound s (claim_of claim.now) (IsGoodDocument s (claim_of claim.now))) }
 {
     let bits = relation.parts().next.len();
     if bits == 0 {
-        return Ok(None);
+        return Ok(Found::Unknown);
     }
-    let first = relation.initial(store)?;
-    let rest = without(store, &claim.reached, &first)?;
-    let taken = taken_by(alloc, store, relation, questions, claim)?;
-    found_from(
-        alloc, store, relation, questions, claim, &first, &rest, taken,
-    )
+    match opened(alloc, store, relation, questions, claim)? {
+        Some(taken) => searched(alloc, store, relation, questions, claim, taken),
+        None => Ok(Found::Bad),
+    }
 }
 
-/// What the search finds for the claim. The store is left as it was.
+/// What is found of the claim. The store is left as it was.
 fn found_apart(
     alloc: Global,
     store: &mut Store,
     relation: &Relation,
     questions: &Questions,
     claim: &Claim,
-) -> Result<Option<Found>, StoreFault>
+) -> Result<Found, StoreFault>
     requires { (s : System) × (thresholds : List ℤ) × IsSearchedFor s thresholds store.old relation.now questions.now claim.now }
     ensures found { (s : System) (thresholds : List ℤ) → IsSearchedFor s thresholds store.old relation.now questions.now claim.now
-        → IfOk result (λ o. IfSome o (IsFound s (claim_of claim.now))) }
+        → IfOk result (IsFound s (claim_of claim.now) (IsGoodDocument s (claim_of claim.now))) }
     ensures same { store.new ≡ store.old }
     ensures roomy { IsErrOf result StoreFault.Nodes → store.old.limit < 2 ^ (2 ^ store.old.variables) }
 {
@@ -159,23 +173,23 @@ fn found_apart(
     answer
 }
 
-/// What the search finds, or none where the store has no room for the search.
+/// What is found of the claim, which is nothing where the store has no room for the search.
 fn found_or_none(
     alloc: Global,
     store: &mut Store,
     relation: &Relation,
     questions: &Questions,
     claim: &Claim,
-) -> Result<Option<Found>, StoreFault>
+) -> Result<Found, StoreFault>
     requires { (s : System) × (thresholds : List ℤ) × IsSearchedFor s thresholds store.old relation.now questions.now claim.now }
     ensures found { (s : System) (thresholds : List ℤ) → IsSearchedFor s thresholds store.old relation.now questions.now claim.now
-        → IfOk result (λ o. IfSome o (IsFound s (claim_of claim.now))) }
+        → IfOk result (IsFound s (claim_of claim.now) (IsGoodDocument s (claim_of claim.now))) }
     ensures same { store.new ≡ store.old }
     ensures roomy { IsErrOf result StoreFault.Nodes → store.old.limit < 2 ^ (2 ^ store.old.variables) }
 {
     match found_apart(alloc, store, relation, questions, claim) {
         Ok(found) => Ok(found),
-        Err(StoreFault::Nodes) => Ok(None),
+        Err(StoreFault::Nodes) => Ok(Found::Unknown),
         Err(StoreFault::Memory) => Err(StoreFault::Memory),
     }
 }
@@ -187,92 +201,37 @@ fn accepted(
     relation: &Relation,
     questions: &Questions,
     certificate: Certificate,
-) -> Result<Option<Claimed>, StoreFault>
+) -> Result<Found, StoreFault>
     requires { (s : System) × IsGiven s store.old relation.now questions.now × IsDocument s certificate }
     ensures proof { (s : System) (c : RowClaim) → IsGiven s store.old relation.now questions.now → IsDocument s certificate → IsRowGood s c
-        → IfOk result (λ o. IfSome o (IsProof s c)) }
+        → IfOk result (IsFound s c (IsProof s c)) }
     ensures same { store.new ≡ store.old }
     ensures roomy { IsErrOf result StoreFault.Nodes → store.old.limit < 2 ^ (2 ^ store.old.variables) }
 {
     match accept(alloc, store, relation.parts(), questions, &certificate)? {
-        Verdict::Accepted => Ok(Some(Claimed {
-            certificate,
-            left: Many::new(alloc),
-        })),
-        Verdict::Rejected(_) => Ok(None),
+        Verdict::Accepted => Ok(Found::Shown(certificate)),
+        Verdict::Rejected(_) => Ok(Found::Unknown),
     }
 }
 
-/// The left partition of a bad claim with these left locations, or none where there are none.
-fn partition(certificate: Certificate, left: Many<u32>) -> Option<Claimed>
-    ensures { (s : System) (c : RowClaim) → ArePlain certificate → IsBad s c → (0 < length left → IsLeftPartition s certificate left)
-        → IfSome result (IsProof s c) }
-{
-    if left.len() == 0 {
-        return None;
-    }
-    Some(Claimed { certificate, left })
-}
-
-/// The certificate of a bad claim with its left locations, where it is a left partition.
-fn judged(
-    alloc: Global,
-    store: &mut Store,
-    relation: &Relation,
-    questions: &Questions,
-    certificate: Certificate,
-) -> Result<Option<Claimed>, StoreFault>
-    requires { (s : System) × IsGiven s store.old relation.now questions.now × IsDocument s certificate }
-    ensures proof { (s : System) (c : RowClaim) → IsGiven s store.old relation.now questions.now → IsDocument s certificate → IsBad s c
-        → IfOk result (λ o. IfSome o (IsProof s c)) }
-    ensures same { store.new ≡ store.old }
-    ensures roomy { IsErrOf result StoreFault.Nodes → store.old.limit < 2 ^ (2 ^ store.old.variables) }
-{
-    match judge(alloc, store, relation.parts(), questions, &certificate)? {
-        Some(left) => Ok(partition(certificate, left)),
-        None => Ok(None),
-    }
-}
-
-/// What was found, where it is accepted or a left partition.
-fn concluded(
-    alloc: Global,
-    store: &mut Store,
-    relation: &Relation,
-    questions: &Questions,
-    found: Found,
-) -> Result<Option<Claimed>, StoreFault>
-    requires { (s : System) × (c : RowClaim) × IsGiven s store.old relation.now questions.now × IsFound s c found }
-    ensures proof { (s : System) (c : RowClaim) → IsGiven s store.old relation.now questions.now → IsFound s c found
-        → IfOk result (λ o. IfSome o (IsProof s c)) }
-    ensures same { store.new ≡ store.old }
-    ensures roomy { IsErrOf result StoreFault.Nodes → store.old.limit < 2 ^ (2 ^ store.old.variables) }
-{
-    let Found { certificate, good } = found;
-    if good {
-        accepted(alloc, store, relation, questions, certificate)
-    } else {
-        judged(alloc, store, relation, questions, certificate)
-    }
-}
-
-/// A certificate with few entries of a good claim, or a left partition of a bad one, where the search finds one. The store is left as it
-/// was. No room for the search is no fault.
+/// Whether the claim is bad, or else a certificate with few entries of it, where the search finds one that is accepted. The store is left as
+/// it was. No room for the search is no fault.
 pub fn few_entries(
     alloc: Global,
     store: &mut Store,
     relation: &Relation,
     questions: &Questions,
     claim: &Claim,
-) -> Result<Option<Claimed>, StoreFault>
+) -> Result<Found, StoreFault>
     requires { (s : System) × (thresholds : List ℤ) × IsSearchedFor s thresholds store.old relation.now questions.now claim.now }
     ensures proof { (s : System) (thresholds : List ℤ) → IsSearchedFor s thresholds store.old relation.now questions.now claim.now
-        → IfOk result (λ o. IfSome o (IsProof s (claim_of claim.now))) }
+        → IfOk result (IsFound s (claim_of claim.now) (IsProof s (claim_of claim.now))) }
     ensures same { store.new ≡ store.old }
     ensures roomy { IsErrOf result StoreFault.Nodes → store.old.limit < 2 ^ (2 ^ store.old.variables) }
 {
     match found_or_none(alloc, store, relation, questions, claim)? {
-        Some(found) => concluded(alloc, store, relation, questions, found),
-        None => Ok(None),
+        Found::Shown(certificate) => accepted(alloc, store, relation, questions, certificate),
+        Found::Bad => Ok(Found::Bad),
+        Found::Unknown => Ok(Found::Unknown),
     }
 }

@@ -1,5 +1,5 @@
 use Rattle.std.proofs.Common.{◌∙◌}
-use Rattle.rv_claimed.proofs.Entering.{within_of, few_of, numbers_few, show_of, made_entry}
+use Rattle.rv_claimed.proofs.Entering.{within_of, few_of, numbers_few, show_of, made_entry, bad_case}
 use Rattle.rv_claimed.proofs.entries.entry_of.Goals as goal
 
 pub new-requires-clause-numbers : goal.new-requires-clause-numbers
@@ -26,7 +26,11 @@ kind_of-requires-clause-wanted c =
     show_of s c.args.many c.args.claim.now judge from c.args.given.now setting c.args.case of c.in_ok-premises.premises
     (c.in_ok-premises.ensures ∙ c.in_ok-rows.ensures)
 
-pub returns : goal.returns
-returns c s from judge setting of =
-    made_entry s c.args.many c.args.claim.now judge from c.args.given.now setting c.args.case of c.in_ok-kind.kind c.is_failing-fails.result
-    c.in_ok-kind.ensures c.is_failing-fails.ensures
+pub returns-in-Some : goal.returns-in-Some
+returns-in-Some c s from judge setting of =
+    made_entry s c.args.many c.args.claim.now judge from c.args.given.now setting c.args.case of c.in-Some.kind (rw c.in-Some.is at c.in_ok-kind.ensures)
+
+pub returns-in-None : goal.returns-in-None
+returns-in-None c s from judge setting of =
+    let (off, opened) = rw c.in-None.is at c.in_ok-kind.ensures in
+    bad_case s c.args.many c.args.claim.now judge from c.args.given.now setting c.args.case of off opened

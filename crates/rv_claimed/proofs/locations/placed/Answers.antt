@@ -10,7 +10,11 @@ entries-requires c =
 
 pub returns : goal.returns
 returns c s judge setting are =
-    let listed = c.in_ok-entries.ensures s c.args.part.control judge setting (cases_in s c.args.part.control c.args.part.cases are) in
+    let entries = rw c.in-Some.is at c.in_ok-entries.ensures s c.args.part.control judge setting (cases_in s c.args.part.control c.args.part.cases are) in
     let few : length c.args.part.cases < 2 ^ 32 = omega (arith, c.len.ensures, c.if-len-gt-MOST.false) in
-    place_of s (claim_of c.args.claim.now) c.args.part.control c.args.rows setting c.args.part.cases are few c.in_ok-entries.field-0.entries
-    c.in_ok-entries.field-0.fails listed c.in_ok-location.location c.in_ok-location.ensures
+    place_of s (claim_of c.args.claim.now) c.args.part.control c.args.rows setting c.args.part.cases are few c.in-Some.entries entries
+    c.in_ok-location.location c.in_ok-location.ensures
+
+pub returns-in_default : goal.returns-in_default
+returns-in_default c s judge setting are =
+    rw c.in_default.is at c.in_ok-entries.ensures s c.args.part.control judge setting (cases_in s c.args.part.control c.args.part.cases are)

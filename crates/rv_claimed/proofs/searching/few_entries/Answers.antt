@@ -5,17 +5,21 @@ use Rattle.rv_claimed.proofs.searching.few_entries.Goals as goal
 pub found_or_none-requires : goal.found_or_none-requires
 found_or_none-requires c = c.requires
 
-pub concluded-requires : goal.concluded-requires
-concluded-requires c =
-    let (s, thresholds, is) = c.requires in (
+pub accepted-requires : goal.accepted-requires
+accepted-requires c =
+    let (s, thresholds, is) = c.requires in
+    let found = rw c.in-Shown.is at c.in_ok-certificate.ensures.found s thresholds is in (
       s,
-      claim_of c.args.claim.now,
       given_there s c.args.store.now c.found_or_none.new.store c.args.relation.now c.args.questions.now c.found_or_none.ensures.same is.given,
-      rw c.in-Some.is at c.in_ok-found.ensures.found s thresholds is,
+      found.document,
     )
 
-pub returns-in-Some-clause-proof : goal.returns-in-Some-clause-proof
-returns-in-Some-clause-proof c s thresholds is =
-    c.concluded.ensures.proof s (claim_of c.args.claim.now)
+pub returns-in-Shown-clause-proof : goal.returns-in-Shown-clause-proof
+returns-in-Shown-clause-proof c s thresholds is =
+    let found = rw c.in-Shown.is at c.in_ok-certificate.ensures.found s thresholds is in
+    c.accepted.ensures.proof s (claim_of c.args.claim.now)
     (given_there s c.args.store.now c.found_or_none.new.store c.args.relation.now c.args.questions.now c.found_or_none.ensures.same is.given)
-    (rw c.in-Some.is at c.in_ok-found.ensures.found s thresholds is)
+    found.document found.good
+
+pub returns-in-Bad-clause-proof : goal.returns-in-Bad-clause-proof
+returns-in-Bad-clause-proof c s thresholds is = rw c.in-Bad.is at c.in_ok-certificate.ensures.found s thresholds is
