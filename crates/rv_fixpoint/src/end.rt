@@ -1,24 +1,14 @@
 //! How an analysis is asked, and how it ends.
 
-use rv_base::Many;
-use rv_proofs::Certificate;
+use rv_proofs::{Certificate, LeftReport};
 
 /// What an analysis may do.
 #[derive(Clone, Copy, Debug, PartialEq, Eq)]
 pub struct Options {
-    /// How many locations there may be, at least 1. The certificate of a row claim is not held to it.
+    /// How many locations there may be, from 1 to 4,096. The certificate of a row claim is not held to it.
     pub locations: u32,
     /// Whether loops may be accelerated.
     pub accelerate: bool,
-}
-
-/// What is left where an analysis neither proves nor refutes.
-#[derive(Debug, PartialEq, Eq, Drop)]
-pub struct Left {
-    /// The partition of the control states, and what is proved of it.
-    pub partition: Certificate,
-    /// The numbers of its locations in which the observer may be false, rising.
-    pub left: Many<u32>,
 }
 
 /// How an analysis ends.
@@ -26,6 +16,6 @@ pub struct Left {
 pub enum End {
     /// The system is safe: an accepted certificate of it.
     Proved(Certificate),
-    /// Nothing more was found: a left partition.
-    Left(Left),
+    /// Nothing more was found: a left partition, and why nothing more was split.
+    Left(LeftReport),
 }

@@ -1,4 +1,3 @@
 pub mod Representing
 pub mod Columns
-pub mod Starting
 pub mod Analysed

@@ -1,110 +1,87 @@
 //! What is proved of a system that no box claim decides.
 
-ghost use Rattle.std.specs.Prelude.{◌≡◌, ◌<◌, ◌^◌, ℤ, List, [], IfOk, IfSome, IsErrOf};
+ghost use Rattle.std.specs.Prelude.{◌≡◌, ◌<◌, ◌≤◌, ◌^◌, ℤ, List, IfOk, IfSome, IsSome, IsErrOf};
 ghost use Rattle.rv_proofs.specs.Systems.{System};
-ghost use Rattle.rv_proofs.specs.Accepted.{IsAccepted};
-ghost use Rattle.rv_proofs.specs.Left.{IsLeftPartition};
 ghost use Rattle.rv_proofs.specs.RowClaims.{HasGoodRows, IsLeastRowClosed};
-ghost use Rattle.rv_symbolic.specs.Represented.{IsRelationOf};
-ghost use Rattle.rv_walk.specs.Plain.{ArePlain};
 ghost use Rattle.rv_claims.specs.Claiming.{claim_of, IsKeptClaim};
-ghost use Rattle.rv_widen.specs.Given.{IsGiven as IsGivenToWiden};
-ghost use Rattle.rv_reading.specs.Analysing.{HasStarts, IsGiven, IsProvedOf};
+ghost use Rattle.rv_reading.specs.Analysing.{IsGiven, IsCertified, IsAnalysisOf, IsProved};
 
-use rv_base::{Many, Memory};
+use crate::ending::{Analysis, ended};
 use rv_cases::Questions;
-use rv_claimed::{Claimed, certify};
+use rv_claimed::certify;
 use rv_claims::Claim;
 use rv_diagram::{Store, StoreFault};
+use rv_left::left_report;
 use rv_proofs::{Certificate, tighter_row_claims};
+use rv_refine::refined;
 use rv_rise::least_closed;
 use rv_symbolic::Relation;
-use rv_widen::widened;
 use std::alloc::Global;
 
-/// Whether there is an initial control state.
-pub fn has_initial(store: &Store, relation: &Relation) -> Result<bool, Memory>
-    requires { (s : System) × IsRelationOf s store.now relation.now }
-    ensures { (s : System) → IsRelationOf s store.now relation.now → IfOk result (HasStarts s) }
-{
-    let found = store.pick(relation.parts().initial)?;
-    Ok(found.is_some())
-}
-
-/// A certificate by forward iteration with polyhedra, or none, also where the store has no room for the iteration.
-fn widened_or_none(
-    alloc: Global,
-    store: &mut Store,
-    relation: &Relation,
-    questions: &Questions,
-    claim: &Claim,
-) -> Result<Option<Certificate>, StoreFault>
-    requires { (s : System) × (thresholds : List ℤ) × IsGivenToWiden s store.old relation.now questions.now × IsKeptClaim s thresholds claim.now }
-    ensures accepted { (s : System) (thresholds : List ℤ) → IsGivenToWiden s store.old relation.now questions.now
-        → IsKeptClaim s thresholds claim.now → IfOk result (λ o. IfSome o (IsAccepted s)) }
-    ensures plain { (s : System) (thresholds : List ℤ) → IsGivenToWiden s store.old relation.now questions.now
-        → IsKeptClaim s thresholds claim.now → IfOk result (λ o. IfSome o ArePlain) }
-    ensures same { store.new ≡ store.old }
-    ensures roomy { IsErrOf result StoreFault.Nodes → store.old.limit < 2 ^ (2 ^ store.old.variables) }
-{
-    match widened(alloc, store, relation, questions, claim) {
-        Ok(certificate) => Ok(certificate),
-        Err(StoreFault::Nodes) => Ok(None),
-        Err(StoreFault::Memory) => Err(StoreFault::Memory),
+/// The number, or the greatest one where it is more.
+pub fn at_most(number: usize, greatest: u32) -> u32 {
+    if number < greatest as usize {
+        number as u32
+    } else {
+        greatest
     }
 }
 
-/// What is proved of the least closed row claim, with rows that hold besides where it is not good.
-fn judged(
+/// A certificate by rows: that of the least closed row claim where it is good, and else one over parts of its control states, or none.
+fn by_rows(
     alloc: Global,
     store: &mut Store,
     relation: &Relation,
     questions: &Questions,
     claim: &Claim,
-) -> Result<Claimed, StoreFault>
-    requires { (s : System) × (thresholds : List ℤ) × IsGiven s store.old relation.now questions.now thresholds
-        × IsKeptClaim s thresholds claim.now × IsLeastRowClosed s thresholds (claim_of claim.now) }
-    ensures proof { (s : System) (thresholds : List ℤ) → IsGiven s store.old relation.now questions.now thresholds
-        → IsKeptClaim s thresholds claim.now → IsLeastRowClosed s thresholds (claim_of claim.now) → IfOk result (IsProvedOf s thresholds) }
+    thresholds: &[i128],
+) -> Result<Option<Certificate>, StoreFault>
+    requires { (s : System) × IsGiven s store.old relation.now questions.now thresholds.now × IsKeptClaim s thresholds.now claim.now
+        × IsLeastRowClosed s thresholds.now (claim_of claim.now) }
+    ensures certified { (s : System) → IsGiven s store.old relation.now questions.now thresholds.now → IsKeptClaim s thresholds.now claim.now
+        → IsLeastRowClosed s thresholds.now (claim_of claim.now) → IfOk result (λ o. IfSome o (IsCertified s)) }
+    ensures claims { (s : System) → IsGiven s store.old relation.now questions.now thresholds.now → IsKeptClaim s thresholds.now claim.now
+        → IsLeastRowClosed s thresholds.now (claim_of claim.now) → HasGoodRows s thresholds.now → IfOk result IsSome }
     ensures same { store.new ≡ store.old }
     ensures roomy { IsErrOf result StoreFault.Nodes → store.old.limit < 2 ^ (2 ^ store.old.variables) }
 {
     tighter_row_claims();
-    let claimed = certify(alloc, store, relation, questions, claim)?;
-    if claimed.left.is_empty() {
-        return Ok(claimed);
-    }
-    match widened_or_none(alloc, store, relation, questions, claim)? {
-        Some(certificate) => Ok(Claimed {
-            certificate,
-            left: Many::new(alloc),
-        }),
-        None => Ok(claimed),
+    match certify(alloc, store, relation, questions, claim)? {
+        Some(certificate) => Ok(Some(certificate)),
+        None => {
+            let reached = &claim.reached;
+            let found = refined(alloc, store, relation, questions, reached, thresholds)?;
+            Ok(found)
+        }
     }
 }
 
-/// What is proved of a system with these thresholds, which has an initial control state where `starts` says so: a certificate without loops.
-/// Where no location is left it is accepted, and none is wherever some closed row claim is good; else it is a left partition.
+/// What is proved of a system with these thresholds: an accepted certificate without loops, wherever some closed row claim is good and where rows over
+/// parts of the control states are found besides; else a left partition without rows, of at most so many locations. The first `ticks` state bits
+/// are those of ticks, by which parts are told apart first.
 pub fn analysed(
     alloc: Global,
     store: &mut Store,
     relation: &Relation,
     questions: &Questions,
     thresholds: &[i128],
-    starts: bool,
-) -> Result<Claimed, StoreFault>
-    requires { (s : System) × IsGiven s store.old relation.now questions.now thresholds.now × HasStarts s starts }
-    ensures accepted { (s : System) → IsGiven s store.old relation.now questions.now thresholds.now → HasStarts s starts
-        → IfOk result (λ x. x.left ≡ [] → IsAccepted s x.certificate) }
-    ensures plain { (s : System) → IsGiven s store.old relation.now questions.now thresholds.now → HasStarts s starts
-        → IfOk result (λ x. ArePlain x.certificate) }
-    ensures claims { (s : System) → IsGiven s store.old relation.now questions.now thresholds.now → HasStarts s starts
-        → HasGoodRows s thresholds.now → IfOk result (λ x. x.left ≡ []) }
-    ensures left { (s : System) → IsGiven s store.old relation.now questions.now thresholds.now → HasStarts s starts
-        → IfOk result (λ x. ¬ (x.left ≡ []) → IsLeftPartition s x.certificate x.left) }
+    ticks: u32,
+    locations: u32,
+) -> Result<Analysis, StoreFault>
+    requires given { (s : System) × IsGiven s store.old relation.now questions.now thresholds.now }
+    requires least { 1 ≤ locations }
+    requires most { locations ≤ 4096 }
+    ensures end { (s : System) → IsGiven s store.old relation.now questions.now thresholds.now → IfOk result (IsAnalysisOf s locations) }
+    ensures claims { (s : System) → IsGiven s store.old relation.now questions.now thresholds.now → HasGoodRows s thresholds.now
+        → IfOk result IsProved }
     ensures same { store.new ≡ store.old }
     ensures roomy { IsErrOf result StoreFault.Nodes → store.old.limit < 2 ^ (2 ^ store.old.variables) }
 {
     let claim = least_closed(alloc, store, relation, questions, thresholds)?;
-    judged(alloc, store, relation, questions, &claim)
+    let found = by_rows(alloc, store, relation, questions, &claim, thresholds)?;
+    if let Some(certificate) = found {
+        return Ok(Analysis::Proved(certificate));
+    }
+    let report = left_report(alloc, store, relation, ticks, locations)?;
+    Ok(ended(report))
 }

@@ -17,7 +17,8 @@ ghost use Rattle.rv_proofs.specs.Reached.{HasNoIntegers, IsLeastClosed, AreLayer
 ghost use Rattle.rv_proofs.specs.Runs.{IsSafeSystem};
 ghost use Rattle.rv_proofs.specs.Boxes.{BoxClaim, HasGoodBox};
 ghost use Rattle.rv_proofs.specs.RowClaims.{HasGoodRows};
-ghost use Rattle.rv_proofs.specs.Left.{IsLeftPartition};
+ghost use Rattle.rv_proofs.specs.Left.{IsLeftReport};
+ghost use Rattle.rv_proofs.specs.declared.report.LeftReport.{LeftReport as LeftModel};
 ghost use Rattle.rv_proofs.specs.Counts.{HasFree};
 ghost use Rattle.rv_proofs.specs.Verdicts.{IsVerdict};
 ghost use Rattle.rv_proofs.specs.declared.certificate.Certificate.{Certificate as CertificateModel};
@@ -31,16 +32,17 @@ ghost use Rattle.rv_walk.specs.Ends.{IsGoodCertificate, AreBadLayers, IsGoodEnd}
 ghost use Rattle.rv_walk.specs.Plain.{ArePlain};
 ghost use Rattle.rv_walk.specs.Paths.{IsFalsifyingPath, IsShortestPath};
 ghost use Rattle.rv_open.specs.Columns.{HasNoColumns, AreLeastBadLayers};
+ghost use Rattle.rv_reading.specs.Analysing.{IsProved};
 ghost use Rattle.rv_reading.specs.Lending.{LendsStore};
 ghost use Rattle.rv_reading.specs.Read.{flat_of, system_read, diagrams_of, IsRead};
 
-use crate::analysis::{analysed, has_initial};
+use crate::analysis::{analysed, at_most};
 use crate::candidates::candidate_or_none;
+use crate::ending::Analysis;
 use rv_accept::accept;
 use rv_base::Many;
 use rv_bits::{Around, ReadSystem, read_system};
 use rv_cases::{Questions, cases};
-use rv_claimed::Claimed;
 use rv_control::{computed_instants, control_is_a_system};
 use rv_diagram::{Frozen, Store, StoreFault};
 use rv_flat::Flat;
@@ -233,27 +235,30 @@ impl<'a> Reading<'a> {
         )
     }
 
-    /// The least closed row claim of the flat system, with bounds among its thresholds, and what is proved of it: a certificate without loops, of
-    /// one location for the initial control states and one for the others. Where no location is left the certificate is accepted, and none is
-    /// wherever some closed row claim is good; else the certificate is a left partition. Where the claim is not good, rows are sought that
-    /// hold besides, by forward iteration with polyhedra.
-    pub fn analyse(&mut self, alloc: Global) -> Result<Claimed, StoreFault>
+    /// What is proved of the flat system: of its least closed row claim, with bounds among its thresholds, where that is good, and else of rows over
+    /// parts of the control states. Proved has an accepted certificate without loops, and comes wherever some closed row claim is good. Left has a
+    /// left partition without rows and loops: it has so many locations and more were not to be made, or each left location has one control state.
+    pub fn analyse(&mut self, alloc: Global, locations: u32) -> Result<Analysis, StoreFault>
         requires read { IsRead self.old }
         requires thresholds { All (λ t. unsigned_abs t ≤ 2 ^ 41) (flat_of self.old).thresholds }
-        ensures accepted { IfOk result (λ x. x.left ≡ [] → IsAccepted (system_read self.old) x.certificate) }
-        ensures plain { IfOk result (λ x. ArePlain x.certificate) }
-        ensures claims { HasGoodRows (system_read self.old) (flat_of self.old).thresholds → IfOk result (λ x. x.left ≡ []) }
-        ensures left { IfOk result (λ x. ¬ (x.left ≡ []) → IsLeftPartition (system_read self.old) x.certificate x.left) }
+        requires least { 1 ≤ locations }
+        requires most { locations ≤ 4096 }
+        ensures proved { (c : CertificateModel) → result ≡ Ok (Analysis.Proved c) → IsAccepted (system_read self.old) c }
+        ensures plain { (c : CertificateModel) → result ≡ Ok (Analysis.Proved c) → ArePlain c }
+        ensures left { (l : LeftModel) → result ≡ Ok (Analysis.Left l) → IsLeftReport (system_read self.old) locations l }
+        ensures plain_left { (l : LeftModel) → result ≡ Ok (Analysis.Left l) → ArePlain l.partition }
+        ensures claims { HasGoodRows (system_read self.old) (flat_of self.old).thresholds → IfOk result IsProved }
         ensures same { self.new ≡ self.old }
         ensures roomy { IsErrOf result StoreFault.Nodes → (diagrams_of self.old).limit < 2 ^ (2 ^ (diagrams_of self.old).variables) }
     {
         let thresholds = self.flat.thresholds.as_slice();
-        // (a left partition has an initial control state, and without one each claim is good)
-        let starts = has_initial(&self.store, &self.relation)?;
+        let ticks = at_most(self.flat.tick_flows.len(), 4096);
         let store = &mut self.store;
         let relation = &self.relation;
         let questions = &self.questions;
-        analysed(alloc, store, relation, questions, thresholds, starts)
+        analysed(
+            alloc, store, relation, questions, thresholds, ticks, locations,
+        )
     }
 
     /// A candidate for a trace that falsifies the program of the flat system: a word for each instant, with a truth value for each variable of the

@@ -1,5 +1,0 @@
-pub mod Fitting
-pub mod Recording
-pub mod Assembling
-pub mod Giving
-pub mod Joining
