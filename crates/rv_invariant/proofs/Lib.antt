@@ -20,3 +20,4 @@ pub mod Adding
 pub mod Awaiting
 pub mod Sounding
 pub mod Lined
+pub mod Reporting

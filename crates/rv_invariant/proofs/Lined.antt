@@ -20,14 +20,15 @@ use Rattle.rv_invfile.proofs.Lines.{wide-rows}
 use Rattle.rv_invfile.proofs.Sound.{name-sound, decimal-sound, dotted-sound, signed-sound, sound-quiet, not-blank}
 use Rattle.rv_invariant.specs.Naming.{name_at, bit_text, column_text, bit_texts, column_texts}
 use Rattle.rv_invariant.specs.Pieces.{triple_texts, diagram_record, weight_texts, by_record, list_records, row_record}
-use Rattle.rv_invariant.specs.Certificates.{first_record, last_record, kind_records, entry_records, cases_records, location_records, certificate_records}
+use Rattle.rv_invariant.specs.Certificates.{last_record, kind_records, entry_records, cases_records, location_records, body_records}
+use Rattle.rv_invariant.specs.Certificates.{certificate_records}
 use Rattle.rv_base.proofs.Truths.{both_of}
 
 -- no byte of the text is set apart
-abbrev IsQuiet : List ℕ → Type 0
+abbrev pub IsQuiet : List ℕ → Type 0
 IsQuiet text = list_any (needs_byte default_writer) text ≡ false
 
-abbrev AreQuiet : Fields → Type 0
+abbrev pub AreQuiet : Fields → Type 0
 AreQuiet [] = ⊤
 AreQuiet (f ∷ fs) = IsQuiet f × AreQuiet fs
 
@@ -38,7 +39,7 @@ joined-quiet x y h k = list_any-append (needs_byte default_writer) x y ∙ ap (�
 name-quiet : (text : List ℕ) → is_name text ≡ true → IsQuiet text
 name-quiet text h = sound-quiet text (name-sound text h)
 
-number-quiet : (n : ℕ) → IsQuiet (decimal n)
+pub number-quiet : (n : ℕ) → IsQuiet (decimal n)
 number-quiet n = sound-quiet (decimal n) (decimal-sound n)
 
 whole-quiet : (z : ℤ) → IsQuiet (signed_decimal z)
@@ -68,7 +69,7 @@ column-quiet : (is : List FlatInput) → list_all (λ i. is_name i.name) is ≡ 
 column-quiet is h (column.Kept p) = place-quiet p.sites
 column-quiet is h (column.Input j) = input-quiet is j h
 
-mapped-quiet : {A : Type 0} (text : A → List ℕ) → ((a : A) → IsQuiet (text a)) → (xs : List A) → AreQuiet (map text xs)
+pub mapped-quiet : {A : Type 0} (text : A → List ℕ) → ((a : A) → IsQuiet (text a)) → (xs : List A) → AreQuiet (map text xs)
 mapped-quiet text h [] = tt
 mapped-quiet text h (x ∷ xs) = (h x, mapped-quiet text h xs)
 
@@ -82,11 +83,11 @@ weights-quiet (w ∷ ws) = (number-quiet w.premise, (whole-quiet w.by, weights-q
 
 -- ---- The records.
 -- a record whose first field is not empty, and whose texts are all such
-abbrev IsClear : Fields → Type 0
+abbrev pub IsClear : Fields → Type 0
 IsClear [] = ⊥
 IsClear (f ∷ fs) = (0 < length f) × AreQuiet (f ∷ fs)
 
-abbrev AreClear : List Fields → Type 0
+abbrev pub AreClear : List Fields → Type 0
 AreClear [] = ⊤
 AreClear (r ∷ rs) = IsClear r × AreClear rs
 
@@ -103,7 +104,7 @@ flat-clear records h [] = tt
 flat-clear records h (x ∷ xs) = joined-clear (records x) (flat_map records xs) (h x) (flat-clear records h xs)
 
 -- a word and a number
-count-clear : (word : List ℕ) → 0 < length word → IsQuiet word → (n : ℕ) → IsClear (word ∷ decimal n ∷ [])
+pub count-clear : (word : List ℕ) → 0 < length word → IsQuiet word → (n : ℕ) → IsClear (word ∷ decimal n ∷ [])
 count-clear word l h n = (l, (h, (number-quiet n, tt)))
 
 diagram-clear : (word : List ℕ) → 0 < length word → IsQuiet word → (d : Frozen) → IsClear (diagram_record word d)
@@ -157,18 +158,20 @@ location-clear l =
     let entry = joined-clear (list_records (codes "entry") l.entry) r4 (list-clear (codes "entry") (omega arith) refl l.entry) first in
     (diagram-clear (codes "control") (omega arith) refl l.control, entry)
 
-certificate-clear : (f : Flat) (c : Certificate) → IsTold f → AreClear (certificate_records f c)
-certificate-clear f c told =
+pub body-clear : (f : Flat) (c : Certificate) → IsTold f → AreClear (body_records f c)
+body-clear f c told =
     let last : AreClear (last_record ∷ []) = ((omega arith, (refl, tt)), tt) in
     let locations = joined-clear (flat_map location_records c.locations) (last_record ∷ []) (flat-clear location_records location-clear c.locations) last in
-    let head : IsClear first_record = (omega arith, (refl, (refl, (refl, tt)))) in
     let main : IsClear (codes "main" ∷ f.main ∷ []) = (omega arith, (refl, (name-quiet f.main told.main, tt))) in
     let bits : IsClear (codes "bits" ∷ bit_texts f) = (omega arith, (refl, mapped-quiet (bit_text f.inputs) (bit-quiet f.inputs told.inputs) f.variables)) in
     let columns : IsClear (codes "columns" ∷ column_texts f) = (
       omega arith,
       (refl, mapped-quiet (column_text f.inputs) (column-quiet f.inputs told.inputs) f.columns),
     ) in
-    (head, (main, (bits, (columns, (count-clear (codes "locations") (omega arith) refl (length c.locations), locations)))))
+    (main, (bits, (columns, (count-clear (codes "locations") (omega arith) refl (length c.locations), locations))))
+
+certificate-clear : (f : Flat) (c : Certificate) → IsTold f → AreClear (certificate_records f c)
+certificate-clear f c told = ((omega arith, (refl, (refl, (refl, tt)))), body-clear f c told)
 
 -- ---- How they are written.
 field-same : (f : List ℕ) → IsQuiet f → field_text default_writer f ≡ f
@@ -192,6 +195,9 @@ unfolding rows_text
 rows-lines [] h = refl
 rows-lines (r ∷ rs) h = ap (λ l. l ++ rows_text rs) (row-line r h.0) ∙ ap (λ l. line r ++ l) (rows-lines rs h.1)
 
+pub clear-wide : (rs : List Fields) → AreClear rs → wide rs ≡ lines rs
+clear-wide rs h = wide-rows rs ∙ rows-lines rs h
+
 -- The records of a certificate are written as their lines.
 pub certificate-wide : (f : Flat) (c : Certificate) → IsTold f → wide (certificate_records f c) ≡ lines (certificate_records f c)
-certificate-wide f c told = wide-rows (certificate_records f c) ∙ rows-lines (certificate_records f c) (certificate-clear f c told)
+certificate-wide f c told = clear-wide (certificate_records f c) (certificate-clear f c told)

@@ -1,6 +1,6 @@
 -- The records of a certificate, written as a file, are read as them.
 use Rattle.std.proofs.Common.{◌≡◌, ◌<◌, ℕ, List, [], ◌∷◌, ◌++◌, length, map, refl, ap, ◌∙◌, arith}
-use Rattle.std.specs.Prelude.{codes, decimal, flat_map}
+use Rattle.std.specs.Prelude.{codes, flat_map}
 use Rattle.csv.specs.{Reading.strip_bom, Writing.fields_text, Writing.is_blank}
 use Rattle.csv.proofs.RoundTrip.{rows_text}
 use Rattle.rv_flat.specs.declared.flat.Flat.{Flat}
@@ -10,8 +10,9 @@ use Rattle.rv_proofs.specs.declared.certificate.EntryKind.TheVariants.{Dead, Go,
 use Rattle.rv_proofs.specs.{declared.certificate.Certificate.Certificate, declared.certificate.Location.Location, declared.certificate.EntryKind.EntryKind}
 use Rattle.rv_invfile.specs.{Csv.records_of, Rules.Fields, Writes.wide}
 use Rattle.rv_invfile.proofs.Lines.{HaveFields, wide-rows, written-read}
-use Rattle.rv_invariant.specs.Certificates.{first_record, last_record, kind_records, entry_records, cases_records, location_records, certificate_records}
-use Rattle.rv_invariant.specs.{Naming.bit_texts, Naming.column_texts, Pieces.by_record, Pieces.list_records, Pieces.row_record}
+use Rattle.rv_invariant.specs.Certificates.{first_record, last_record, kind_records, entry_records, cases_records, location_records, body_records}
+use Rattle.rv_invariant.specs.Certificates.{certificate_records}
+use Rattle.rv_invariant.specs.{Pieces.by_record, Pieces.list_records, Pieces.row_record}
 
 fields-joined : (a b : List Fields) → HaveFields a → HaveFields b → HaveFields (a ++ b)
 fields-joined [] b h k = k
@@ -59,8 +60,8 @@ location-fields l =
     let r4 = list_records (codes "first") l.first ++ r3 in
     (omega arith, fields-joined (list_records (codes "entry") l.entry) r4 (list-fields (codes "entry") l.entry) first)
 
-certificate-fields : (f : Flat) (c : Certificate) → HaveFields (certificate_records f c)
-certificate-fields f c = (
+pub body-fields : (f : Flat) (c : Certificate) → HaveFields (body_records f c)
+body-fields f c = (
   omega arith,
   (
     omega arith,
@@ -68,14 +69,14 @@ certificate-fields f c = (
       omega arith,
       (
         omega arith,
-        (
-          omega arith,
-          fields-joined (flat_map location_records c.locations) (last_record ∷ []) (flat-fields location_records location-fields c.locations) (omega arith, tt),
-        ),
+        fields-joined (flat_map location_records c.locations) (last_record ∷ []) (flat-fields location_records location-fields c.locations) (omega arith, tt),
       ),
     ),
   ),
 )
+
+certificate-fields : (f : Flat) (c : Certificate) → HaveFields (certificate_records f c)
+certificate-fields f c = (omega arith, body-fields f c)
 
 -- no byte order mark begins a certificate
 no-mark : (rs : List Fields) → strip_bom (rows_text (first_record ∷ rs)) ≡ rows_text (first_record ∷ rs)
@@ -84,9 +85,4 @@ no-mark rs = refl
 
 pub records-back : (f : Flat) (c : Certificate) → records_of (wide (certificate_records f c)) ≡ certificate_records f c
 records-back f c =
-    ap records_of (wide-rows (certificate_records f c)) ∙ written-read (certificate_records f c) (certificate-fields f c) (no-mark (others f c))
-  where
-    others : Flat → Certificate → List Fields
-    others f c =
-        (codes "main" ∷ f.main ∷ []) ∷ (codes "bits" ∷ bit_texts f) ∷ (codes "columns" ∷ column_texts f)
-        ∷ (codes "locations" ∷ decimal (length c.locations) ∷ []) ∷ (flat_map location_records c.locations ++ last_record ∷ [])
+    ap records_of (wide-rows (certificate_records f c)) ∙ written-read (certificate_records f c) (certificate-fields f c) (no-mark (body_records f c))

@@ -57,17 +57,20 @@ location_records l =
 
 -- what names the flat system
 abbrev pub name_records : Flat → List Fields
-name_records f = first_record ∷ (codes "main" ∷ f.main ∷ []) ∷ (codes "bits" ∷ bit_texts f) ∷ (codes "columns" ∷ column_texts f) ∷ []
+name_records f = (codes "main" ∷ f.main ∷ []) ∷ (codes "bits" ∷ bit_texts f) ∷ (codes "columns" ∷ column_texts f) ∷ []
 
--- the records of a certificate
-abbrev pub certificate_records : Flat → Certificate → List Fields
-certificate_records f c =
-    first_record
-    ∷ (codes "main" ∷ f.main ∷ [])
+-- the records of a certificate from the name of the node on
+abbrev pub body_records : Flat → Certificate → List Fields
+body_records f c =
+    (codes "main" ∷ f.main ∷ [])
     ∷ (codes "bits" ∷ bit_texts f)
     ∷ (codes "columns" ∷ column_texts f)
     ∷ (codes "locations" ∷ decimal (length c.locations) ∷ [])
     ∷ (flat_map location_records c.locations ++ last_record ∷ [])
+
+-- the records of a certificate
+abbrev pub certificate_records : Flat → Certificate → List Fields
+certificate_records f c = first_record ∷ body_records f c
 
 -- ---- Which certificates have a document.
 -- each reference of a diagram is held in 32 bits

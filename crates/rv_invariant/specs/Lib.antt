@@ -7,3 +7,4 @@ pub mod Continues
 pub mod Certificates
 pub mod Writes
 pub mod Outlines
+pub mod Unknown

@@ -7,7 +7,9 @@ ghost use Rattle.rv_invfile.specs.Spells.{BeginsDocument};
 ghost use Rattle.rv_invfile.specs.Told.{IsTold};
 ghost use Rattle.rv_proofs.specs.Counts.{HasFree};
 ghost use Rattle.rv_proofs.specs.declared.certificate.Certificate.{Certificate as CertificateModel};
+ghost use Rattle.rv_proofs.specs.declared.report.LeftReport.{LeftReport as ReportModel};
 ghost use Rattle.rv_invariant.specs.Certificates.{BeginsCertificate, FitsCertificate, certificate_records, certificate_rule};
+ghost use Rattle.rv_invariant.specs.Unknown.{FitsReport, left_records};
 
 /// A certificate that has a document has the counts and ranges of one, of whatever flat system; and a location of it without a turn of
 /// a loop has no rows in `first` and `around`.
@@ -37,4 +39,10 @@ pub fn awaited_records()
         → (fault_after (certificate_rule f) before r ≡ None) ↔ BeginsDocument (certificate_rule f) (before ++ r ∷ []) }
     ensures written { (f : FlatModel) → IsTold f → (before : List Fields) (r : Fields) → HasNoFault (certificate_rule f) before
         → (fault_after (certificate_rule f) before r ≡ None) ↔ BeginsCertificate f (before ++ r ∷ []) }
+{}
+
+/// An unknown report is told by its document: of two that have the counts and ranges of a document, whose records are the same, the
+/// reasons, the left locations and the partitions are the same. The names in the text of the flat system are letters, digits and `_`.
+pub fn reports_are_told()
+    ensures { (f : FlatModel) (a b : ReportModel) → IsTold f → FitsReport f a → FitsReport f b → left_records f a ≡ left_records f b → a ≡ b }
 {}

@@ -43,11 +43,15 @@ mod outlines;
 mod reading;
 mod rows;
 mod turns;
+mod unknown;
 mod writing;
 
 pub use counts::Shape;
 pub use fronts::{Front, Lists};
-pub use laws::{awaited_records, documents_are_written, documents_exist, documents_fit};
+pub use laws::{
+    awaited_records, documents_are_written, documents_exist, documents_fit, reports_are_told,
+};
 pub use outlines::{Kinds, Outline};
 pub use reading::read_certificate;
+pub use unknown::write_left;
 pub use writing::write_certificate;

@@ -1,4 +1,4 @@
-//! Writing the single records of certificates: diagrams, rows and multipliers.
+//! Writing the single records of certificates: diagrams, rows, multipliers and lists of numbers.
 
 ghost use Rattle.std.specs.Prelude.{◌<◌, ◌^◌, ◌∷◌, [], map, flat_map, decimal, IfOk, OnOk};
 ghost use Rattle.std.specs.Fmt.{signed_decimal};
@@ -43,6 +43,30 @@ fn add_whole(row: &mut ByteRecord, number: i128) -> Result<(), Memory>
     let text = buffer.format(number);
     row.push_field(text.as_bytes())?;
     Ok(())
+}
+
+/// Adds these numbers, in order.
+fn add_numbers(row: &mut ByteRecord, numbers: &Many<u32>) -> Result<(), Memory>
+    ensures { OnOk result (Extends row.old row.new (map decimal numbers.now)) }
+{
+    for index in 0..numbers.len() {
+        add_number(row, *numbers.at(index))?;
+    }
+    Ok(())
+}
+
+/// Writes a record of this word and these numbers.
+pub fn write_numbers(
+    alloc: Global,
+    writer: &mut Writer<Vec<u8>>,
+    word: &[u8],
+    numbers: &Many<u32>,
+) -> Result<(), Memory>
+    ensures { OnOk result (Adds (⟦<Vec<u8> as Write>⟧.contents) writer.old writer.new ((word.now ∷ map decimal numbers.now) ∷ [])) }
+{
+    let mut row = new_row(alloc, word)?;
+    add_numbers(&mut row, numbers)?;
+    put_row(writer, &row)
 }
 
 /// Adds the three numbers of a node.

@@ -177,10 +177,30 @@ fn write_names(alloc: Global, writer: &mut Writer<Vec<u8>>, flat: &Flat) -> Resu
 {
     let bits = bit_texts(alloc, flat)?;
     let columns = column_texts(alloc, flat)?;
-    put(writer, &[b"reaver", b"invariant", b"1"])?;
     put(writer, &[b"main", flat.main.as_str().as_bytes()])?;
     write_texts(alloc, writer, b"bits", &bits)?;
     write_texts(alloc, writer, b"columns", &columns)
+}
+
+/// Writes the records of a certificate from the name of the node on.
+pub fn write_body(
+    alloc: Global,
+    writer: &mut Writer<Vec<u8>>,
+    flat: &Flat,
+    certificate: &Certificate,
+) -> Result<(), Memory>
+    ensures added { OnOk result (Adds (⟦<Vec<u8> as Write>⟧.contents) writer.old writer.new (spec.body_records flat.now certificate.now)) }
+    ensures held { OnOk result (AllHeld certificate.now.locations) }
+{
+    write_names(alloc, writer, flat)?;
+    put_count(
+        alloc,
+        writer,
+        b"locations",
+        certificate.locations.len() as u64,
+    )?;
+    write_locations(alloc, writer, &certificate.locations)?;
+    put(writer, &[b"end"])
 }
 
 /// Writes the records of a certificate.
@@ -193,15 +213,8 @@ fn write_records(
     ensures added { OnOk result (Adds (⟦<Vec<u8> as Write>⟧.contents) writer.old writer.new (spec.certificate_records flat.now certificate.now)) }
     ensures held { OnOk result (AllHeld certificate.now.locations) }
 {
-    write_names(alloc, writer, flat)?;
-    put_count(
-        alloc,
-        writer,
-        b"locations",
-        certificate.locations.len() as u64,
-    )?;
-    write_locations(alloc, writer, &certificate.locations)?;
-    put(writer, &[b"end"])
+    put(writer, &[b"reaver", b"invariant", b"1"])?;
+    write_body(alloc, writer, flat, certificate)
 }
 
 /// Writes the document of a certificate: the bytes of its records, each a line of fields with commas between them. `flat` is the

@@ -52,6 +52,7 @@ module _ (held : Option Shelf) (w : Wanted) (document : List ℕ) where
     violated = λ t h. absurd (let bad : IsCut (Violated t) = subst IsCut h tt in bad);
     document_of = λ t h. absurd (let bad : IsCut (Violated t) = subst IsCut h tt in bad);
     unknown = λ l h. absurd (let bad : IsCut (Unknown l) = subst IsCut h tt in bad);
+    left = λ l h. absurd (let bad : IsCut (Unknown l) = subst IsCut h tt in bad);
     nodes = λ n h. absurd (let bad : IsCut (Nodes n) = subst IsCut h tt in bad);
     unprobed = λ alone n h. absurd (let bad : IsCut (Nodes n) = subst IsCut h tt in bad);
     checked_safe = λ h. absurd (let bad : IsCut Accepted = subst IsCut h tt in bad);
@@ -87,6 +88,7 @@ module _ (held : Option Shelf) (w : Wanted) (document : List ℕ) where
     violated = λ t h. absurd (let bad : IsCut (Violated t) = subst IsCut h tt in bad);
     document_of = λ t h. absurd (let bad : IsCut (Violated t) = subst IsCut h tt in bad);
     unknown = λ l h. absurd (let bad : IsCut (Unknown l) = subst IsCut h tt in bad);
+    left = λ l h. absurd (let bad : IsCut (Unknown l) = subst IsCut h tt in bad);
     nodes = λ n h. absurd (let bad : IsCut (Nodes n) = subst IsCut h tt in bad);
     unprobed = λ alone n h. absurd (let bad : IsCut (Nodes n) = subst IsCut h tt in bad);
     checked_safe = λ h. absurd (let bad : IsCut Accepted = subst IsCut h tt in bad);
@@ -158,6 +160,7 @@ module _ (held : Option Shelf) (w : Wanted) (named : List ℕ × List ℕ) (docu
     violated = λ t h. absurd (let bad : IsLong (Violated t) = subst IsLong h tt in bad);
     document_of = λ t h. absurd (let bad : IsLong (Violated t) = subst IsLong h tt in bad);
     unknown = λ l h. absurd (let bad : IsLong (Unknown l) = subst IsLong h tt in bad);
+    left = λ l h. absurd (let bad : IsLong (Unknown l) = subst IsLong h tt in bad);
     nodes = λ n h. absurd (let bad : IsLong (Nodes n) = subst IsLong h tt in bad);
     unprobed = λ alone n h. absurd (let bad : IsLong (Nodes n) = subst IsLong h tt in bad);
     checked_safe = λ h. absurd (let bad : IsLong Accepted = subst IsLong h tt in bad);
@@ -233,6 +236,7 @@ module _ (held : Option Shelf) (w : Wanted) (document : List ℕ) (none : w.name
     violated = λ t h. absurd (let bad : IsOffFile (Violated t) = subst IsOffFile h off in bad);
     document_of = λ t h. absurd (let bad : IsOffFile (Violated t) = subst IsOffFile h off in bad);
     unknown = λ l h. absurd (let bad : IsOffFile (Unknown l) = subst IsOffFile h off in bad);
+    left = λ l h. absurd (let bad : IsOffFile (Unknown l) = subst IsOffFile h off in bad);
     nodes = nodes;
     unprobed = λ alone. unprobed;
     checked_safe = λ h. absurd (let bad : IsOffFile Accepted = subst IsOffFile h off in bad);

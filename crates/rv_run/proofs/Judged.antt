@@ -7,14 +7,13 @@ use Rattle.rv_meaning.specs.Runs.{IsSafe}
 use Rattle.rv_source.specs.declared.fault.SourceFault.{SourceFault}
 use Rattle.rv_diagram.specs.declared.store.StoreFault.{StoreFault}
 use Rattle.rv_diagram.specs.declared.store.StoreFault.TheVariants as fault
-use Rattle.rv_proofs.specs.declared.certificate.Certificate.{Certificate}
+use Rattle.rv_proofs.specs.{declared.certificate.Certificate.Certificate, declared.report.LeftReport.LeftReport}
 use Rattle.rv_falsify.specs.Falsifying.{IsFalsifying}
 use Rattle.rv_probe.specs.Probes.{probe_of}
 use Rattle.rv_replay.specs.Replays.{IsFalsifiedAt}
-use Rattle.rv_fixpoint.specs.declared.end.Left.{Left}
 use Rattle.rv_run.specs.Answers.{IsOnSource, IsJudgedUnlessLimited, IsSafeUnlessCutOff, IsViolatedUnlessCutOff, IsViolatedUnlessUnread}
 use Rattle.rv_run.specs.Programs.{IsSafeControl, IsUnsafeControl, IsCertified, HasGoodClaim, HasManyVariables, HasProbe, IsUnknown, LacksGoodClaim, LacksProbe}
-use Rattle.rv_run.specs.Verdicts.{IsViolated, IsDocumentOf, IsInvariantOf, IsTraced, IsVerdictOf, verdict_report, verdict_document}
+use Rattle.rv_run.specs.Verdicts.{IsViolated, IsDocumentOf, IsInvariantOf, IsLeftOf, IsTraced, IsVerdictOf, verdict_report, verdict_document}
 use Rattle.rv_run.specs.declared.verdict.Verdict.{Verdict}
 use Rattle.rv_run.specs.declared.verdict.Verdict.TheVariants.{Safe, Violated, Undecided}
 use Rattle.rv_run.specs.declared.report.Report.TheVariants as report
@@ -22,14 +21,14 @@ use Rattle.rv_run.specs.declared.report.Report.TheVariants as report
 pub verdict-on_source : (nodes : ℕ) (r : Result Verdict StoreFault) → IsOnSource (verdict_report nodes r)
 verdict-on_source nodes (Ok (Safe c text)) = tt
 verdict-on_source nodes (Ok (Violated t text)) = tt
-verdict-on_source nodes (Ok (Undecided l)) = tt
+verdict-on_source nodes (Ok (Undecided l text)) = tt
 verdict-on_source nodes (Err fault.Nodes) = tt
 verdict-on_source nodes (Err fault.Memory) = tt
 
 pub verdict-not_refused : (nodes : ℕ) (r : Result Verdict StoreFault) (e : SourceFault) → verdict_report nodes r ≡ report.Refused e → ⊥
 verdict-not_refused nodes (Ok (Safe c text)) e is = cc
 verdict-not_refused nodes (Ok (Violated t text)) e is = cc
-verdict-not_refused nodes (Ok (Undecided l)) e is = cc
+verdict-not_refused nodes (Ok (Undecided l text)) e is = cc
 verdict-not_refused nodes (Err fault.Nodes) e is = cc
 verdict-not_refused nodes (Err fault.Memory) e is = cc
 
@@ -37,11 +36,11 @@ verdict-not_refused nodes (Err fault.Memory) e is = cc
 pub must_judged : (nodes : ℕ) (r : Result Verdict StoreFault) → IsJudgedUnlessLimited (verdict_report nodes r)
 must_judged nodes (Ok (Safe c text)) = inl (inl (c, refl))
 must_judged nodes (Ok (Violated t text)) = inl (inr (inl (t, refl)))
-must_judged nodes (Ok (Undecided l)) = inl (inr (inr (l, refl)))
+must_judged nodes (Ok (Undecided l text)) = inl (inr (inr (l, refl)))
 must_judged nodes (Err fault.Nodes) = inr (inl (nodes, refl))
 must_judged nodes (Err fault.Memory) = inr (inr (inr refl))
 
-module _ (nodes : ℕ) (p : ProgramTree) (m : Identifier) where
+module _ (nodes limit : ℕ) (p : ProgramTree) (m : Identifier) where
   -- a program that a trace falsifies is not safe
   falsified-unsafe : (t : Trace) (k : ℕ) → IsFalsifiedAt p m t k → IsSafe p m → ⊥
   falsified-unsafe t k at safe =
@@ -61,14 +60,14 @@ module _ (nodes : ℕ) (p : ProgramTree) (m : Identifier) where
 
   -- a trace that is shown is the verdict
   pub traced-verdict : (t : Trace) → IsViolated nodes t p m → LacksGoodClaim p m → (r : Result Verdict StoreFault) → IfOk r (IsTraced t p m)
-      → IfOk r (λ v. IsVerdictOf nodes v p m)
+      → IfOk r (λ v. IsVerdictOf nodes limit v p m)
   traced-verdict t is lacks (Ok (Violated u text)) (same, shown) =
       (subst (λ (x : Trace). IsViolated nodes x p m) (sym same) is, subst (λ (x : Trace). IsDocumentOf x text.items p m) (sym same) shown, lacks)
   traced-verdict t is lacks (Ok (Safe c text)) bad = absurd bad
-  traced-verdict t is lacks (Ok (Undecided l)) bad = absurd bad
+  traced-verdict t is lacks (Ok (Undecided l text)) bad = absurd bad
   traced-verdict t is lacks (Err e) told = told
 
-  pub said_safe : (r : Result Verdict StoreFault) (c : Certificate) → IfOk r (λ v. IsVerdictOf nodes v p m) → verdict_report nodes r ≡ report.Safe c
+  pub said_safe : (r : Result Verdict StoreFault) (c : Certificate) → IfOk r (λ v. IsVerdictOf nodes limit v p m) → verdict_report nodes r ≡ report.Safe c
       → IsSafe p m × IsCertified c p m × IsInvariantOf c (verdict_document r) p m
   said_safe (Ok (Safe d text)) c judged is =
       subst (λ (e : Certificate). IsSafe p m × IsCertified e p m × IsInvariantOf e text.items p m) (same d c is) judged
@@ -76,11 +75,11 @@ module _ (nodes : ℕ) (p : ProgramTree) (m : Identifier) where
       same : (d c : Certificate) → report.Safe d ≡ report.Safe c → d ≡ c
       same d c e = cc
   said_safe (Ok (Violated t text)) c judged is = absurd (let different : ⊥ = cc in different)
-  said_safe (Ok (Undecided l)) c judged is = absurd (let different : ⊥ = cc in different)
+  said_safe (Ok (Undecided l text)) c judged is = absurd (let different : ⊥ = cc in different)
   said_safe (Err fault.Nodes) c judged is = absurd (let different : ⊥ = cc in different)
   said_safe (Err fault.Memory) c judged is = absurd (let different : ⊥ = cc in different)
 
-  pub said_violated : (r : Result Verdict StoreFault) (t : Trace) → IfOk r (λ v. IsVerdictOf nodes v p m) → verdict_report nodes r ≡ report.Violated t
+  pub said_violated : (r : Result Verdict StoreFault) (t : Trace) → IfOk r (λ v. IsVerdictOf nodes limit v p m) → verdict_report nodes r ≡ report.Violated t
       → IsViolated nodes t p m × IsDocumentOf t (verdict_document r) p m × LacksGoodClaim p m
   said_violated (Ok (Violated u text)) t judged is = subst (λ (e : Trace). IsViolated nodes e p m × IsDocumentOf e text.items p m × LacksGoodClaim p m)
       (same u t is) judged
@@ -88,15 +87,15 @@ module _ (nodes : ℕ) (p : ProgramTree) (m : Identifier) where
       same : (u t : Trace) → report.Violated u ≡ report.Violated t → u ≡ t
       same u t e = cc
   said_violated (Ok (Safe d text)) t judged is = absurd (let different : ⊥ = cc in different)
-  said_violated (Ok (Undecided l)) t judged is = absurd (let different : ⊥ = cc in different)
+  said_violated (Ok (Undecided l text)) t judged is = absurd (let different : ⊥ = cc in different)
   said_violated (Err fault.Nodes) t judged is = absurd (let different : ⊥ = cc in different)
   said_violated (Err fault.Memory) t judged is = absurd (let different : ⊥ = cc in different)
 
-  pub said_unknown : (r : Result Verdict StoreFault) (l : Left) → IfOk r (λ v. IsVerdictOf nodes v p m) → verdict_report nodes r ≡ report.Unknown l
-      → IsUnknown l p m
-  said_unknown (Ok (Undecided k)) l judged is = subst (λ (x : Left). IsUnknown x p m) (same k l is) judged
+  pub said_unknown : (r : Result Verdict StoreFault) (l : LeftReport) → IfOk r (λ v. IsVerdictOf nodes limit v p m) → verdict_report nodes r ≡ report.Unknown l
+      → IsUnknown limit l p m × IsLeftOf limit l (verdict_document r) p m
+  said_unknown (Ok (Undecided k text)) l judged is = subst (λ (x : LeftReport). IsUnknown limit x p m × IsLeftOf limit x text.items p m) (same k l is) judged
     where
-      same : (k l : Left) → report.Unknown k ≡ report.Unknown l → k ≡ l
+      same : (k l : LeftReport) → report.Unknown k ≡ report.Unknown l → k ≡ l
       same k l e = cc
   said_unknown (Ok (Safe d text)) l judged is = absurd (let different : ⊥ = cc in different)
   said_unknown (Ok (Violated t text)) l judged is = absurd (let different : ⊥ = cc in different)
@@ -111,39 +110,39 @@ module _ (nodes : ℕ) (p : ProgramTree) (m : Identifier) where
       same n e = cc
   said_nodes (Ok (Safe d text)) n wide is = absurd (let different : ⊥ = cc in different)
   said_nodes (Ok (Violated t text)) n wide is = absurd (let different : ⊥ = cc in different)
-  said_nodes (Ok (Undecided l)) n wide is = absurd (let different : ⊥ = cc in different)
+  said_nodes (Ok (Undecided l text)) n wide is = absurd (let different : ⊥ = cc in different)
   said_nodes (Err fault.Memory) n wide is = absurd (let different : ⊥ = cc in different)
 
   -- no other report comes
-  pub must_safe : (r : Result Verdict StoreFault) → IfOk r (λ v. IsVerdictOf nodes v p m) → IsSafeControl p m → IsSafeUnlessCutOff (verdict_report nodes r)
+  pub must_safe : (r : Result Verdict StoreFault) → IfOk r (λ v. IsVerdictOf nodes limit v p m) → IsSafeControl p m → IsSafeUnlessCutOff (verdict_report nodes r)
   must_safe (Ok (Safe c text)) judged is = inl (c, refl)
   must_safe (Ok (Violated t text)) judged is = absurd (falsifying-unsafe t judged.0.falsifying is.1)
-  must_safe (Ok (Undecided l)) judged is = absurd (judged.0.0 is.0)
+  must_safe (Ok (Undecided l text)) judged is = absurd (judged.0.0.0 is.0)
   must_safe (Err fault.Nodes) judged is = inr (inl (nodes, refl))
   must_safe (Err fault.Memory) judged is = inr (inr (inr refl))
 
-  pub must_violated : (r : Result Verdict StoreFault) → IfOk r (λ v. IsVerdictOf nodes v p m) → IsUnsafeControl p m
+  pub must_violated : (r : Result Verdict StoreFault) → IfOk r (λ v. IsVerdictOf nodes limit v p m) → IsUnsafeControl p m
       → IsViolatedUnlessCutOff (verdict_report nodes r)
   must_violated (Ok (Safe c text)) judged is = absurd (is.1 judged.0)
   must_violated (Ok (Violated t text)) judged is = inl (t, refl)
-  must_violated (Ok (Undecided l)) judged is = absurd (judged.0.0 is.0)
+  must_violated (Ok (Undecided l text)) judged is = absurd (judged.0.0.0 is.0)
   must_violated (Err fault.Nodes) judged is = inr (inl (nodes, refl))
   must_violated (Err fault.Memory) judged is = inr (inr (inr refl))
 
-  pub must_claim : (r : Result Verdict StoreFault) → (HasGoodClaim p m → LacksGoodClaim p m → ⊥) → IfOk r (λ v. IsVerdictOf nodes v p m) → HasGoodClaim p m
+  pub must_claim : (r : Result Verdict StoreFault) → (HasGoodClaim p m → LacksGoodClaim p m → ⊥) → IfOk r (λ v. IsVerdictOf nodes limit v p m) → HasGoodClaim p m
       → IsSafeUnlessCutOff (verdict_report nodes r)
   must_claim (Ok (Safe c text)) one judged is = inl (c, refl)
   must_claim (Ok (Violated t text)) one judged is = absurd (one is judged.2)
-  must_claim (Ok (Undecided l)) one judged is = absurd (one is judged.0.1)
+  must_claim (Ok (Undecided l text)) one judged is = absurd (one is judged.0.0.1)
   must_claim (Err fault.Nodes) one judged is = inr (inl (nodes, refl))
   must_claim (Err fault.Memory) one judged is = inr (inr (inr refl))
 
   pub must_probe : (r : Result Verdict StoreFault) → (HasProbe p m → LacksProbe p m → ⊥) → (IsErrOf r fault.Nodes → LacksProbe p m)
-      → IfOk r (λ v. IsVerdictOf nodes v p m) → HasProbe p m
+      → IfOk r (λ v. IsVerdictOf nodes limit v p m) → HasProbe p m
       → IsViolatedUnlessUnread (verdict_report nodes r)
   must_probe (Ok (Safe c text)) probe lacks judged is = absurd (probe-unsafe is judged.0)
   must_probe (Ok (Violated t text)) probe lacks judged is = inl (t, refl)
-  must_probe (Ok (Undecided l)) probe lacks judged is = absurd (probe is judged.0.2)
+  must_probe (Ok (Undecided l text)) probe lacks judged is = absurd (probe is judged.0.0.2)
   must_probe (Err fault.Nodes) probe lacks judged is = absurd (probe is (lacks refl))
   must_probe (Err fault.Memory) probe lacks judged is = inr (inr refl)
 
@@ -152,5 +151,5 @@ module _ (nodes : ℕ) (p : ProgramTree) (m : Identifier) where
   said_unprobed (Err fault.Nodes) n lacks is = lacks refl
   said_unprobed (Ok (Safe d text)) n lacks is = absurd (let different : ⊥ = cc in different)
   said_unprobed (Ok (Violated t text)) n lacks is = absurd (let different : ⊥ = cc in different)
-  said_unprobed (Ok (Undecided l)) n lacks is = absurd (let different : ⊥ = cc in different)
+  said_unprobed (Ok (Undecided l text)) n lacks is = absurd (let different : ⊥ = cc in different)
   said_unprobed (Err fault.Memory) n lacks is = absurd (let different : ⊥ = cc in different)

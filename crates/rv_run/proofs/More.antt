@@ -5,10 +5,11 @@ use Rattle.rv_tree.specs.{Tree.ProgramTree, Places.Identifier}
 use Rattle.rv_run.specs.Checked.{IsInvariantFault, IsInvariantReport, IsReportOf, SaysOf, SaysOfInvariant}
 use Rattle.rv_run.specs.{Words.Wanted, Answers.OnFile, Answers.OnDocument, Answers.IsShown, Traced.IsFileFault, Traced.IsTraceReport, Traced.OnAccepted}
 use Rattle.rv_run.specs.{Traced.SaysOfTrace, declared.words.Task.Task, declared.words.Task.TheVariants.Replay, declared.words.Task.TheVariants.Check}
-use Rattle.rv_run.specs.{Printed.shown_of, Programs.OnProgram, Programs.WithRuns, Verdicts.IsDocumentOf, Verdicts.IsInvariantOf, declared.report.Report.Report}
-use Rattle.rv_run.specs.{declared.report.Report.TheVariants.Safe, declared.report.Report.TheVariants.Violated, declared.report.Report.TheVariants.BadFile}
+use Rattle.rv_run.specs.{Printed.shown_of, Programs.OnProgram, Programs.WithRuns, Verdicts.IsDocumentOf, Verdicts.IsInvariantOf, Verdicts.IsLeftOf}
+use Rattle.rv_run.specs.declared.report.Report.{Report}
+use Rattle.rv_run.specs.declared.report.Report.TheVariants.{Safe, Violated, Unknown, BadFile}
 use Rattle.rv_invfile.specs.declared.fault.FileFault.{FileFault}
-use Rattle.rv_proofs.specs.declared.certificate.Certificate.{Certificate}
+use Rattle.rv_proofs.specs.{declared.certificate.Certificate.Certificate, declared.report.LeftReport.LeftReport}
 use Rattle.rv_run.proofs.Named.{more_under}
 
 pub runs_more : (P Q : ProgramTree → Identifier → Type 0) (p : ProgramTree) (m : Identifier) → (P p m → Q p m) → WithRuns P p m → WithRuns Q p m
@@ -29,10 +30,12 @@ file_more held w P Q to = by (w.named)
 
 pub is_shown : (held : Option Shelf) (w : Wanted) (r : Report) (document : List ℕ)
     → ((c : Certificate) → r ≡ Safe c → OnFile held w (OnProgram (IsInvariantOf c document)))
-    → ((t : Trace) → r ≡ Violated t → OnFile held w (OnProgram (IsDocumentOf t document))) → IsShown held w r (shown_of r document)
-is_shown held w (Safe c) document safe violated = safe c refl
-is_shown held w (Violated t) document safe violated = violated t refl
-is_shown held w r document safe violated = refl
+    → ((t : Trace) → r ≡ Violated t → OnFile held w (OnProgram (IsDocumentOf t document)))
+    → ((l : LeftReport) → r ≡ Unknown l → OnFile held w (OnProgram (IsLeftOf w.locations l document))) → IsShown held w r (shown_of r document)
+is_shown held w (Safe c) document safe violated left = safe c refl
+is_shown held w (Violated t) document safe violated left = violated t refl
+is_shown held w (Unknown l) document safe violated left = left l refl
+is_shown held w r document safe violated left = refl
 
 -- ---- Of what is told of a document, what is told of a trace or of an invariant file.
 module _ (held : Option Shelf) (w : Wanted) where

@@ -2,7 +2,7 @@
 use Rattle.std.proofs.Common.{◌≡◌, ◌⊎◌, inl, inr, ℕ, List, refl, sym, ◌∙◌, ap, subst}
 use Rattle.rv_base.specs.{declared.value.Place.Place, declared.value.Trace.Trace}
 use Rattle.rv_invfile.specs.declared.fault.FileFault.{FileFault}
-use Rattle.rv_proofs.specs.{declared.verdict.Reason.Reason, declared.certificate.Certificate.Certificate}
+use Rattle.rv_proofs.specs.{declared.verdict.Reason.Reason, declared.certificate.Certificate.Certificate, declared.report.LeftReport.LeftReport}
 use Rattle.rv_tree.specs.{Tree.ProgramTree, Tree.program_tree, Places.Identifier}
 use Rattle.rv_syntax.specs.ProgramText.{IsTextOf}
 use Rattle.rv_types.specs.{declared.typed.Typed.Typed, Instances.name_at}
@@ -17,7 +17,6 @@ use Rattle.rv_run.specs.Answers.{IsOnSource, IsRefusalUnlessCutOff, IsUnlessCutO
 use Rattle.rv_run.specs.{declared.words.Task.Task, declared.words.Task.TheVariants.Replay}
 use Rattle.rv_run.specs.{declared.words.Task.TheVariants.Check, Programs.OnProgram, Programs.IsRefusedFor, Refusals.refusal_of, declared.report.Report.Report}
 use Rattle.rv_run.specs.{Traced.IsTraceAnswer, Traced.IsTraceReport, Traced.IsUnlessNoMemory}
-use Rattle.rv_fixpoint.specs.declared.end.Left.{Left}
 use Rattle.rv_run.proofs.MainNode.{main_named}
 
 -- a refusal is no verdict
@@ -39,7 +38,7 @@ refusal-not_nodes (Text f) n h = cc
 refusal-not_nodes (Names f) n h = cc
 refusal-not_nodes (Cause f) n h = cc
 
-pub refusal-not_unknown : (e : SourceFault) (l : Left) → refusal_of e ≡ Unknown l → ⊥
+pub refusal-not_unknown : (e : SourceFault) (l : LeftReport) → refusal_of e ≡ Unknown l → ⊥
 refusal-not_unknown NoMemory l h = cc
 refusal-not_unknown (Text f) l h = cc
 refusal-not_unknown (Names f) l h = cc
@@ -203,7 +202,7 @@ document-not_safe x c is h = let bad : IsDocumentReport (Safe c) = subst IsDocum
 pub document-not_violated : (x : Report) (t : Trace) → IsDocumentReport x → x ≡ Violated t → ⊥
 document-not_violated x t is h = let bad : IsDocumentReport (Violated t) = subst IsDocumentReport h is in bad
 
-pub document-not_unknown : (x : Report) (l : Left) → IsDocumentReport x → x ≡ Unknown l → ⊥
+pub document-not_unknown : (x : Report) (l : LeftReport) → IsDocumentReport x → x ≡ Unknown l → ⊥
 document-not_unknown x l is h = let bad : IsDocumentReport (Unknown l) = subst IsDocumentReport h is in bad
 
 pub document-not_made : (x : Report) (source : List ℕ) → IsDocumentReport x → x ≡ Made source → ⊥

@@ -3,9 +3,8 @@ use Rattle.std.specs.Prelude.{◌≡◌, ◌⊎◌, ℕ, List, Option, Some, Non
 use Rattle.std.specs.FinMap.{get}
 use Rattle.rv_base.specs.{Shelf.Shelf, Shelf.HoldsUnder, declared.value.Trace.Trace}
 use Rattle.rv_source.specs.{declared.fault.SourceFault.SourceFault, Sources.AreSame}
-use Rattle.rv_proofs.specs.declared.certificate.Certificate.{Certificate}
-use Rattle.rv_fixpoint.specs.declared.end.Left.{Left}
-use Rattle.rv_run.specs.Verdicts.{IsDocumentOf, IsInvariantOf}
+use Rattle.rv_proofs.specs.{declared.certificate.Certificate.Certificate, declared.report.LeftReport.LeftReport}
+use Rattle.rv_run.specs.Verdicts.{IsDocumentOf, IsInvariantOf, IsLeftOf}
 use Rattle.rv_run.specs.declared.report.Report.TheVariants.{Safe, Violated, Unknown, Nodes, Accepted, Rejected, Falsified, AssertionFails, NeverFalse, Outgrown}
 use Rattle.rv_run.specs.declared.report.Report.TheVariants.{Made, Toured, Refused, BadFile, TooLong, ReadFault, Usage, Memory}
 use Rattle.rv_run.specs.{Words.Wanted, declared.words.Task.Task, Printed.text_of, Programs.OnProgram, declared.report.Report.Report}
@@ -79,7 +78,7 @@ IsViolatedUnlessUnread report = IsViolatedReport report ⊎ ((report ≡ ReadFau
 
 -- The report has a left partition.
 abbrev pub IsUnknownReport : Report → Type 0
-IsUnknownReport report = (l : Left) × (report ≡ Unknown l)
+IsUnknownReport report = (l : LeftReport) × (report ≡ Unknown l)
 
 -- The report is that a source that was made is safe.
 abbrev pub IsTouredReport : Report → Type 0
@@ -127,9 +126,10 @@ IsJudgedUnlessLimited report = IsVerdict report ⊎ (IsNodesReport report ⊎ ((
 abbrev pub IsUnlessLimited : Report → Report → Type 0
 IsUnlessLimited expected report = (report ≡ expected) ⊎ (IsNodesReport report ⊎ ((report ≡ ReadFault) ⊎ (report ≡ Memory)))
 
--- What is shown of a report on the file that the words name: of Safe and Violated the document of its certificate or trace over the
--- program there, of any other its text.
+-- What is shown of a report on the file that the words name: of Safe, Violated and Unknown the document of its certificate, its trace or
+-- what is left over the program there, of any other its text.
 abbrev pub IsShown : Option Shelf → Wanted → Report → List ℕ → Type 0
 IsShown held w (Safe c) shown = OnFile held w (OnProgram (IsInvariantOf c shown))
 IsShown held w (Violated t) shown = OnFile held w (OnProgram (IsDocumentOf t shown))
+IsShown held w (Unknown l) shown = OnFile held w (OnProgram (IsLeftOf w.locations l shown))
 IsShown held w report shown = shown ≡ text_of report

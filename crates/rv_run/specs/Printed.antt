@@ -106,6 +106,7 @@ text_of_reason (Inclusion location row) = record_of (codes "reaver,rejected,7,in
 abbrev pub is_documented : Report → Bool
 is_documented (Safe certificate) = true
 is_documented (Violated trace) = true
+is_documented (Unknown l) = true
 is_documented report = false
 
 -- What is printed where the words are no command: what they may be.
@@ -117,13 +118,14 @@ usage_text = record_of (codes "reaver,usage")
     ++ record_of (codes "make N")
     ++ record_of (codes "tour N")
 
--- What is printed for a report. Safe and Violated have no text of their own: the document of their certificate or trace is shown.
+-- What is printed for a report. Safe, Violated and Unknown have no text of their own: the document of their certificate, of their trace or
+-- of what is left is shown.
 abbrev pub text_of : Report → List ℕ
 text_of (Safe certificate) = []
 text_of Accepted = record_of (codes "reaver,accepted")
 text_of (Rejected reason) = text_of_reason reason
 text_of (Violated trace) = []
-text_of (Unknown l) = record_of (codes "reaver,unknown")
+text_of (Unknown l) = []
 text_of (Nodes limit) = record_of (codes "reaver,nodes," ++ decimal limit)
 text_of (Falsified at) = record_of (codes "reaver,falsified," ++ decimal at)
 text_of (AssertionFails at place) = record_of (codes "reaver,assertion," ++ decimal at ++ 44 ∷ dotted place.sites)

@@ -7,9 +7,8 @@ use Rattle.rv_source.specs.{declared.fault.SourceFault.SourceFault, Sources.IsSo
 use Rattle.rv_meaning.specs.{Runs.History, Runs.AreStarts, Runs.AreInputs, Runs.IsRun, Runs.IsSafe, Integers.IsControl}
 use Rattle.rv_flat.specs.{declared.flat.Flat.Flat, FlatOf.IsFlatOf}
 use Rattle.rv_control.specs.Control.{control_of}
-use Rattle.rv_proofs.specs.{Accepted.IsAccepted, Boxes.HasGoodBox, RowClaims.HasGoodRows, Systems.System, Left.IsLeftPartition}
-use Rattle.rv_proofs.specs.{declared.certificate.Certificate.Certificate}
-use Rattle.rv_fixpoint.specs.declared.end.Left.{Left}
+use Rattle.rv_proofs.specs.{Accepted.IsAccepted, Boxes.HasGoodBox, RowClaims.HasGoodRows, Systems.System, Left.IsLeftReport}
+use Rattle.rv_proofs.specs.{declared.certificate.Certificate.Certificate, declared.report.LeftReport.LeftReport}
 use Rattle.rv_probe.specs.Probes.{HasFalsifyingProbe}
 
 -- The bytes are the text of a program that is settled and accepted with this node, and P holds of the program and the node.
@@ -77,13 +76,14 @@ IsProgram program node = Unit {0}
 abbrev pub IsUndecided : ProgramTree → Identifier → Type 0
 IsUndecided program node = HasIntegers program node × LacksGoodClaim program node × LacksProbe program node
 
--- What is left is a left partition of the system of the program's flat system.
-abbrev pub HasLeft : Left → ProgramTree → Identifier → Type 0
-HasLeft l program node = (f : Flat) × IsFlatOf program node f × IsLeftPartition (control_of f) l.partition l.left
+-- What is left is a left partition of the system of the program's flat system; and there are as many locations as there may be, which is
+-- this limit, or each left location has one control state.
+abbrev pub HasLeft : ℕ → LeftReport → ProgramTree → Identifier → Type 0
+HasLeft limit l program node = (f : Flat) × IsFlatOf program node f × IsLeftReport (control_of f) limit l
 
 -- It is undecided, and that is left of it.
-abbrev pub IsUnknown : Left → ProgramTree → Identifier → Type 0
-IsUnknown l program node = IsUndecided program node × HasLeft l program node
+abbrev pub IsUnknown : ℕ → LeftReport → ProgramTree → Identifier → Type 0
+IsUnknown limit l program node = IsUndecided program node × HasLeft limit l program node
 
 -- With so many diagram variables that there are more functions of them than this number of nodes.
 abbrev pub HasManyVariables : ℕ → ProgramTree → Identifier → Type 0

@@ -3,7 +3,7 @@ use Rattle.std.specs.Prelude.{◌≡◌, ◌+◌, ◌<◌, ◌≤◌, ◌⊎◌,
 use Rattle.rv_base.specs.{Shelf.Shelf, declared.value.Trace.Trace, Limits.source_limit}
 use Rattle.rv_meaning.specs.Runs.{IsSafe}
 use Rattle.rv_make.specs.Made.{made_text}
-use Rattle.rv_proofs.specs.declared.certificate.Certificate.{Certificate}
+use Rattle.rv_proofs.specs.{declared.certificate.Certificate.Certificate, declared.report.LeftReport.LeftReport}
 use Rattle.rv_source.specs.declared.fault.SourceFault.{SourceFault}
 use Rattle.rv_run.specs.declared.report.Report.TheVariants.{Safe, Violated, Unknown, Nodes, Accepted, Made, Toured, Refused, TooLong, Memory}
 use Rattle.rv_run.specs.Answers.{OnFile, OnDocument, OnSource, IsTold, IsToldDocument, IsVerdict, IsNodesReport, IsTouredReport, IsUnlessCutOff}
@@ -12,8 +12,7 @@ use Rattle.rv_run.specs.Checked.{IsDocumentAnswer, IsReportOf, IsUnlessCut, Says
 use Rattle.rv_run.specs.Programs.{OnProgram, WithRuns, HasGoodClaim, IsSafeControl, IsUnsafeControl, HasManyVariables, HasProbe, LacksProbe, IsCertified}
 use Rattle.rv_run.specs.Programs.{IsProgram, IsUnknown, IsRefusedFor}
 use Rattle.rv_run.specs.{Words.Wanted, declared.words.Task.Task, declared.report.Report.Report, Traced.IsLongDocument, Traced.OnAccepted, Traced.file_limit}
-use Rattle.rv_run.specs.{Verdicts.IsDocumentOf, Verdicts.IsInvariantOf, Verdicts.IsViolated}
-use Rattle.rv_fixpoint.specs.declared.end.Left.{Left}
+use Rattle.rv_run.specs.Verdicts.{IsDocumentOf, IsInvariantOf, IsLeftOf, IsViolated}
 
 -- Of the source in a file the report is Safe, Violated, Unknown, Nodes or a refusal, of a document beside it what it is and does; of a
 -- source that is made, its text, or that it is safe.
@@ -23,7 +22,8 @@ pub record Replies (held : Option Shelf) (w : Wanted) (report : Report) (documen
   pub invariant : (c : Certificate) → report ≡ Safe c → OnFile held w (OnProgram (IsInvariantOf c document))
   pub violated : (t : Trace) → report ≡ Violated t → OnFile held w (OnProgram (WithRuns (IsViolated w.nodes t)))
   pub document_of : (t : Trace) → report ≡ Violated t → OnFile held w (OnProgram (IsDocumentOf t document))
-  pub unknown : (l : Left) → report ≡ Unknown l → OnFile held w (OnProgram (WithRuns (IsUnknown l)))
+  pub unknown : (l : LeftReport) → report ≡ Unknown l → OnFile held w (OnProgram (WithRuns (IsUnknown w.locations l)))
+  pub left : (l : LeftReport) → report ≡ Unknown l → OnFile held w (OnProgram (IsLeftOf w.locations l document))
   pub nodes : (n : ℕ) → report ≡ Nodes n → (n ≡ w.nodes) × OnSource held w (OnProgram (HasManyVariables n))
   pub unprobed : w.beside ≡ None → (n : ℕ) → report ≡ Nodes n → OnSource held w (OnProgram LacksProbe)
   pub checked_safe : report ≡ Accepted → OnFile held w (OnProgram (WithRuns IsSafe))

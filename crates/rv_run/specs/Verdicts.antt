@@ -7,9 +7,9 @@ use Rattle.rv_diagram.specs.declared.store.StoreFault.{StoreFault}
 use Rattle.rv_diagram.specs.declared.store.StoreFault.TheVariants as fault
 use Rattle.rv_flat.specs.{declared.flat.Flat.Flat, FlatOf.IsFlatOf}
 use Rattle.rv_control.specs.Control.{control_of}
-use Rattle.rv_proofs.specs.{Accepted.IsAccepted, declared.certificate.Certificate.Certificate}
+use Rattle.rv_proofs.specs.{Accepted.IsAccepted, Left.IsLeftReport, declared.certificate.Certificate.Certificate, declared.report.LeftReport.LeftReport}
 use Rattle.rv_invfile.specs.{Csv.records_of, Rules.IsDocument, Writes.lines, Traces.trace_records, Traces.trace_rule}
-use Rattle.rv_invariant.specs.Certificates.{certificate_records, certificate_rule}
+use Rattle.rv_invariant.specs.{Certificates.certificate_records, Certificates.certificate_rule, Unknown.left_records}
 use Rattle.rv_falsify.specs.Falsifying.{IsFalsifying, IsShortest}
 use Rattle.rv_probe.specs.Probes.{FalsifiesAt, cut, probe_of}
 use Rattle.rv_run.specs.Programs.{IsCertified, HasIntegers, HasManyVariables, IsUnknown, LacksGoodClaim, LacksProbe}
@@ -32,6 +32,15 @@ pub record IsInvariantOf (c : Certificate) (text : List ℕ) (program : ProgramT
   pub read : IsDocument (certificate_rule system) (records_of text) c
   pub accepted : IsAccepted (control_of system) c
 
+-- The text is the document of the unknown report over the program, as it is written and as its records are read, and the report holds a
+-- left partition where there may be so many locations.
+pub record IsLeftOf (limit : ℕ) (l : LeftReport) (text : List ℕ) (program : ProgramTree) (main : Identifier) : Type 0 where
+  pub system : Flat
+  pub flat : IsFlatOf program main system
+  pub written : text ≡ lines (left_records system l)
+  pub read : records_of text ≡ left_records system l
+  pub left : IsLeftReport (control_of system) limit l
+
 -- The trace is a probe of the program, cut after an instant at which it falsifies.
 abbrev pub IsProbe : Trace → ProgramTree → Identifier → Type 0
 IsProbe t program main = (f : Flat) × IsFlatOf program main f
@@ -53,20 +62,20 @@ pub record IsViolated (nodes : ℕ) (t : Trace) (program : ProgramTree) (main : 
 abbrev pub IsTraced : Trace → ProgramTree → Identifier → Verdict → Type 0
 IsTraced t program main (Violated u text) = (u ≡ t) × IsDocumentOf t text.items program main
 IsTraced t program main (Safe c text) = ⊥
-IsTraced t program main (Undecided l) = ⊥
+IsTraced t program main (Undecided l text) = ⊥
 
--- The verdict is right of the program, where diagrams may have so many nodes.
-abbrev pub IsVerdictOf : ℕ → Verdict → ProgramTree → Identifier → Type 0
-IsVerdictOf nodes (Safe c text) program main =
+-- The verdict is right of the program, where diagrams may have so many nodes, and a left partition so many locations.
+abbrev pub IsVerdictOf : ℕ → ℕ → Verdict → ProgramTree → Identifier → Type 0
+IsVerdictOf nodes limit (Safe c text) program main =
     IsSafe program main × IsCertified c program main × IsInvariantOf c text.items program main
-IsVerdictOf nodes (Violated t text) program main = IsViolated nodes t program main × IsDocumentOf t text.items program main × LacksGoodClaim program main
-IsVerdictOf nodes (Undecided l) program main = IsUnknown l program main
+IsVerdictOf nodes limit (Violated t text) program main = IsViolated nodes t program main × IsDocumentOf t text.items program main × LacksGoodClaim program main
+IsVerdictOf nodes limit (Undecided l text) program main = IsUnknown limit l program main × IsLeftOf limit l text.items program main
 
 -- The report on a verdict, or on why there is none where diagrams may have so many nodes.
 abbrev pub verdict_report : ℕ → Result Verdict StoreFault → Report
 verdict_report nodes (Ok (Safe c text)) = report.Safe c
 verdict_report nodes (Ok (Violated t text)) = report.Violated t
-verdict_report nodes (Ok (Undecided l)) = report.Unknown l
+verdict_report nodes (Ok (Undecided l text)) = report.Unknown l
 verdict_report nodes (Err fault.Nodes) = report.Nodes nodes
 verdict_report nodes (Err fault.Memory) = report.Memory
 
@@ -74,5 +83,5 @@ verdict_report nodes (Err fault.Memory) = report.Memory
 abbrev pub verdict_document : Result Verdict StoreFault → List ℕ
 verdict_document (Ok (Safe c text)) = text.items
 verdict_document (Ok (Violated t text)) = text.items
-verdict_document (Ok (Undecided l)) = []
+verdict_document (Ok (Undecided l text)) = text.items
 verdict_document (Err e) = []

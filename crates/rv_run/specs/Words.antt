@@ -6,11 +6,13 @@ use Rattle.rv_run.specs.declared.words.Task.TheVariants as task
 use Rattle.rv_run.specs.declared.words.Request.TheVariants as request
 
 -- What words ask for: the file of a source and the node in it, what is done with which document beside it, how many nodes the diagrams
--- may have, and of how many calls a source is made and shown, or made and proved. Words that are no command ask for nothing.
+-- and how many locations a left partition may have, and of how many calls a source is made and shown, or made and proved. Words that are
+-- no command ask for nothing.
 pub record Wanted : Type 0 where
   pub named : Option (List ℕ × List ℕ)
   pub beside : Option (Task × List ℕ)
   pub nodes : ℕ
+  pub locations : ℕ
   pub made : Option ℕ
   pub toured : Option ℕ
 
@@ -18,13 +20,25 @@ pub record Wanted : Type 0 where
 abbrev pub usual_nodes : ℕ
 usual_nodes = 4194304
 
+-- how many locations a left partition may have where they do not
+abbrev pub usual_locations : ℕ
+usual_locations = 256
+
 abbrev pub wanted_of : Option Asked → Wanted
-wanted_of None = record { named = None; beside = None; nodes = usual_nodes; made = None; toured = None }
-wanted_of (Some (prove file node nodes locations accelerate)) = record { named = Some (file, node); beside = None; nodes = nodes; made = None; toured = None }
+wanted_of None = record { named = None; beside = None; nodes = usual_nodes; locations = usual_locations; made = None; toured = None }
+wanted_of (Some (prove file node nodes locations accelerate)) = record {
+  named = Some (file, node);
+  beside = None;
+  nodes = nodes;
+  locations = locations;
+  made = None;
+  toured = None;
+}
 wanted_of (Some (check file node invariant nodes)) = record {
   named = Some (file, node);
   beside = Some (task.Check, invariant);
   nodes = nodes;
+  locations = usual_locations;
   made = None;
   toured = None;
 }
@@ -32,11 +46,12 @@ wanted_of (Some (replay file node trace)) = record {
   named = Some (file, node);
   beside = Some (task.Replay, trace);
   nodes = usual_nodes;
+  locations = usual_locations;
   made = None;
   toured = None;
 }
-wanted_of (Some (make n)) = record { named = None; beside = None; nodes = usual_nodes; made = Some n; toured = None }
-wanted_of (Some (tour n)) = record { named = None; beside = None; nodes = usual_nodes; made = None; toured = Some n }
+wanted_of (Some (make n)) = record { named = None; beside = None; nodes = usual_nodes; locations = usual_locations; made = Some n; toured = None }
+wanted_of (Some (tour n)) = record { named = None; beside = None; nodes = usual_nodes; locations = usual_locations; made = None; toured = Some n }
 
 -- What these words ask for.
 abbrev pub wanted : List (List ℕ) → Wanted
@@ -52,6 +67,7 @@ wanted_on_file c = record {
   named = Some (c.file.now, c.node.now);
   beside = option_map (λ b. (b.task, b.file.now)) c.beside;
   nodes = c.nodes;
+  locations = c.locations;
   made = None;
   toured = None;
 }
@@ -65,6 +81,6 @@ wanted_by (Some (request.Tour n)) = wanted_of (Some (tour n))
 -- The numbers are within their ranges.
 abbrev pub HasRanges : Option Request → Type 0
 HasRanges None = Unit {0}
-HasRanges (Some (request.File c)) = (1 ≤ c.nodes) × (c.nodes ≤ 33554432)
+HasRanges (Some (request.File c)) = ((1 ≤ c.nodes) × (c.nodes ≤ 33554432)) × ((1 ≤ c.locations) × (c.locations ≤ 4096))
 HasRanges (Some (request.Make n)) = (1 ≤ n) × (n ≤ 2000)
 HasRanges (Some (request.Tour n)) = (1 ≤ n) × (n ≤ 2000)

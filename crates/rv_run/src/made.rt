@@ -11,7 +11,7 @@ ghost use Rattle.rv_run.specs.Words.{usual_nodes};
 
 use crate::prove::report_on_source;
 use crate::report::{Answer, Report};
-use crate::words::USUAL_NODES;
+use crate::words::{USUAL_LOCATIONS, USUAL_NODES};
 use rv_made_order::made_programs_are_accepted;
 use rv_made_safe::made_programs_are_safe;
 use rv_made_text::made_trees;
@@ -54,6 +54,7 @@ pub fn report_on_tour(alloc: Global, n: u32) -> Report
         source.as_str().as_bytes(),
         "main",
         USUAL_NODES,
+        USUAL_LOCATIONS,
     );
     match report {
         Report::Safe(certificate) => Report::Toured {

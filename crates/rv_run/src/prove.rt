@@ -5,13 +5,13 @@ ghost use Rattle.rv_base.specs.declared.value.Trace.{Trace as TraceModel};
 ghost use Rattle.rv_source.specs.declared.fault.SourceFault.{SourceFault as FaultModel};
 ghost use Rattle.rv_meaning.specs.Runs.{IsSafe};
 ghost use Rattle.rv_proofs.specs.declared.certificate.Certificate.{Certificate as CertificateModel};
+ghost use Rattle.rv_proofs.specs.declared.report.LeftReport.{LeftReport as LeftModel};
 ghost use Rattle.rv_run.specs.Answers.{IsOnSource, IsSafeUnlessCutOff, IsJudgedUnlessLimited, IsViolatedUnlessCutOff, IsViolatedUnlessUnread};
 ghost use Rattle.rv_run.specs.Answers.{IsRefusalUnlessCutOff};
-ghost use Rattle.rv_fixpoint.specs.declared.end.Left.{Left};
 ghost use Rattle.rv_run.specs.Programs.{OnProgram, WithRuns, IsSafeControl, IsUnsafeControl, IsCertified, HasGoodClaim, HasManyVariables, HasProbe, LacksProbe};
 ghost use Rattle.rv_run.specs.Programs.{IsProgram, IsUnknown, IsRefusedFor};
 ghost use Rattle.rv_run.specs.Refusals.{refusal_of};
-ghost use Rattle.rv_run.specs.Verdicts.{IsDocumentOf, IsInvariantOf, IsViolated, verdict_document, verdict_report};
+ghost use Rattle.rv_run.specs.Verdicts.{IsDocumentOf, IsInvariantOf, IsLeftOf, IsViolated, verdict_document, verdict_report};
 
 use crate::judge::judge;
 use crate::report::{Answer, Report};
@@ -24,22 +24,32 @@ use rv_syntax::{SOURCE_LIMIT, one_tree, plain_names};
 use rv_types::well_formed_programs;
 use std::alloc::Global;
 
-/// The report on a source, and the document of its certificate or trace where it is Safe or Violated. Refused where the bytes have no
+/// The report on a source, and the document of its certificate, its trace or what is left where it is Safe, Violated or Unknown. Refused where the bytes have no
 /// tree, where their program breaks a rule of names, types or clocks, and where it breaks one of recursion, sizes, cycles or weights,
 /// with the first fault. Otherwise Violated wherever a probe falsifies, and Safe with an accepted certificate wherever some closed box
 /// claim or row claim is good. A source without integer flows has a good claim exactly where it is safe, and is else Violated, with a
 /// shortest trace that falsifies it, or a probe where its diagrams outgrow their limit. One with integer flows of which neither is so is
-/// Safe with another certificate, Violated with a trace that its replay confirms, or Unknown with what is left, as they are found. Nodes
-/// comes only where no probe falsifies and it has many diagram variables for the number of nodes that the diagrams may have.
-pub fn report_on_source(alloc: Global, bytes: &[u8], node: &str, nodes: u32) -> Answer
+/// Safe with another certificate, Violated with a trace that its replay confirms, or Unknown with what is left, as they are found: a left
+/// partition, of as many locations as there may be, or whose left locations have one control state each. Nodes comes only where no probe
+/// falsifies and it has many diagram variables for the number of nodes that the diagrams may have.
+pub fn report_on_source(
+    alloc: Global,
+    bytes: &[u8],
+    node: &str,
+    nodes: u32,
+    locations: u32,
+) -> Answer
     requires short { length bytes.now ≤ SOURCE_LIMIT }
     requires limit { nodes ≤ 33554432 }
+    requires least { 1 ≤ locations }
+    requires most { locations ≤ 4096 }
     ensures safe { (c : CertificateModel) → result.report ≡ Report.Safe c → OnProgram (WithRuns IsSafe) bytes.now node.now }
     ensures certified { (c : CertificateModel) → result.report ≡ Report.Safe c → OnProgram (IsCertified c) bytes.now node.now }
     ensures invariant { (c : CertificateModel) → result.report ≡ Report.Safe c → OnProgram (IsInvariantOf c result.document.items) bytes.now node.now }
     ensures violated { (t : TraceModel) → result.report ≡ Report.Violated t → OnProgram (WithRuns (IsViolated nodes t)) bytes.now node.now }
     ensures document { (t : TraceModel) → result.report ≡ Report.Violated t → OnProgram (IsDocumentOf t result.document.items) bytes.now node.now }
-    ensures unknown { (l : Left) → result.report ≡ Report.Unknown l → OnProgram (WithRuns (IsUnknown l)) bytes.now node.now }
+    ensures unknown { (l : LeftModel) → result.report ≡ Report.Unknown l → OnProgram (WithRuns (IsUnknown locations l)) bytes.now node.now }
+    ensures left { (l : LeftModel) → result.report ≡ Report.Unknown l → OnProgram (IsLeftOf locations l result.document.items) bytes.now node.now }
     ensures nodes { (n : ℕ) → result.report ≡ Report.Nodes n → (n ≡ nodes) × OnProgram (HasManyVariables nodes) bytes.now node.now }
     ensures unprobed { (n : ℕ) → result.report ≡ Report.Nodes n → OnProgram LacksProbe bytes.now node.now }
     ensures refused { (fault : FaultModel) → result.report ≡ Report.Refused fault → IsRefusedFor fault bytes.now node.now }
@@ -60,7 +70,7 @@ pub fn report_on_source(alloc: Global, bytes: &[u8], node: &str, nodes: u32) -> 
     alike_names();
     alike_systems();
     match read_source(alloc, bytes, node) {
-        Ok(source) => on_verdict(alloc, judge(alloc, &source, nodes), nodes),
+        Ok(source) => on_verdict(alloc, judge(alloc, &source, nodes, locations), nodes),
         Err(fault) => Answer {
             report: refusal(fault),
             document: Vec::new(alloc),
@@ -83,7 +93,10 @@ fn on_verdict(alloc: Global, judged: Result<Verdict, StoreFault>, nodes: u32) ->
             document = text;
             Report::Violated(trace)
         }
-        Ok(Verdict::Undecided(left)) => Report::Unknown(left),
+        Ok(Verdict::Undecided(left, text)) => {
+            document = text;
+            Report::Unknown(left)
+        }
         Err(StoreFault::Nodes) => Report::Nodes(nodes),
         Err(StoreFault::Memory) => Report::Memory,
     };

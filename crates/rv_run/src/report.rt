@@ -7,9 +7,8 @@ ghost use Rattle.rv_run.specs.Printed.{text_of_file_fault, dotted, listed, quant
 
 use rv_base::{Many, Place, Sites, Text, Trace};
 use rv_causality::{CauseFault, Quantity};
-use rv_fixpoint::Left;
 use rv_invfile::FileFault;
-use rv_proofs::{Certificate, Reason};
+use rv_proofs::{Certificate, LeftReport, Reason};
 use rv_source::SourceFault;
 use rv_syntax::TextFault;
 use rv_types::NameFault;
@@ -23,8 +22,9 @@ pub enum Report {
     /// The source is not safe: at the last instant of this trace the observer is false. It is a shortest such trace of a source without
     /// integers, or a probe, or, of a source with integers that no probe falsifies, any such trace.
     Violated(Trace),
-    /// The source has integers, no closed box claim or row claim of it is good, and no probe falsifies it: a left partition.
-    Unknown(Left),
+    /// The source has integers, no closed box claim or row claim of it is good, and no probe falsifies it: a left partition, and why nothing
+    /// more was split.
+    Unknown(LeftReport),
     /// The diagrams grew past their limit of nodes, which is told.
     Nodes(u32),
     /// The certificate in the invariant file is accepted.
@@ -95,21 +95,20 @@ pub struct Outcome {
     pub status: u8,
 }
 
-/// A report, and the document that is shown in place of its text where it is Violated.
+/// A report, and the document that is shown in place of its text where it is Safe, Violated or Unknown.
 #[derive(Debug, Drop)]
 pub struct Answer {
     pub report: Report,
     pub document: Vec<u8>,
 }
 
-/// The text of a report: one record, its fields joined by commas, and a line feed. That of Violated is empty, since the document of its
-/// trace is shown.
+/// The text of a report: one record, its fields joined by commas, and a line feed. That of Safe, Violated and Unknown is empty, since the
+/// document of the certificate, of the trace or of what is left is shown.
 pub fn text(alloc: Global, report: &Report) -> Result<String, AllocError>
     ensures { IfOk result (λ text. string_bytes text ≡ text_of report.now) }
 {
     match report {
-        Report::Safe(_) | Report::Violated(_) => Ok(String::new(alloc)),
-        Report::Unknown(_) => String::from_str(alloc, "reaver,unknown\n"),
+        Report::Safe(_) | Report::Violated(_) | Report::Unknown(_) => Ok(String::new(alloc)),
         Report::Nodes(limit) => format!(in alloc; "reaver,nodes,{limit}\n"),
         Report::Accepted => String::from_str(alloc, "reaver,accepted\n"),
         Report::Rejected(reason) => reason_text(alloc, reason),

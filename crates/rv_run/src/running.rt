@@ -10,6 +10,7 @@ ghost use Rattle.rv_base.specs.declared.value.Trace.{Trace as TraceModel};
 ghost use Rattle.rv_invfile.specs.declared.fault.FileFault.{FileFault};
 ghost use Rattle.rv_meaning.specs.Runs.{IsSafe};
 ghost use Rattle.rv_proofs.specs.declared.certificate.Certificate.{Certificate as CertificateModel};
+ghost use Rattle.rv_proofs.specs.declared.report.LeftReport.{LeftReport as LeftModel};
 ghost use Rattle.rv_replay.specs.Replays.{FailsAt, IsFalsifiedAt, NeverEnds, OutgrowsAt};
 ghost use Rattle.rv_run.specs.declared.report.Report.{Report as ReportModel};
 ghost use Rattle.rv_words.specs.Words.{texts, command};
@@ -22,7 +23,6 @@ ghost use Rattle.rv_run.specs.Answers.{IsUnlessCutOff, IsJudgedUnlessLimited, Is
 ghost use Rattle.rv_run.specs.Answers.{IsViolatedUnlessUnread, IsRefusalUnlessCutOff};
 ghost use Rattle.rv_run.specs.Checked.{HasAccepted, HasRejected, IsAnswerOf, IsDocumentAnswer, IsDocumentReport, IsInvariantFault, IsReportOf, IsUnlessCut};
 ghost use Rattle.rv_run.specs.Checked.{IsUnlessLimit, SaysOf};
-ghost use Rattle.rv_fixpoint.specs.declared.end.Left.{Left};
 ghost use Rattle.rv_run.specs.Programs.{OnProgram, WithRuns, HasGoodClaim, IsSafeControl, IsUnsafeControl, HasManyVariables, HasProbe, LacksProbe, IsCertified};
 ghost use Rattle.rv_run.specs.Programs.{IsProgram, IsUnknown, IsRefusedFor};
 ghost use Rattle.rv_run.specs.Traced.{IsFileFault, IsLongDocument, IsUnlessNoMemory, OnAccepted, OnTrace};
@@ -141,9 +141,11 @@ fn bare(alloc: Global, report: Report) -> Answer
     }
 }
 
-/// The report on a command on the source in a file, and the document that is shown of it where it is Safe or Violated.
+/// The report on a command on the source in a file, and the document that is shown of it where it is Safe, Violated or Unknown.
 fn report_on_file<F: Files>(alloc: Global, command: FileCommand, files: &mut F) -> Answer
     requires limit { command.nodes ≤ 33554432 }
+    requires least { 1 ≤ command.locations }
+    requires most { command.locations ≤ 4096 }
     requires served { (name : List ℕ) → IsNamed (wanted_on_file command) name → IsTrue (F.serves files.old name) }
     ensures replies { Replies (F.held files.old) (wanted_on_file command.entry) result.report result.document.items }
     ensures read_fault { result.report ≡ Report.ReadFault → Rose (F.faults files.old) (F.faults files.new) }
@@ -159,7 +161,13 @@ fn report_on_file<F: Files>(alloc: Global, command: FileCommand, files: &mut F) 
         Err(WholeFault::Memory) => return bare(alloc, Report::Memory),
     };
     match command.beside {
-        None => report_on_source(alloc, &source, command.node, command.nodes),
+        None => report_on_source(
+            alloc,
+            &source,
+            command.node,
+            command.nodes,
+            command.locations,
+        ),
         Some(other) => Answer {
             report: report_on_document(alloc, &source, command.node, command.nodes, other, files),
             document: Vec::new(alloc),
@@ -167,7 +175,7 @@ fn report_on_file<F: Files>(alloc: Global, command: FileCommand, files: &mut F) 
     }
 }
 
-/// The report on the words, and the document that is shown of it where it is Safe or Violated.
+/// The report on the words, and the document that is shown of it where it is Safe, Violated or Unknown.
 fn report_on<F: Files>(alloc: Global, words: &[String], files: &mut F) -> Answer
     requires { (name : List ℕ) → IsNamed (wanted (texts words.now)) name → IsTrue (F.serves files.old name) }
     ensures replies { Replies (F.held files.old) (wanted (texts words.now)) result.report result.document.items }
@@ -188,11 +196,14 @@ fn report_on<F: Files>(alloc: Global, words: &[String], files: &mut F) -> Answer
     }
 }
 
-/// Whether the report has a certificate or a trace, whose document is shown.
+/// Whether the report has a certificate, a trace or what is left, whose document is shown.
 fn is_documented(report: &Report) -> bool
     ensures { result ≡ is_documented report.now }
 {
-    matches!(report, Report::Safe(_) | Report::Violated(_))
+    matches!(
+        report,
+        Report::Safe(_) | Report::Violated(_) | Report::Unknown(_)
+    )
 }
 
 /// Gives bytes to one put.
@@ -229,13 +240,14 @@ fn show<S: Sink>(alloc: Global, answer: &Answer, out: &mut S) -> Sent
     put(out, text.as_bytes())
 }
 
-/// Does what the words ask for, and shows the text of the report, or the document of a trace, by one put. The words are those of the command
+/// Does what the words ask for, and shows the text of the report, or a document in its place, by one put. The words are those of the command
 /// line, the program's name first; each file that they name has to be served by the files.
 ///
 /// `prove FILE NODE` answers Safe, Violated or Unknown on the source under FILE and its node NODE, `replay FILE NODE TRACE` what the
 /// trace under TRACE does to it, and `check FILE NODE INVARIANT` whether the invariant file under INVARIANT is accepted for it. `make N`
 /// answers the text of a source with N calls after one another, and `tour N` that this source is safe. The option `--nodes` says how many
-/// nodes the diagrams of `prove` and `check` may have; `--locations` and `--accelerate` of `prove` are read, and change nothing yet.
+/// nodes the diagrams of `prove` and `check` may have, and `--locations` how many locations the partition of an Unknown report may have;
+/// `--accelerate` of `prove` is read, and changes nothing yet.
 /// Usage comes exactly where the words are none of these, as the definition of their command says, unless there is no memory to read
 /// them. ReadFault comes only where the files count one more fault, and Memory where there is no memory. The first step that refuses
 /// gives the report: no file is loaded where the words name none, the document only behind a source that is accepted, so a refused
@@ -249,7 +261,8 @@ fn show<S: Sink>(alloc: Global, answer: &Answer, out: &mut S) -> Sent
 /// certificate, wherever some closed box claim or row claim of it is good. One without integer flows has a good claim exactly where it is
 /// safe, and is else Violated, with a shortest trace that falsifies it, or with a probe where its diagrams outgrow their limit. One with
 /// integer flows of which neither is so is Safe, Violated or Unknown, as a certificate or a trace is found; what is found is accepted, or
-/// confirmed by its replay. The document of certificate or trace is shown in place of a text. `replay` answers
+/// confirmed by its replay. Unknown has a left partition: it has as many locations as it may have, or each of its left locations has one
+/// control state, which is told. The document of certificate, trace or what is left is shown in place of a text. `replay` answers
 /// BadFile exactly where the trace's bytes are the document of no trace of the program, with their first fault; otherwise the first
 /// instant that ends the replay decides, by Outgrown, AssertionFails or Falsified in this order, and NeverFalse comes exactly where
 /// there is none. `check` answers BadFile exactly where the file's bytes are the document of no certificate of the program, with their
@@ -271,8 +284,8 @@ pub fn run<F: Files, S: Sink>(
         → OnFile (F.held files.old) (wanted (texts words.now.items)) (OnProgram (WithRuns (λ program main. IsFalsifying program main t))) }
     ensures origin { (t : TraceModel) → result.report ≡ Report.Violated t
         → OnFile (F.held files.old) (wanted (texts words.now.items)) (OnProgram (HasOrigin (wanted (texts words.now.items)).nodes t)) }
-    ensures unknown { (l : Left) → result.report ≡ Report.Unknown l → OnFile (F.held files.old) (wanted (texts words.now.items))
-        (OnProgram (WithRuns (IsUnknown l))) }
+    ensures unknown { (l : LeftModel) → result.report ≡ Report.Unknown l → OnFile (F.held files.old) (wanted (texts words.now.items))
+        (OnProgram (WithRuns (IsUnknown (wanted (texts words.now.items)).locations l))) }
     ensures nodes { (n : ℕ) → result.report ≡ Report.Nodes n
         → (n ≡ (wanted (texts words.now.items)).nodes) × OnSource (F.held files.old) (wanted (texts words.now.items)) (OnProgram (HasManyVariables n)) }
     ensures unprobed { (wanted (texts words.now.items)).beside ≡ None → (n : ℕ) → result.report ≡ Report.Nodes n

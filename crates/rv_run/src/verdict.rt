@@ -1,6 +1,5 @@
 use rv_base::Trace;
-use rv_fixpoint::Left;
-use rv_proofs::Certificate;
+use rv_proofs::{Certificate, LeftReport};
 
 /// What is found of an accepted source.
 #[derive(Debug, Drop)]
@@ -9,6 +8,7 @@ pub enum Verdict {
     Safe(Certificate, Vec<u8>),
     /// It is not safe: a trace that falsifies it, and the document of the trace.
     Violated(Trace, Vec<u8>),
-    /// It has integers, no closed box claim or row claim of it is good, and no probe falsifies it: a left partition.
-    Undecided(Left),
+    /// It has integers, no closed box claim or row claim of it is good, and no probe falsifies it: a left partition with why nothing more was
+    /// split, and the document of this.
+    Undecided(LeftReport, Vec<u8>),
 }

@@ -36,6 +36,8 @@ pub struct FileCommand<'a> {
     pub node: &'a str,
     /// How many nodes the diagrams may have.
     pub nodes: u32,
+    /// How many locations a left partition may have, where the node is to be proved.
+    pub locations: u32,
     /// The document, none where the node is to be proved.
     pub beside: Option<Beside<'a>>,
 }
@@ -53,6 +55,9 @@ pub enum Request<'a> {
 
 /// How many nodes the diagrams may have where the words do not say so.
 pub const USUAL_NODES: u32 = 4_194_304;
+
+/// How many locations a left partition may have where the words do not say so.
+pub const USUAL_LOCATIONS: u32 = 256;
 
 /// What the words ask for, None exactly where they are no command. `Memory` comes where memory runs out.
 pub fn read_request<'a>(alloc: Global, words: &'a [String]) -> Result<Option<Request<'a>>, Memory>
@@ -79,12 +84,14 @@ fn request_of<'a>(command: Command<'a>) -> Request<'a>
             file: p.file,
             node: p.node,
             nodes: p.nodes,
+            locations: p.locations,
             beside: None,
         }),
         Command::Check(c) => Request::File(FileCommand {
             file: c.file,
             node: c.node,
             nodes: c.nodes,
+            locations: USUAL_LOCATIONS,
             beside: Some(Beside {
                 task: Task::Check,
                 file: c.invariant,
@@ -94,6 +101,7 @@ fn request_of<'a>(command: Command<'a>) -> Request<'a>
             file: r.file,
             node: r.node,
             nodes: USUAL_NODES,
+            locations: USUAL_LOCATIONS,
             beside: Some(Beside {
                 task: Task::Replay,
                 file: r.trace,

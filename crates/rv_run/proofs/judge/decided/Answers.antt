@@ -61,7 +61,7 @@ not_good-requires-clause-sets c =
     (λ t set at. ((c.in_ok-certificate.ensures.bad c.in-Bad.layers (ap Ok c.in-Bad.is)).2.each t set at).control)
 
 pub returns-in-Good-clause-judged : goal.returns-in-Good-clause-judged
-returns-in-Good-clause-judged c = c.safe.ensures.judged c.args.nodes
+returns-in-Good-clause-judged c = c.safe.ensures.judged c.args.nodes c.args.locations
 
 pub returns-clause-judged : goal.returns-clause-judged
 returns-clause-judged c = c.not_good.ensures.judged c.args.nodes

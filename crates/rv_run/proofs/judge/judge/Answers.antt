@@ -66,7 +66,7 @@ returns-clause-wide c = λ nodes.
     let s = c.args.source.now in
     let p = program_tree s.program in
     wide p s.typed s.order (c.fitting_sources.ensures s) (λ m text settled. c.well_formed_programs.ensures p m s.typed text settled) c.args.nodes
-        c.in_ok-flat.flat
+    c.in_ok-flat.flat
     c.in_ok-flat.ensures.flat (c.decided.ensures.wide nodes)
 
 pub returns-clause-unprobed : goal.returns-clause-unprobed

@@ -1,15 +1,11 @@
-use Rattle.std.proofs.Common.{◌≡◌, ℕ, Ok, Some, slice_get, true≢false, ap, sym, ◌∙◌, subst}
+use Rattle.std.proofs.Common.{Ok, true≢false, ap, sym, ◌∙◌, subst}
 use Rattle.rv_tree.specs.Tree.{program_tree}
 use Rattle.rv_types.specs.Instances.{name_at}
-use Rattle.rv_flat.specs.declared.flat.Flat.{Flat}
-use Rattle.rv_control.specs.Control.{control_of}
-use Rattle.rv_reading.specs.{Read.flat_of, declared.reading.Reading.Reading}
-use Rattle.rv_proofs.specs.{Accepted.IsAccepted, Left.IsLeftPartition, Ranges.IsControlSet, RowClaims.HasGoodRows}
-use Rattle.rv_diagram.specs.declared.frozen.Frozen.{Frozen}
+use Rattle.rv_flat.specs.{declared.flat.Flat.Flat, FlatOf.IsFlatOf}
+use Rattle.rv_reading.specs.Read.{flat_of}
 use Rattle.rv_probe.specs.Probes.{HasFalsifyingProbe}
-use Rattle.rv_fixpoint.specs.Ends.{IsProved}
-use Rattle.rv_run.specs.{Judged.IsControlSystem, Judged.IsKnown, Programs.HasGood}
-use Rattle.rv_run.proofs.{Claimed.lacks_both, Integers.system_control, NoIntegers.no_columns}
+use Rattle.rv_run.specs.{Judged.IsControlSystem, Judged.IsKnown}
+use Rattle.rv_run.proofs.{Integers.system_control, NoIntegers.no_columns}
 use Rattle.rv_run.proofs.judge.not_good.Goals as goal
 
 pub violated-requires-clause-program_control : goal.violated-requires-clause-program_control
@@ -24,59 +20,38 @@ pub violated-requires-clause-columns : goal.violated-requires-clause-columns
 violated-requires-clause-columns c =
     no_columns (flat_of c.args.reading.now) (subst IsControlSystem c.flat-flat.ensures (c.is_control.ensures.0 c.if-is_control.true))
 
-pub analyse-requires-clause-seed : goal.analyse-requires-clause-seed
-analyse-requires-clause-seed c = c.requires.sets
-
-pub safe-requires-clause-known : goal.safe-requires-clause-known
-safe-requires-clause-known c =
+pub early-requires : goal.early-requires
+early-requires c =
     let p = program_tree c.args.source.now.program in
-    subst (IsKnown p (name_at p c.args.source.now.typed.main)) (sym (c.flat-system.ensures ∙ ap (λ (r : Reading). flat_of r) c.in_ok-end.ensures.same))
-    c.requires.known
+    record { flat = subst (IsFlatOf p (name_at p c.args.source.now.typed.main)) (sym c.flat-flat.ensures) c.requires.known.flat }
 
-pub safe-requires-clause-accepted : goal.safe-requires-clause-accepted
-safe-requires-clause-accepted c =
-    subst (λ (f : Flat). IsAccepted (control_of f) c.in-Proved.certificate)
-    (sym (c.flat-system.ensures ∙ ap (λ (r : Reading). flat_of r) c.in_ok-end.ensures.same))
-    (c.in_ok-end.ensures.proved c.in-Proved.certificate (ap Ok c.in-Proved.is))
-
-pub returns-in-Proved-clause-judged : goal.returns-in-Proved-clause-judged
-returns-in-Proved-clause-judged c = c.safe.ensures.judged
-
-pub returns-in-Proved-clause-wide : goal.returns-in-Proved-clause-wide
-returns-in-Proved-clause-wide c = λ nodes. absurd (c.safe.ensures.memory nodes)
-
-pub searched-requires-clause-known : goal.searched-requires-clause-known
-searched-requires-clause-known c =
+pub hunted-requires-clause-known : goal.hunted-requires-clause-known
+hunted-requires-clause-known c =
     let p = program_tree c.args.source.now.program in
-    subst (λ (r : Reading). IsKnown p (name_at p c.args.source.now.typed.main) (flat_of r)) (sym c.in_ok-end.ensures.same) c.requires.known
+    subst (IsKnown p (name_at p c.args.source.now.typed.main)) (sym c.flat-flat.ensures) c.requires.known
 
-pub searched-requires-clause-integers : goal.searched-requires-clause-integers
-searched-requires-clause-integers c =
-    subst (λ (r : Reading). IsControlSystem (flat_of r) → ⊥) (sym c.in_ok-end.ensures.same)
-    (λ control. true≢false (sym (c.is_control.ensures.1 (subst IsControlSystem (sym c.flat-flat.ensures) control)) ∙ c.if-is_control.false))
+pub hunted-requires-clause-integers : goal.hunted-requires-clause-integers
+hunted-requires-clause-integers c = λ control. true≢false (sym (c.is_control.ensures.1 control) ∙ c.if-is_control.false)
 
-pub searched-requires-clause-lacks : goal.searched-requires-clause-lacks
-searched-requires-clause-lacks c =
-    let f = flat_of c.args.reading.now in
-    let rows : HasGoodRows (control_of f) f.thresholds → ⊥ = λ has. subst IsProved c.in-Left.is (c.in_ok-end.ensures.claims has) in
-    subst (λ (r : Reading). HasGood (control_of (flat_of r)) (flat_of r).thresholds → ⊥) (sym c.in_ok-end.ensures.same)
-    (lacks_both (control_of f) f.thresholds c.requires.lacks rows)
-
-pub searched-requires-clause-unprobed : goal.searched-requires-clause-unprobed
-searched-requires-clause-unprobed c =
+pub hunted-requires-clause-unprobed : goal.hunted-requires-clause-unprobed
+hunted-requires-clause-unprobed c = λ has.
     let p = program_tree c.args.source.now.program in
-    subst (λ (r : Reading). HasFalsifyingProbe p (name_at p c.args.source.now.typed.main) (flat_of r) → ⊥) (sym c.in_ok-end.ensures.same)
-    (λ has. true≢false (sym (c.is_control.ensures.1 (subst IsControlSystem (sym c.flat-flat.ensures) (c.requires.unprobed has))) ∙ c.if-is_control.false))
+    let here = subst (HasFalsifyingProbe p (name_at p c.args.source.now.typed.main)) c.flat-flat.ensures has in
+    true≢false (sym (c.is_control.ensures.1 (subst IsControlSystem (sym c.flat-flat.ensures) (c.requires.unprobed here))) ∙ c.if-is_control.false)
 
-pub searched-requires-clause-left : goal.searched-requires-clause-left
-searched-requires-clause-left c =
-    subst (λ (r : Reading). IsLeftPartition (control_of (flat_of r)) c.in-Left.left.partition c.in-Left.left.left) (sym c.in_ok-end.ensures.same)
-    (c.in_ok-end.ensures.left c.in-Left.left (ap Ok c.in-Left.is))
+pub hunted-requires-clause-falsifying : goal.hunted-requires-clause-falsifying
+hunted-requires-clause-falsifying c = c.in_ok-trace.ensures.falsifies c.in-Some.trace (ap Ok c.in-Some.is)
 
-pub searched-requires-clause-sets : goal.searched-requires-clause-sets
-searched-requires-clause-sets c =
-    subst (λ (r : Reading). (t : ℕ) (set : Frozen) → slice_get c.args.layers.now.sets t ≡ Some set → IsControlSet (control_of (flat_of r)) set)
-    (sym c.in_ok-end.ensures.same) c.requires.sets
+pub analysed-requires-clause-integers : goal.analysed-requires-clause-integers
+analysed-requires-clause-integers c = λ control.
+    true≢false (sym (c.is_control.ensures.1 (subst IsControlSystem (sym c.flat-flat.ensures) control)) ∙ c.if-is_control.false)
 
-pub returns-in-Left-clause-judged : goal.returns-in-Left-clause-judged
-returns-in-Left-clause-judged c = c.searched.ensures.judged
+pub analysed-requires-clause-unprobed : goal.analysed-requires-clause-unprobed
+analysed-requires-clause-unprobed c = λ has.
+    true≢false (sym (c.is_control.ensures.1 (subst IsControlSystem (sym c.flat-flat.ensures) (c.requires.unprobed has))) ∙ c.if-is_control.false)
+
+pub returns-in-Some-clause-judged : goal.returns-in-Some-clause-judged
+returns-in-Some-clause-judged c = λ nodes. c.hunted.ensures.judged nodes c.args.locations
+
+pub returns-in-Some-clause-wide : goal.returns-in-Some-clause-wide
+returns-in-Some-clause-wide c = λ nodes. absurd (c.hunted.ensures.memory nodes)

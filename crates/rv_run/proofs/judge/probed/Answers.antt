@@ -14,7 +14,7 @@ unless_shorter-requires-clause-lacks c = λ good.
     let f = c.args.flat.now in
     let known = c.requires.known in
     let system = c.control_is_a_system.ensures p main f known.well known.named known.flat in
-    falsifying-unsafe c.args.nodes p main c.args.trace c.requires.falsifying
+    falsifying-unsafe c.args.nodes c.args.locations p main c.args.trace c.requires.falsifying
     (known.safe (safe_claims (control_of f) f.thresholds (c.claims_are_safe.ensures.box_claim (control_of f) f.thresholds system)
     (c.claims_are_safe.ensures.row_claim (control_of f) f.thresholds system) good))
 
@@ -27,10 +27,10 @@ returns-clause-judged c =
     let known = c.requires.known in
     let system = c.control_is_a_system.ensures p main f known.well known.named known.flat in
     let lacks : HasGood (control_of f) f.thresholds → ⊥ = λ good.
-    falsifying-unsafe c.args.nodes p main c.args.trace c.requires.falsifying
+    falsifying-unsafe c.args.nodes c.args.locations p main c.args.trace c.requires.falsifying
     (known.safe (safe_claims (control_of f) f.thresholds (c.claims_are_safe.ensures.box_claim (control_of f) f.thresholds system)
     (c.claims_are_safe.ensures.row_claim (control_of f) f.thresholds system) good)) in
-    traced-verdict c.args.nodes p main c.args.trace
+    traced-verdict c.args.nodes c.args.locations p main c.args.trace
     (record {
       falsifying = c.requires.falsifying;
       origin = inr (inl (

@@ -22,7 +22,7 @@ write_certificate-requires-clause-free c = λ k l at none. let included = c.requ
     (included.no_first none, included.no_around none)
 
 pub returns-clause-judged : goal.returns-clause-judged
-returns-clause-judged c = λ nodes.
+returns-clause-judged c = λ nodes limit.
     let f = c.args.flat.now in
     let found = c.args.certificate in (
       c.requires.known.safe (c.certificates_are_safe.ensures.safe (control_of f) found c.requires.accepted),

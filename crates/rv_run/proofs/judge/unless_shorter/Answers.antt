@@ -13,7 +13,7 @@ returns-in-Err-Nodes-clause-judged c =
     let p = program_tree s.program in
     let main = name_at p s.typed.main in
     let known = c.requires.known in
-    traced-verdict c.args.nodes p main c.args.trace
+    traced-verdict c.args.nodes c.args.locations p main c.args.trace
     (record {
       falsifying = c.requires.falsifying;
       origin = inr (inl (

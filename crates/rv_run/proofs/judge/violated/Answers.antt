@@ -34,7 +34,7 @@ unreachable-requires c =
     (none_of c.in_ok-found.found c.in_default.not-Some)
 
 pub returns-clause-judged : goal.returns-clause-judged
-returns-clause-judged c = λ nodes.
+returns-clause-judged c = λ nodes limit.
     let p = program_tree c.args.source.now.program in
     let main = name_at p c.args.source.now.typed.main in
     let t = c.in-Some.trace in
@@ -43,10 +43,10 @@ returns-clause-judged c = λ nodes.
     let system = c.control_is_a_system.ensures p main f known.well known.named known.flat in
     let falsifies = c.in_ok-found.ensures.falsifies t (ap Ok c.in-Some.is) in
     let lacks : HasGood (control_of f) f.thresholds → ⊥ = λ good.
-    falsifying-unsafe nodes p main t falsifies
+    falsifying-unsafe nodes limit p main t falsifies
     (known.safe (safe_claims (control_of f) f.thresholds (c.claims_are_safe.ensures.box_claim (control_of f) f.thresholds system)
     (c.claims_are_safe.ensures.row_claim (control_of f) f.thresholds system) good)) in
-    traced-verdict nodes p main t
+    traced-verdict nodes limit p main t
     (record {
       falsifying = falsifies;
       origin = inl (

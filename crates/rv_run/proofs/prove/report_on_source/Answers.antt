@@ -5,7 +5,7 @@ use Rattle.rv_meaning.specs.Runs.{IsSafe}
 use Rattle.rv_run.specs.Answers.{IsOnSource, IsRefusalUnlessCutOff, IsSafeUnlessCutOff, IsJudgedUnlessLimited, IsViolatedUnlessCutOff, IsViolatedUnlessUnread}
 use Rattle.rv_run.specs.Programs.{OnProgram, WithRuns, HasGoodClaim, HasManyVariables, HasProbe, IsSafeControl, IsUnsafeControl, IsCertified, IsProgram}
 use Rattle.rv_run.specs.Programs.{IsUnknown, LacksGoodClaim, LacksProbe}
-use Rattle.rv_run.specs.Verdicts.{IsDocumentOf, IsInvariantOf, IsViolated}
+use Rattle.rv_run.specs.Verdicts.{IsDocumentOf, IsInvariantOf, IsLeftOf, IsViolated}
 use Rattle.rv_run.proofs.Judged.{verdict-on_source, verdict-not_refused, said_safe, said_violated, said_unknown, said_nodes, said_unprobed, must_claim}
 use Rattle.rv_run.proofs.Judged.{must_probe, must_safe, must_violated, must_judged}
 use Rattle.rv_run.proofs.Reported.{refusal-not_safe, refusal-not_violated, refusal-not_unknown, refusal-not_nodes, refusal-on_source, refusal-refused}
@@ -38,6 +38,7 @@ returns-in-Err c =
       violated = λ t h. absurd (refusal-not_violated fault t (sym is ∙ h));
       document = λ t h. absurd (refusal-not_violated fault t (sym is ∙ h));
       unknown = λ l h. absurd (refusal-not_unknown fault l (sym is ∙ h));
+      left = λ l h. absurd (refusal-not_unknown fault l (sym is ∙ h));
       nodes = λ n h. absurd (refusal-not_nodes fault n (sym is ∙ h));
       unprobed = λ n h. absurd (refusal-not_nodes fault n (sym is ∙ h));
       refused = λ found h. refusal-refused bytes node fault found c.in-Err.ensures.refused (sym is ∙ h);
@@ -79,23 +80,27 @@ returns-in-Ok c =
     let back : (P : ProgramTree → Identifier → Type 0) → OnProgram P bytes node
     → P p m = λ P on. subst (P p) (sym (named bytes node s source)) (told_back bytes node s source (c.one_tree.ensures bytes) P on) in
     record {
-      safe = λ d h. told bytes node s source (WithRuns IsSafe) (runs IsSafe (said_safe c.args.nodes p m r d judged (sym is ∙ h)).0);
-      certified = λ d h. told bytes node s source (IsCertified d) (said_safe c.args.nodes p m r d judged (sym is ∙ h)).1;
+      safe = λ d h. told bytes node s source (WithRuns IsSafe) (runs IsSafe (said_safe c.args.nodes c.args.locations p m r d judged (sym is ∙ h)).0);
+      certified = λ d h. told bytes node s source (IsCertified d) (said_safe c.args.nodes c.args.locations p m r d judged (sym is ∙ h)).1;
       invariant = λ d h. told bytes node s source (IsInvariantOf d c.on_verdict.result.document.items)
-          (subst (λ text. IsInvariantOf d text p m) (sym c.on_verdict.ensures.document) (said_safe c.args.nodes p m r d judged (sym is ∙ h)).2);
+          (subst (λ text. IsInvariantOf d text p m) (sym c.on_verdict.ensures.document) (said_safe c.args.nodes c.args.locations p m r d judged (sym is ∙ h)).2);
       violated = λ t h. told bytes node s source (WithRuns (IsViolated c.args.nodes t))
-          (runs (IsViolated c.args.nodes t) (said_violated c.args.nodes p m r t judged (sym is ∙ h)).0);
+          (runs (IsViolated c.args.nodes t) (said_violated c.args.nodes c.args.locations p m r t judged (sym is ∙ h)).0);
       document = λ t h. told bytes node s source (IsDocumentOf t c.on_verdict.result.document.items)
-          (subst (λ text. IsDocumentOf t text p m) (sym c.on_verdict.ensures.document) (said_violated c.args.nodes p m r t judged (sym is ∙ h)).1);
-      unknown = λ l h. told bytes node s source (WithRuns (IsUnknown l)) (runs (IsUnknown l) (said_unknown c.args.nodes p m r l judged (sym is ∙ h)));
-      nodes = λ n h. let both = said_nodes c.args.nodes p m r n wide (sym is ∙ h) in (both.0, told bytes node s source (HasManyVariables c.args.nodes) both.1);
-      unprobed = λ n h. told bytes node s source LacksProbe (said_unprobed c.args.nodes p m r n c.judge.ensures.unprobed (sym is ∙ h));
+          (subst (λ text. IsDocumentOf t text p m) (sym c.on_verdict.ensures.document) (said_violated c.args.nodes c.args.locations p m r t judged (sym is ∙ h)).1);
+      unknown = λ l h. told bytes node s source (WithRuns (IsUnknown c.args.locations l))
+          (runs (IsUnknown c.args.locations l) (said_unknown c.args.nodes c.args.locations p m r l judged (sym is ∙ h)).0);
+      left = λ l h. told bytes node s source (IsLeftOf c.args.locations l c.on_verdict.result.document.items)
+          (subst (λ text. IsLeftOf c.args.locations l text p m) (sym c.on_verdict.ensures.document)
+          (said_unknown c.args.nodes c.args.locations p m r l judged (sym is ∙ h)).1);
+      nodes = λ n h. let both = said_nodes c.args.nodes c.args.locations p m r n wide (sym is ∙ h) in (both.0, told bytes node s source (HasManyVariables c.args.nodes) both.1);
+      unprobed = λ n h. told bytes node s source LacksProbe (said_unprobed c.args.nodes c.args.locations p m r n c.judge.ensures.unprobed (sym is ∙ h));
       refused = λ found h. absurd (verdict-not_refused c.args.nodes r found (sym is ∙ h));
       only = subst IsOnSource (sym is) (verdict-on_source c.args.nodes r);
-      only_safe = λ on. subst IsSafeUnlessCutOff (sym is) (must_safe c.args.nodes p m r judged (back IsSafeControl on));
-      only_violated = λ on. subst IsViolatedUnlessCutOff (sym is) (must_violated c.args.nodes p m r judged (back IsUnsafeControl on));
-      only_probed = λ on. subst IsViolatedUnlessUnread (sym is) (must_probe c.args.nodes p m r probe c.judge.ensures.unprobed judged (back HasProbe on));
-      only_claimed = λ on. subst IsSafeUnlessCutOff (sym is) (must_claim c.args.nodes p m r one judged (back HasGoodClaim on));
+      only_safe = λ on. subst IsSafeUnlessCutOff (sym is) (must_safe c.args.nodes c.args.locations p m r judged (back IsSafeControl on));
+      only_violated = λ on. subst IsViolatedUnlessCutOff (sym is) (must_violated c.args.nodes c.args.locations p m r judged (back IsUnsafeControl on));
+      only_probed = λ on. subst IsViolatedUnlessUnread (sym is) (must_probe c.args.nodes c.args.locations p m r probe c.judge.ensures.unprobed judged (back HasProbe on));
+      only_claimed = λ on. subst IsSafeUnlessCutOff (sym is) (must_claim c.args.nodes c.args.locations p m r one judged (back HasGoodClaim on));
       only_judged = λ on. subst IsJudgedUnlessLimited (sym is) (must_judged c.args.nodes r);
       only_refused = λ found h. absurd (c.in-Ok.ensures.only_refused found h);
     }

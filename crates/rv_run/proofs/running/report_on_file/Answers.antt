@@ -7,7 +7,8 @@ use Rattle.rv_run.specs.Answers.{IsOnSource, IsTold, IsToldDocument, OnDocument,
 use Rattle.rv_run.specs.Programs.{HasGoodClaim, HasManyVariables, HasProbe, LacksProbe, IsCertified, IsRefusedFor, IsSafeControl, IsProgram, IsUnknown}
 use Rattle.rv_run.specs.Programs.{IsUnsafeControl, OnProgram, WithRuns}
 use Rattle.rv_run.specs.{Words.wanted_on_file, declared.words.Task.Task, declared.words.Beside.Beside, Checked.IsUnlessCut, Checked.SaysOf}
-use Rattle.rv_run.specs.{Traced.IsLongDocument, Traced.OnAccepted, Verdicts.IsDocumentOf, Verdicts.IsInvariantOf, Verdicts.IsViolated}
+use Rattle.rv_run.specs.{Traced.IsLongDocument, Traced.OnAccepted, Verdicts.IsDocumentOf, Verdicts.IsInvariantOf, Verdicts.IsLeftOf}
+use Rattle.rv_run.specs.Verdicts.{IsViolated}
 use Rattle.rv_run.proofs.Named.{no_document, on_document, on_file, told_of, told_of_document}
 use Rattle.rv_run.proofs.Reported.{document-not_made, document-not_safe, document-not_toured, document-not_unknown, document-not_usage, document-not_verdict}
 use Rattle.rv_run.proofs.Reported.{document-not_violated, source-not_document}
@@ -57,7 +58,8 @@ returns-in-None g c =
         invariant = λ d h. lift (OnProgram (IsInvariantOf d c.report_on_source.result.document.items)) (answer.invariant d h);
         violated = λ t h. lift (OnProgram (WithRuns (IsViolated c.args.command.nodes t))) (answer.violated t h);
         document_of = λ t h. lift (OnProgram (IsDocumentOf t c.report_on_source.result.document.items)) (answer.document t h);
-        unknown = λ l h. lift (OnProgram (WithRuns (IsUnknown l))) (answer.unknown l h);
+        unknown = λ l h. lift (OnProgram (WithRuns (IsUnknown c.args.command.locations l))) (answer.unknown l h);
+        left = λ l h. lift (OnProgram (IsLeftOf c.args.command.locations l c.report_on_source.result.document.items)) (answer.left l h);
         nodes = λ n h. let two = answer.nodes n h in (
           two.0,
           inl (subst (λ (k : ℕ). OnFile held w (OnProgram (HasManyVariables k))) (sym two.0)
@@ -127,6 +129,7 @@ returns g c =
         violated = λ t h. absurd (document-not_violated r t answer.only h);
         document_of = λ t h. absurd (document-not_violated r t answer.only h);
         unknown = λ l h. absurd (document-not_unknown r l answer.only h);
+        left = λ l h. absurd (document-not_unknown r l answer.only h);
         nodes = λ n h. let two = answer.nodes n h in (
           two.0,
           inl (subst (λ (k : ℕ). OnFile held w (OnProgram (HasManyVariables k))) (sym two.0)

@@ -174,7 +174,7 @@ returns-clause-shown_whole g c = λ h.
           (shown_of answer.report answer.document.items))
           c.as_slice.ensures.value
           (is_shown (g.F.Files.held c.args.files.now) (wanted (texts c.as_slice.result.now)) answer.report answer.document.items
-          c.report_on-answer.ensures.replies.invariant c.report_on-answer.ensures.replies.document_of),
+          c.report_on-answer.ensures.replies.invariant c.report_on-answer.ensures.replies.document_of c.report_on-answer.ensures.replies.left),
       c.show-sent.ensures.whole h,
     )
 
@@ -186,7 +186,7 @@ returns-clause-shown_prefix g c = λ h.
           (shown_of answer.report answer.document.items))
           c.as_slice.ensures.value
           (is_shown (g.F.Files.held c.args.files.now) (wanted (texts c.as_slice.result.now)) answer.report answer.document.items
-          c.report_on-answer.ensures.replies.invariant c.report_on-answer.ensures.replies.document_of),
+          c.report_on-answer.ensures.replies.invariant c.report_on-answer.ensures.replies.document_of c.report_on-answer.ensures.replies.left),
       c.show-sent.ensures.failed h,
     )
 
@@ -230,7 +230,8 @@ returns-clause-certified g c = λ d h.
 
 pub returns-clause-unknown : goal.returns-clause-unknown
 returns-clause-unknown g c = λ l h.
-    subst (λ (ws : List (String Global)). OnFile (g.F.Files.held c.args.files.now) (wanted (texts ws)) (OnProgram (WithRuns (IsUnknown l))))
+    subst (λ (ws : List (String Global)). OnFile (g.F.Files.held c.args.files.now) (wanted (texts ws))
+    (OnProgram (WithRuns (IsUnknown (wanted (texts ws)).locations l))))
     c.as_slice.ensures.value (c.report_on-answer.ensures.replies.unknown l h)
 
 pub returns-clause-nodes : goal.returns-clause-nodes
