@@ -109,7 +109,7 @@ fn put_sides<'a>(
     node: &'a Node,
     equation: &'a Equation,
 ) -> Result<(), Memory> {
-    text.push_str("the sides of this equation have other types: ")?;
+    text.push_str("the two sides of this equation differ in type: ")?;
     for left in equation.lefts.as_slice() {
         text.push('`')?;
         text.push_str(left.text.as_str())?;
@@ -222,7 +222,7 @@ fn put_paced_sides(
     node: &Node,
     equation: &Equation,
 ) -> Result<(), Memory> {
-    text.push_str("the sides of this equation have other clocks: ")?;
+    text.push_str("the two sides of this equation differ in clock: ")?;
     for left in equation.lefts.as_slice() {
         text.push('`')?;
         text.push_str(left.text.as_str())?;

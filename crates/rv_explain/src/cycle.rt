@@ -2,6 +2,7 @@
 
 use crate::names::Names;
 use crate::refused::Refused;
+use crate::table::put_wrapped;
 use rv_base::{Memory, Place};
 
 /// Adds where the first flow of a cycle is declared, and each flow on it by its path with its line.
@@ -30,19 +31,31 @@ pub fn put_cycle(
         }
     }
     for place in places {
-        text.push_str("  ")?;
-        names.put_place(text, main, &place.sites)?;
-        if let Some(at) = names.offset(main, &place.sites) {
-            text.push_str(" (")?;
-            refused.put_line_number(text, at)?;
-            text.push(')')?;
-        }
-        text.push_str(" needs\n")?;
+        put_flow(refused, text, names, main, place)?;
     }
-    text.push_str("  ")?;
-    names.put_place(text, main, &first.sites)?;
-    text.push_str(" again.\n")?;
-    Ok(())
+    let mut again = String::new(refused.alloc);
+    names.put_place(&mut again, main, &first.sites)?;
+    again.push_str(" again.")?;
+    put_wrapped(text, 2, again.as_str())
+}
+
+/// Adds a flow of a cycle by its path, with its line.
+fn put_flow(
+    refused: &Refused,
+    text: &mut String,
+    names: &Names,
+    main: u32,
+    place: &Place,
+) -> Result<(), Memory> {
+    let mut line = String::new(refused.alloc);
+    names.put_place(&mut line, main, &place.sites)?;
+    if let Some(at) = names.offset(main, &place.sites) {
+        line.push_str(" (")?;
+        refused.put_line_number(&mut line, at)?;
+        line.push(')')?;
+    }
+    line.push_str(" needs")?;
+    put_wrapped(text, 2, line.as_str())
 }
 
 /// Adds what is wrong with so many flows.

@@ -84,7 +84,7 @@ fn count_true(moment: &Moment, operands: &[FlatExpr]) -> Option<u32> {
 }
 
 /// What a `current` of a memory shows: what it holds where its clock is not there, and else the flow that it takes.
-fn shown(moment: &Moment, number: u32) -> Option<Value> {
+pub fn shown(moment: &Moment, number: u32) -> Option<Value> {
     let memory = moment.flat.memories.get(number as usize)?;
     let is_there = match memory.clock {
         Some(clock) => moment.flow(clock) == Some(Value::Flag(true)),
@@ -118,7 +118,7 @@ fn operated(op: Op, left: Value, right: Value) -> Option<Value> {
 }
 
 /// What an operator gives of truth values.
-fn joined(op: Op, left: bool, right: bool) -> Option<bool> {
+pub fn joined(op: Op, left: bool, right: bool) -> Option<bool> {
     match op {
         Op::Implies => Some(!left || right),
         Op::Or => Some(left || right),

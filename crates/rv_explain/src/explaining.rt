@@ -8,10 +8,12 @@ use crate::invariant::invariant_text;
 use crate::lines::Lines;
 use crate::names::Names;
 use crate::places::places_text;
+use crate::record::behind_verdict;
 use crate::refusal::refusal_text;
 use crate::rejected::rejected_text;
 use crate::request::{Answer, Asked};
 use crate::trace::{Told, trace_text};
+use crate::unknown::unknown_text;
 use rv_base::Memory;
 use rv_instances::Source;
 use rv_source::{SourceFault, read_source};
@@ -20,17 +22,14 @@ use rv_tree::SOURCE_LIMIT;
 use std::alloc::Global;
 
 /// The most bytes of a document.
-const DOCUMENT_LIMIT: usize = 67_108_864;
+pub const DOCUMENT_LIMIT: usize = 67_108_864;
 
 /// The most bytes of a trace: what is made of a longer one takes more than a gigabyte.
 const TRACE_LIMIT: usize = 50_000_000;
 
-/// Why nothing is told of a source that was neither proved nor refuted.
-const UNKNOWN: &str =
-    "no partition stands in the document of a source that was neither proved nor refuted";
-
 /// Why nothing is told of another document.
-const OTHER_KIND: &str = "documents of this kind are not explained; traces and invariant files are";
+const OTHER_KIND: &str =
+    "the document is no trace, invariant file or unknown document, nor a line on one with it behind";
 
 /// Tells of a source, and of a document about it where there is one, what an engineer wants to know: of a refused source why; of an accepted
 /// one its places, or what the document says. A document of a kind that is not explained is refused, and so is a source of more than
@@ -87,6 +86,7 @@ fn explain_accepted(
 fn explain_document(told: &Told, source: &Source, document: &[u8]) -> Result<Answer, Memory>
     requires plain { HasPlainNames (program_tree source.now.program) }
 {
+    let document = behind_verdict(document);
     if document.len() > DOCUMENT_LIMIT {
         return refused(told.alloc, "the document has more than 67,108,864 bytes");
     }
@@ -103,7 +103,7 @@ fn explain_document(told: &Told, source: &Source, document: &[u8]) -> Result<Ans
         return rejected_text(told, source, document);
     }
     if document.starts_with(b"reaver,unknown") {
-        return refused(told.alloc, UNKNOWN);
+        return unknown_text(told, source, document);
     }
     refused(told.alloc, OTHER_KIND)
 }

@@ -4,7 +4,7 @@ use crate::cover::cover_within;
 use crate::known::Known;
 use crate::regions::{Region, shared_of};
 use crate::sets::Values;
-use crate::table::put_wrapped;
+use crate::table::{joined, put_wrapped};
 use crate::vocabulary::{Quantity, Vocabulary, put_value_name};
 use rv_base::Memory;
 use rv_diagram::Frozen;
@@ -39,8 +39,30 @@ pub fn put_formula(
     let alloc = scene.alloc;
     let whole = scene.vocabulary.whole(alloc)?;
     let variables = scene.vocabulary.variables.as_slice();
-    let mut line = String::from_str(alloc, lead)?;
-    match cover_within(alloc, variables, &whole, known.within.as_slice(), diagram)? {
+    let cover = cover_within(alloc, variables, &whole, known.within.as_slice(), diagram)?;
+    put_cover(
+        scene,
+        text,
+        indent,
+        lead,
+        &cover,
+        diagram.nodes.len(),
+        known,
+    )
+}
+
+/// Adds the formula of a cover of a diagram with so many nodes, as [`put_formula`] does.
+pub fn put_cover(
+    scene: &Scene,
+    text: &mut String,
+    indent: usize,
+    lead: &str,
+    cover: &Option<Vec<Region>>,
+    count: usize,
+    known: &Known,
+) -> Result<(), Memory> {
+    let mut line = String::from_str(scene.alloc, lead)?;
+    match cover {
         Some(regions) => {
             if regions.len() <= MOST_PARTS {
                 return put_regions(scene, text, indent, lead, regions.as_slice(), known);
@@ -48,7 +70,6 @@ pub fn put_formula(
             write!(line, "(a formula of {} parts)", regions.len())?;
         }
         None => {
-            let count = diagram.nodes.len();
             write!(
                 line,
                 "(a diagram of {count} nodes, whose formula is too long)"
@@ -142,14 +163,28 @@ pub fn put_region(
             is_begun = true;
             let next = told.get(number).copied().unwrap_or(false);
             is_passed = next && is_equal(quantity, *values, region.values.get(number).copied());
-            if is_passed {
-                text.push_str(quantity.equal.as_str())?;
-            } else {
-                put_literal(text, scene.flat, quantity, *values)?;
-            }
+            put_one(scene, text, quantity, *values, is_passed)?;
         }
     }
     Ok(is_begun)
+}
+
+/// Adds which values a quantity has, or the equality whose first test it is, without a place to break a line at.
+fn put_one(
+    scene: &Scene,
+    text: &mut String,
+    quantity: &Quantity,
+    values: Values,
+    is_equality: bool,
+) -> Result<(), Memory> {
+    let mut literal = String::new(scene.alloc);
+    if is_equality {
+        literal.push_str(quantity.equal.as_str())?;
+    } else {
+        put_literal(&mut literal, scene.flat, quantity, values)?;
+    }
+    text.push_str(joined(scene.alloc, literal.as_str())?.as_str())?;
+    Ok(())
 }
 
 /// Whether a quantity is the first test of an equality, and both its tests are true.

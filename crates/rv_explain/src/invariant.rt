@@ -19,11 +19,20 @@ use rv_instances::Source;
 use rv_invariant::read_certificate;
 use rv_proofs::{Certificate, Entry, EntryKind, Location};
 use rv_rows::Row;
+use rv_types::Kind;
 
-/// How many locations are told, and how many steps of all of them.
-const MOST_LOCATIONS: usize = 200;
+/// How many locations are told.
+pub const MOST_LOCATIONS: usize = 200;
 
-const MOST_STEPS: usize = 500;
+/// How many steps are told of all locations.
+pub const MOST_STEPS: usize = 500;
+
+/// What is told of all locations.
+const WHAT: &str =
+    "Before each instant a run is in one of these locations, and its inequalities hold.";
+
+/// What is told of the names of memories.
+const PRE: &str = "`pre x` stands for what is kept of x: its last value before the instant.";
 
 /// The text on the bytes of an invariant file.
 pub fn invariant_text(told: &Told, source: &Source, document: &[u8]) -> Result<Answer, Memory>
@@ -65,12 +74,13 @@ fn certificate_text(
     with_entries: bool,
 ) -> Result<String, Memory> {
     let mut text = String::new(scene.alloc);
-    text.push_str("`pre x` stands for what is kept of x: its value at the instant before.\n")?;
+    put_head(scene, &mut text)?;
     let nothing = Known::nothing(scene.alloc, scene.vocabulary)?;
     let mut number: u32 = 0;
     let mut left = MOST_STEPS;
     for location in certificate.locations.as_slice().iter().take(MOST_LOCATIONS) {
-        put_location(scene, &mut text, location, number, &nothing)?;
+        let lead = format!(in scene.alloc; "Location {number}: ")?;
+        put_location(scene, &mut text, location, lead.as_str(), &nothing)?;
         if with_entries {
             left = put_steps(scene, &mut text, location, number, left)?;
         }
@@ -86,27 +96,59 @@ fn certificate_text(
     Ok(text)
 }
 
-/// Adds the control states and rows of the location with this number.
-fn put_location(
+/// Adds what is told of all locations, and of the names of memories where there are some.
+pub fn put_head(scene: &Scene, text: &mut String) -> Result<(), Memory> {
+    put_wrapped(text, 0, WHAT)?;
+    if !scene.flat.memories.is_empty() {
+        put_wrapped(text, 0, PRE)?;
+    }
+    Ok(())
+}
+
+/// Adds the control states of a location behind a lead, and its rows.
+pub fn put_location(
     scene: &Scene,
     text: &mut String,
     location: &Location,
-    number: u32,
+    lead: &str,
     nothing: &Known,
 ) -> Result<(), Memory> {
     text.push('\n')?;
-    let lead = format!(in scene.alloc; "Location {number}: ")?;
-    put_formula(scene, text, 0, lead.as_str(), &location.control, nothing)?;
+    put_formula(scene, text, 0, lead, &location.control, nothing)?;
     put_bounds(scene, text, location)
 }
 
 /// Adds the rows of a location.
 fn put_bounds(scene: &Scene, text: &mut String, location: &Location) -> Result<(), Memory> {
-    if is_same(&location.entry, &location.state) {
-        return put_rows(scene, text, 2, "always", &location.state);
+    if location.entry.is_empty() && location.state.is_empty() {
+        return put_none(scene, text);
     }
-    put_rows(scene, text, 2, "where a run comes in", &location.entry)?;
+    if !is_same(&location.entry, &location.state) {
+        put_rows(scene, text, 2, "where a run comes in", &location.entry)?;
+    }
+    put_rows(
+        scene,
+        text,
+        2,
+        "after the first turn of its loop",
+        &location.first,
+    )?;
+    put_rows(scene, text, 2, "from the first turn on", &location.around)?;
     put_rows(scene, text, 2, "always", &location.state)
+}
+
+/// Adds that a location has no rows, where there are integers of which it could have some.
+fn put_none(scene: &Scene, text: &mut String) -> Result<(), Memory> {
+    let has_integers = scene
+        .flat
+        .memories
+        .as_slice()
+        .iter()
+        .any(|memory| memory.kind == Kind::Int);
+    if has_integers {
+        text.push_str("  no inequality\n")?;
+    }
+    Ok(())
 }
 
 /// Whether two lists have the same rows.
@@ -158,18 +200,23 @@ pub fn known_in(scene: &Scene, location: &Location) -> Result<Known, Memory> {
 
 /// Adds the steps of the location with this number, no more than are left to be told, and how many cases its rows rule out. It answers how
 /// many are left then.
-fn put_steps(
+pub fn put_steps(
     scene: &Scene,
     text: &mut String,
     location: &Location,
     own: u32,
     left: usize,
 ) -> Result<usize, Memory> {
+    let entries = location.entries.as_slice();
+    if entries.is_empty() {
+        put_wrapped(text, 2, "no steps: the assertions hold nowhere here")?;
+        return Ok(left);
+    }
     let known = known_in(scene, location)?;
     put_wrapped(text, 2, "steps")?;
     let mut count: usize = 0;
-    for entry in location.entries.as_slice() {
-        if !is_dead(entry) {
+    for entry in entries {
+        if is_step(entry) {
             if count < left {
                 put_entry(scene, text, 4, entry, own, &known)?;
             }
@@ -180,16 +227,24 @@ fn put_steps(
     if more > 0 {
         write!(text, "    and {more} more\n")?;
     }
-    let dead = location.entries.len().saturating_sub(count);
-    if dead > 0 {
-        write!(text, "    cases that no integers meet: {dead}\n")?;
+    let refuted = entries.iter().filter(|entry| is_refuted(*entry)).count();
+    if refuted > 0 {
+        write!(text, "    cases that no integers meet: {refuted}\n")?;
     }
     Ok(left.saturating_sub(count))
 }
 
-/// Whether an entry says that its case never comes.
-fn is_dead(entry: &Entry) -> bool {
-    matches!(&entry.kind, EntryKind::Dead(_))
+/// Whether an entry is a step or a turn of a loop.
+pub fn is_step(entry: &Entry) -> bool {
+    !matches!(&entry.kind, EntryKind::Dead(_))
+}
+
+/// Whether an entry says that its case never comes, with a proof: without one it has no multipliers.
+pub fn is_refuted(entry: &Entry) -> bool {
+    match &entry.kind {
+        EntryKind::Dead(by) => !by.weights.is_empty(),
+        _ => false,
+    }
 }
 
 /// Adds an entry of the location with this number: where it leads, and when.

@@ -1,13 +1,14 @@
 //! Texts for people: why a source is refused, where things stand in it, and what documents about it say.
 //!
 //! It proves nothing about programs. It promises that each call returns, safely, with a text or for want of memory. It stands on the front
-//! end for sources, and on the readers of documents. Begin with explaining.rt.
+//! end for sources, on the readers of documents, and on `rv_bits` for where an observer is false. Begin with explaining.rt.
 #![tactic(auto)]
 
 mod clashes;
 mod conjuncts;
 mod cover;
 mod cycle;
+mod duties;
 mod evaluate;
 mod explaining;
 mod expression;
@@ -21,9 +22,12 @@ mod known;
 mod lines;
 mod names;
 mod naming;
+mod observed;
 mod outcome;
 mod places;
 mod played;
+mod possible;
+mod record;
 mod refusal;
 mod refused;
 mod regions;
@@ -36,6 +40,8 @@ mod sums;
 mod table;
 mod tokens;
 mod trace;
+mod unknown;
+mod unshown;
 mod vocabulary;
 
 pub use cover::cover_of;

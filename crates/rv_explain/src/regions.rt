@@ -145,11 +145,20 @@ struct Open {
     values: Values,
 }
 
+/// A node of a diagram: its number, its variable, and its children.
+#[derive(Clone, Copy)]
+struct Node {
+    number: usize,
+    var: u32,
+    low: u32,
+    high: u32,
+}
+
 /// What a reference of a diagram is.
 enum Seen {
     False,
     True,
-    Node(usize, u32, u32, u32),
+    Node(Node),
 }
 
 /// What a reference of a diagram is.
@@ -160,7 +169,12 @@ fn look(diagram: &Frozen, reference: u32) -> Seen {
         _ => {
             let number = (reference - 2) as usize;
             match diagram.nodes.get(number) {
-                Some(node) => Seen::Node(number, node.var, node.lo, node.hi),
+                Some(node) => Seen::Node(Node {
+                    number,
+                    var: node.var,
+                    low: node.lo,
+                    high: node.hi,
+                }),
                 None => Seen::False,
             }
         }
@@ -189,10 +203,9 @@ fn push_children(
     stack: &mut Vec<Open>,
     variable: Variable,
     values: Values,
-    low: u32,
-    high: u32,
+    node: &Node,
 ) -> Result<(), Memory> {
-    for (reference, own) in [(low, variable.no), (high, variable.yes)] {
+    for (reference, own) in [(node.low, variable.no), (node.high, variable.yes)] {
         let left = values.and(own);
         if !left.is_empty() {
             stack.push(Open {
@@ -205,6 +218,48 @@ fn push_children(
     Ok(())
 }
 
+/// What is left to look at in a diagram, and which nodes were seen before.
+#[derive(Drop)]
+struct Looking {
+    stack: Vec<Open>,
+    marks: Vec<bool>,
+}
+
+impl Looking {
+    /// The root of a diagram.
+    fn new(alloc: Global, diagram: &Frozen) -> Result<Looking, Memory> {
+        let mut marks = Vec::new(alloc);
+        for _ in diagram.nodes.as_slice() {
+            marks.push(false)?;
+        }
+        let mut stack = Vec::new(alloc);
+        stack.push(Open {
+            reference: diagram.root,
+            quantity: None,
+            values: Values::none(),
+        })?;
+        Ok(Looking { stack, marks })
+    }
+
+    /// Adds the children of a node that has this variable: within a region, where its quantity is another than that of the node above it.
+    fn go_on(
+        &mut self,
+        region: &Region,
+        open: Open,
+        variable: Variable,
+        node: &Node,
+    ) -> Result<(), Memory> {
+        if open.quantity == Some(variable.quantity) {
+            return push_children(&mut self.stack, variable, open.values, node);
+        }
+        if mark(&mut self.marks, node.number) {
+            return Ok(());
+        }
+        let values = region.at(variable.quantity);
+        push_children(&mut self.stack, variable, values, node)
+    }
+}
+
 /// Whether the diagram is true in the whole region; no, where that takes too many steps to see.
 pub fn is_within(
     alloc: Global,
@@ -213,19 +268,10 @@ pub fn is_within(
     region: &Region,
     diagram: &Frozen,
 ) -> Result<bool, Memory> {
-    let mut marks = Vec::new(alloc);
-    for _ in diagram.nodes.as_slice() {
-        marks.push(false)?;
-    }
-    let mut stack = Vec::new(alloc);
-    stack.push(Open {
-        reference: diagram.root,
-        quantity: None,
-        values: Values::none(),
-    })?;
-    let _ = effort.spend(marks.len());
+    let mut looking = Looking::new(alloc, diagram)?;
+    let _ = effort.spend(diagram.nodes.len());
     for _ in 0..STEPS {
-        let Some(open) = stack.pop() else {
+        let Some(open) = looking.stack.pop() else {
             return Ok(true);
         };
         if !effort.spend(1) {
@@ -234,21 +280,38 @@ pub fn is_within(
         match look(diagram, open.reference) {
             Seen::False => return Ok(false),
             Seen::True => {}
-            Seen::Node(number, var, low, high) => match variable_at(variables, var) {
+            Seen::Node(node) => match variable_at(variables, node.var) {
                 None => return Ok(false),
-                Some(variable) => {
-                    let is_going_on = open.quantity == Some(variable.quantity);
-                    if is_going_on {
-                        push_children(&mut stack, variable, open.values, low, high)?;
-                    } else if !mark(&mut marks, number) {
-                        let values = region.at(variable.quantity);
-                        push_children(&mut stack, variable, values, low, high)?;
-                    }
-                }
+                Some(variable) => looking.go_on(region, open, variable, &node)?,
             },
         }
     }
     Ok(false)
+}
+
+/// A reference of a diagram, and the region in which it is reached.
+#[derive(Drop)]
+struct Way {
+    reference: u32,
+    region: Region,
+}
+
+/// Adds both children of a node, each in what is left of a region.
+fn push_ways(
+    alloc: Global,
+    stack: &mut Vec<Way>,
+    region: &Region,
+    variable: Variable,
+    node: &Node,
+) -> Result<(), Memory> {
+    for (reference, own) in [(node.high, variable.yes), (node.low, variable.no)] {
+        let values = region.at(variable.quantity).and(own);
+        if !values.is_empty() {
+            let region = region.changed(alloc, variable.quantity, values)?;
+            stack.push(Way { reference, region })?;
+        }
+    }
+    Ok(())
 }
 
 /// The regions of the ways of a diagram to true, which have no point in common and together are all at which it is true. None where there
@@ -263,9 +326,15 @@ pub fn ways(
 ) -> Result<Option<Vec<Region>>, Memory> {
     let mut found = Vec::new(alloc);
     let mut stack = Vec::new(alloc);
-    stack.push((diagram.root, copy_of(alloc, whole)?))?;
+    stack.push(Way {
+        reference: diagram.root,
+        region: copy_of(alloc, whole)?,
+    })?;
     for _ in 0..STEPS {
-        let Some((reference, region)) = stack.pop() else {
+        if found.len() > most {
+            return Ok(None);
+        }
+        let Some(Way { reference, region }) = stack.pop() else {
             return Ok(Some(found));
         };
         if !effort.spend(region.values.len()) {
@@ -273,24 +342,11 @@ pub fn ways(
         }
         match look(diagram, reference) {
             Seen::False => {}
-            Seen::True => {
-                if found.len() >= most {
-                    return Ok(None);
-                }
-                found.push(region)?;
-            }
-            Seen::Node(_, var, low, high) => {
-                let Some(variable) = variable_at(variables, var) else {
-                    return Ok(None);
-                };
-                for (child, own) in [(high, variable.yes), (low, variable.no)] {
-                    let values = region.at(variable.quantity).and(own);
-                    if !values.is_empty() {
-                        let next = region.changed(alloc, variable.quantity, values)?;
-                        stack.push((child, next))?;
-                    }
-                }
-            }
+            Seen::True => found.push(region)?,
+            Seen::Node(node) => match variable_at(variables, node.var) {
+                Some(variable) => push_ways(alloc, &mut stack, &region, variable, &node)?,
+                None => return Ok(None),
+            },
         }
     }
     Ok(None)

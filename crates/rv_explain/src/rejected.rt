@@ -2,15 +2,19 @@
 
 ghost use Rattle.std.specs.Prelude.{◌≤◌, length};
 
+use crate::duties::duty_of;
+use crate::explaining::DOCUMENT_LIMIT;
 use crate::formula::{Scene, put_region};
 use crate::invariant::{known_in, put_entry, put_rows, vocabulary_of};
 use crate::known::Known;
+use crate::record::{Record, first_of};
 use crate::regions::Region;
 use crate::request::Answer;
+use crate::rows::row_texts;
 use crate::table::put_wrapped;
 use crate::trace::{Told, file_fault};
 use rv_base::{Many, Memory};
-use rv_flat::Flat;
+use rv_flat::{Bit, Flat};
 use rv_flatten::flatten;
 use rv_instances::Source;
 use rv_invariant::read_certificate;
@@ -18,49 +22,16 @@ use rv_proofs::{Certificate, Entry, EntryKind, Location};
 use rv_rows::Row;
 use std::alloc::Global;
 
-/// A line in its fields.
-#[derive(Drop)]
-struct Line<'d> {
-    fields: Vec<&'d str>,
-}
-
-impl<'d> Line<'d> {
-    /// The fields of a line, none where it is no text.
-    fn new(alloc: Global, line: &'d [u8]) -> Result<Line<'d>, Memory> {
-        let mut fields = Vec::new(alloc);
-        if let Ok(text) = std::str::from_utf8(line) {
-            for field in text.trim_end().split(',') {
-                fields.push(field)?;
-            }
-        }
-        Ok(Line { fields })
-    }
-
-    /// The field with this number, nothing where there is none.
-    fn field(&self, number: usize) -> &'d str {
-        match self.fields.get(number) {
-            Some(field) => *field,
-            None => "",
-        }
-    }
-
-    /// The number in a field.
-    fn number(&self, number: usize) -> Option<u32> {
-        self.field(number).parse::<u32>().ok()
-    }
-}
-
 /// The text on a line that rejects the invariant file behind it.
 pub fn rejected_text(told: &Told, source: &Source, document: &[u8]) -> Result<Answer, Memory>
     requires short { length document.now ≤ 67108864 }
 {
-    let Some(end) = document.iter().position(|byte| *byte == b'\n') else {
+    let Some((line, file)) = first_of(document) else {
         return wanting(told.alloc);
     };
-    let (line, rest) = document.split_at(end);
-    let Some((_, file)) = rest.split_first() else {
+    if first_of(file).is_none() || file.len() > DOCUMENT_LIMIT {
         return wanting(told.alloc);
-    };
+    }
     let flat = flatten(told.alloc, source)?;
     match read_certificate(told.alloc, &flat, file) {
         Ok(certificate) => reason_text(told, &flat, &certificate, line),
@@ -81,7 +52,7 @@ fn reason_text(
         flat,
         vocabulary: &vocabulary,
     };
-    let line = Line::new(told.alloc, line)?;
+    let line = Record::new(told.alloc, line)?;
     let mut text = String::new(told.alloc);
     put_reason(&scene, &mut text, certificate, &line)?;
     Ok(Answer::Explained(text))
@@ -114,13 +85,13 @@ fn put_reason(
     scene: &Scene,
     text: &mut String,
     certificate: &Certificate,
-    line: &Line,
+    line: &Record,
 ) -> Result<(), Memory> {
     let name = line.field(3);
     if name == "noinitial" {
         text.push_str(sentence(name))?;
         text.push('\n')?;
-        return put_point(scene, text, line.field(4));
+        return put_point(scene, text, line.field(4), true);
     }
     let number = line.number(4);
     let location = number.and_then(|number| certificate.locations.get(number as usize));
@@ -138,26 +109,33 @@ fn put_reason(
     put_of_entry(scene, text, certificate, location, line, number)
 }
 
-/// The region of a control state or valuation, a digit for each variable.
-fn region_of(scene: &Scene, digits: &str) -> Result<Region, Memory> {
+/// Whether a variable is of control states.
+fn is_of_state(bit: &Bit) -> bool {
+    matches!(bit, Bit::MainTick | Bit::Tick(_) | Bit::Kept(_, _))
+}
+
+/// The region of a control state, or of a valuation, a digit for each variable.
+fn region_of(scene: &Scene, digits: &str, is_state: bool) -> Result<Region, Memory> {
     let mut region = scene.vocabulary.whole(scene.alloc)?;
-    for (variable, digit) in scene
+    let bits = scene.flat.variables.as_slice().iter();
+    for ((variable, bit), digit) in scene
         .vocabulary
         .variables
         .as_slice()
         .iter()
+        .zip(bits)
         .zip(digits.as_bytes())
     {
-        if let Some(variable) = variable {
+        if let (Some(variable), true) = (variable, !is_state || is_of_state(bit)) {
             region.narrow(*variable, *digit == b'1');
         }
     }
     Ok(region)
 }
 
-/// Adds a control state or valuation, a digit for each variable.
-fn put_point(scene: &Scene, text: &mut String, digits: &str) -> Result<(), Memory> {
-    let region = region_of(scene, digits)?;
+/// Adds a control state, or a valuation, a digit for each variable.
+fn put_point(scene: &Scene, text: &mut String, digits: &str, is_state: bool) -> Result<(), Memory> {
+    let region = region_of(scene, digits, is_state)?;
     let nothing = Known::nothing(scene.alloc, scene.vocabulary)?;
     let mut formula = String::new(scene.alloc);
     if !put_region(scene, &mut formula, &region, &nothing)? {
@@ -171,14 +149,34 @@ fn put_of_location(
     scene: &Scene,
     text: &mut String,
     location: &Location,
-    line: &Line,
+    line: &Record,
     name: &str,
 ) -> Result<(), Memory> {
     if name == "uncovered" {
-        return put_point(scene, text, line.field(5));
+        return put_point(scene, text, line.field(5), false);
     }
-    put_one_row(scene, text, &location.state, line.number(5))?;
-    put_rows(scene, text, 0, "The premises:", &location.entry)
+    let number = row_number(line, 5);
+    let count = location.state.len();
+    let own = if number < count {
+        number
+    } else {
+        number.saturating_sub(count)
+    };
+    put_one_row(scene, text, &location.state, own)?;
+    let given = if number < count {
+        &location.entry
+    } else {
+        &location.first
+    };
+    put_rows(scene, text, 0, "The premises:", given)
+}
+
+/// The number of a row in a field, and more than there are where none stands there.
+fn row_number(line: &Record, field: usize) -> usize {
+    match line.number(field) {
+        Some(number) => number as usize,
+        None => usize::MAX,
+    }
 }
 
 /// Adds one row.
@@ -186,11 +184,11 @@ fn put_one_row(
     scene: &Scene,
     text: &mut String,
     rows: &Many<Row>,
-    number: Option<u32>,
+    number: usize,
 ) -> Result<(), Memory> {
-    if let Some(row) = number.and_then(|number| rows.get(number as usize)) {
+    if let Some(row) = rows.get(number) {
         let names = scene.vocabulary.columns.as_slice();
-        for one in crate::rows::row_texts(scene.alloc, names, std::slice::from_ref(row))? {
+        for one in row_texts(scene.alloc, names, std::slice::from_ref(row))? {
             put_wrapped(text, 2, one.as_str())?;
         }
     }
@@ -203,7 +201,7 @@ fn put_of_entry(
     text: &mut String,
     certificate: &Certificate,
     location: &Location,
-    line: &Line,
+    line: &Record,
     own: u32,
 ) -> Result<(), Memory> {
     let name = line.field(3);
@@ -215,20 +213,40 @@ fn put_of_entry(
     write!(text, ", entry {}: ", number.unwrap_or(0))?;
     text.push_str(sentence(name))?;
     text.push('\n')?;
+    let row = row_number(line, 6);
     if name == "multipliers" {
-        put_goal(scene, text, certificate, entry, line.number(6))?;
+        put_goal(scene, text, certificate, location, entry, row)?;
     } else if name != "unsettled" {
-        put_point(scene, text, line.field(6))?;
+        put_point(scene, text, line.field(6), false)?;
     }
     text.push_str("The entry:\n")?;
     put_entry(scene, text, 2, entry, own, &known_in(scene, location)?)?;
-    put_rows(
-        scene,
-        text,
-        0,
-        "The premises beside those of its condition:",
-        &location.state,
-    )
+    put_premises(scene, text, location, entry, row)
+}
+
+/// Adds the rows from which the row with this number is to be proved, of those that an entry is to prove.
+fn put_premises(
+    scene: &Scene,
+    text: &mut String,
+    location: &Location,
+    entry: &Entry,
+    number: usize,
+) -> Result<(), Memory> {
+    let premises = "The premises beside those of its condition:";
+    let turn = match &entry.kind {
+        EntryKind::Loop { .. } => duty_of(location, number),
+        _ => None,
+    };
+    match turn {
+        Some((duty, _)) => {
+            put_rows(scene, text, 0, premises, duty.given)?;
+            match duty.more {
+                Some(more) => put_rows(scene, text, 0, "And these:", more),
+                None => Ok(()),
+            }
+        }
+        None => put_rows(scene, text, 0, premises, &location.state),
+    }
 }
 
 /// Adds what the multipliers of an entry are to prove.
@@ -236,8 +254,9 @@ fn put_goal(
     scene: &Scene,
     text: &mut String,
     certificate: &Certificate,
+    location: &Location,
     entry: &Entry,
-    number: Option<u32>,
+    number: usize,
 ) -> Result<(), Memory> {
     match &entry.kind {
         EntryKind::Go { target, .. } => match certificate.locations.get(*target as usize) {
@@ -247,7 +266,16 @@ fn put_goal(
             }
             None => {}
         },
-        _ => text.push_str("  that no integers meet the premises and the rows of the tests\n")?,
+        EntryKind::Loop { .. } => match duty_of(location, number) {
+            Some((duty, own)) => {
+                put_one_row(scene, text, duty.rows, own)?;
+                put_wrapped(text, 2, duty.when)?;
+            }
+            None => {}
+        },
+        EntryKind::Dead(_) => {
+            text.push_str("  that no integers meet the premises and the rows of the tests\n")?
+        }
     }
     Ok(())
 }

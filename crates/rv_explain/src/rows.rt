@@ -120,29 +120,60 @@ fn put_sum(text: &mut String, names: &[String], coefficients: &[i128]) -> Result
     Ok(())
 }
 
+/// Adds a comparison of a sum with a number. With 0 what is taken off stands on the other side.
+fn put_compared(
+    alloc: Global,
+    text: &mut String,
+    names: &[String],
+    coefficients: &[i128],
+    sign: &str,
+    number: i128,
+) -> Result<(), Memory> {
+    let taken = parts_of(alloc, coefficients, true)?;
+    if number != 0 || taken.as_slice().iter().all(|one| *one == 0) {
+        put_sum(text, names, coefficients)?;
+        return Ok(write!(text, " {sign} {number}")?);
+    }
+    let added = parts_of(alloc, coefficients, false)?;
+    put_sum(text, names, added.as_slice())?;
+    write!(text, " {sign} ")?;
+    put_sum(text, names, taken.as_slice())
+}
+
+/// The coefficients that are taken off, with the other sign, or those that are added; 0 in the place of each other.
+fn parts_of(alloc: Global, coefficients: &[i128], is_taken: bool) -> Result<Vec<i128>, Memory> {
+    let mut parts = Vec::new(alloc);
+    for coefficient in coefficients {
+        let own = if is_taken {
+            opposite(*coefficient)
+        } else {
+            *coefficient
+        };
+        parts.push(own.max(0))?;
+    }
+    Ok(parts)
+}
+
 /// Adds what is said of a sum.
-fn put_bounded(text: &mut String, names: &[String], one: &Bounded) -> Result<(), Memory> {
+fn put_bounded(
+    alloc: Global,
+    text: &mut String,
+    names: &[String],
+    one: &Bounded,
+) -> Result<(), Memory> {
     let coefficients = one.coefficients.as_slice();
     match (one.least, one.greatest) {
         (Some(least), Some(greatest)) => if least == greatest {
-            put_sum(text, names, coefficients)?;
-            write!(text, " = {greatest}")?;
+            put_compared(alloc, text, names, coefficients, "=", greatest)
         } else {
             write!(text, "{least} <= ")?;
             put_sum(text, names, coefficients)?;
-            write!(text, " <= {greatest}")?;
+            Ok(write!(text, " <= {greatest}")?)
         },
-        (Some(least), None) => {
-            put_sum(text, names, coefficients)?;
-            write!(text, " >= {least}")?;
-        }
-        (None, Some(greatest)) => {
-            put_sum(text, names, coefficients)?;
-            write!(text, " <= {greatest}")?;
-        }
-        (None, None) => text.push_str("true")?,
+        (Some(least), None) => put_compared(alloc, text, names, coefficients, ">=", least),
+        (None, Some(greatest)) => put_compared(alloc, text, names, coefficients, "<=", greatest),
+        (None, None) => Ok(text.push_str("true")?),
     }
-    Ok(())
 }
 
 /// The texts of rows over columns of these names, those of one sum together.
@@ -154,7 +185,7 @@ pub fn row_texts(alloc: Global, names: &[String], rows: &[Row]) -> Result<Vec<St
     let mut texts = Vec::new(alloc);
     for one in all.as_slice() {
         let mut text = String::new(alloc);
-        put_bounded(&mut text, names, one)?;
+        put_bounded(alloc, &mut text, names, one)?;
         texts.push(text)?;
     }
     Ok(texts)

@@ -76,6 +76,15 @@ impl Values {
         }
     }
 
+    /// Those that are in one of both.
+    pub fn or(self, other: Values) -> Values {
+        let (a, b, c, d) = self.words;
+        let (e, f, g, h) = other.words;
+        Values {
+            words: (a | e, b | f, c | g, d | h),
+        }
+    }
+
     /// Those that are not in the other.
     pub fn without(self, other: Values) -> Values {
         let (a, b, c, d) = self.words;

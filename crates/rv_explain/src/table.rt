@@ -101,28 +101,81 @@ pub fn put_table(
     Ok(())
 }
 
-/// Adds a text in lines of at most a hundred columns, broken at blanks: the first at an indent, the others two columns further in. A line
-/// feed stands at the end.
+/// What stands in the place of a blank at which no line is to be broken, if a line has room for what it joins.
+pub const JOINT: char = '\u{1}';
+
+/// A text whose blanks are no places to break a line at.
+pub fn joined(alloc: Global, whole: &str) -> Result<String, Memory> {
+    let mut text = String::new(alloc);
+    for letter in whole.chars() {
+        text.push(if letter == ' ' { JOINT } else { letter })?;
+    }
+    Ok(text)
+}
+
+/// Adds a text in lines of at most a hundred columns, broken at blanks: the first at an indent, the others two columns further in. What is
+/// longer than a line is broken at its joints, and where that is not enough anywhere. A line feed stands at the end.
 pub fn put_wrapped(text: &mut String, indent: usize, whole: &str) -> Result<(), Memory> {
     put_blanks(text, indent)?;
-    let inner = indent.saturating_add(2);
-    let mut column = indent;
-    let mut is_first = true;
+    let mut lines = Wrapped {
+        inner: indent.saturating_add(2).min(WIDTH / 2),
+        column: indent,
+        is_first: true,
+    };
     for word in whole.split(' ') {
-        let behind = column.saturating_add(word.len());
-        if is_first {
-            column = behind;
-        } else if behind < WIDTH {
-            text.push(' ')?;
-            column = behind.saturating_add(1);
-        } else {
-            text.push('\n')?;
-            put_blanks(text, inner)?;
-            column = inner.saturating_add(word.len());
-        }
-        text.push_str(word)?;
-        is_first = false;
+        lines.put(text, word)?;
     }
     text.push('\n')?;
     Ok(())
+}
+
+/// How far a text in lines is.
+#[derive(Clone, Copy)]
+struct Wrapped {
+    inner: usize,
+    column: usize,
+    is_first: bool,
+}
+
+impl Wrapped {
+    /// Adds a word, in parts where it is longer than a line.
+    fn put(&mut self, text: &mut String, word: &str) -> Result<(), Memory> {
+        if self.inner.saturating_add(word.chars().count()) < WIDTH {
+            return self.put_whole(text, word);
+        }
+        for part in word.split(JOINT) {
+            self.put_whole(text, part)?;
+        }
+        Ok(())
+    }
+
+    /// Adds a word behind a blank, or on a new line where the line has no room for it.
+    fn put_whole(&mut self, text: &mut String, word: &str) -> Result<(), Memory> {
+        let length = word.chars().count();
+        if !self.is_first {
+            if self.column.saturating_add(length) < WIDTH {
+                text.push(' ')?;
+                self.column = self.column.saturating_add(1);
+            } else {
+                self.put_break(text)?;
+            }
+        }
+        self.is_first = false;
+        for letter in word.chars() {
+            if self.column >= WIDTH {
+                self.put_break(text)?;
+            }
+            text.push(if letter == JOINT { ' ' } else { letter })?;
+            self.column = self.column.saturating_add(1);
+        }
+        Ok(())
+    }
+
+    /// Begins a new line.
+    fn put_break(&mut self, text: &mut String) -> Result<(), Memory> {
+        text.push('\n')?;
+        put_blanks(text, self.inner)?;
+        self.column = self.inner;
+        Ok(())
+    }
 }

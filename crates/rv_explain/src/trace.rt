@@ -5,13 +5,13 @@ ghost use Rattle.rv_tree.specs.Tree.{program_tree};
 ghost use Rattle.rv_tree.specs.Words.{HasPlainNames};
 ghost use Rattle.rv_invfile.specs.Traces.{IsTraceOf};
 
-use crate::conjuncts::{Search, given, read_flows};
+use crate::conjuncts::{Judge, Search, given, read_flows};
 use crate::evaluate::Moment;
 use crate::flows::{flow_number, put_flow_name};
 use crate::grid::put_grid;
 use crate::lines::Lines;
 use crate::names::Names;
-use crate::outcome::put_outcome;
+use crate::outcome::{Ended, put_outcome};
 use crate::played::{Played, play};
 use crate::request::{Answer, Asked};
 use rv_base::{Memory, Trace};
@@ -93,7 +93,7 @@ pub fn file_fault(alloc: Global, fault: FileFault) -> Result<Answer, Memory> {
         )?,
         FileFault::BadNumber(record, field) => {
             write!(text, "the document is refused at record {record}: ")?;
-            write!(text, "its field {field} is no value of its type")?;
+            write!(text, "its field {field} has no value that may stand there")?;
         }
         FileFault::Ends(count) => write!(
             text,
@@ -198,7 +198,12 @@ fn put_end(
         alloc: told.alloc,
         names: told.names,
         main: told.main,
-        moment: &moment,
+        flat,
+        judge: Judge::At(&moment),
     };
-    put_outcome(told, text, Some(&search), played)
+    let ended = Ended {
+        moment: &moment,
+        search,
+    };
+    put_outcome(told, text, Some(&ended), played)
 }

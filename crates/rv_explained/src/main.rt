@@ -6,7 +6,7 @@ use std::rt::Files;
 use std::{fs, io};
 
 /// The cases: a source, its main node, and a document, or nothing.
-const CASES: [(&str, &str, &str); 16] = [
+const CASES: [(&str, &str, &str); 21] = [
     ("text.lus", "main", ""),
     ("unknown.lus", "main", ""),
     ("twice.lus", "main", ""),
@@ -23,6 +23,11 @@ const CASES: [(&str, &str, &str); 16] = [
     ("door.lus", "main", "door_assumed.trace"),
     ("tank.lus", "main", "tank.inv"),
     ("tank.lus", "main", "tank.rejected"),
+    ("sampled.lus", "main", "sampled.trace"),
+    ("parity.lus", "main", "parity.unknown"),
+    ("parity.lus", "main", "parity_one.unknown"),
+    ("parity.lus", "main", "parity_wrong.unknown"),
+    ("tank.lus", "main", "tank.unknown"),
 ];
 
 fn main(rt: HostRuntime) -> io::Result<()> {
