@@ -8,11 +8,12 @@
 //! - files and sinks in memory: `files`, `sure_files`, `sink`, `sure_sink` (`outside.rt`);
 //! - rows, forms, multipliers and the search for them: `proves`, `refutes`, `tighten`, `fits`, `add`, `scale`, `substitute`,
 //!   `seek_row`, `seek_refutation`, `seek_bound` (`linear.rt`);
-//! - polyhedra and abstract values: `meet`, `join`, `after`, `eliminate`, `included`, `whole_point`, `post`, `includes`, `both`
-//!   (`polyhedra.rt`);
+//! - polyhedra and abstract values: `meet`, `join`, `after`, `before`, `eliminate`, `included`, `whole_point`, `post`, `pre`,
+//!   `includes`, `both` (`polyhedra.rt`);
 //! - loops that are taken any number of times, and partitions of control states: `accelerate` (`accelerated.rt`), `partition`
 //!   (`partitions.rt`);
 //! - decision diagrams: `diagram` (`diagrams.rt`), and covers of random ones: `cover` (`covered.rt`);
+//! - texts for people: `told`, `ended` (`told.rt`);
 //! - the whole program over files and sinks in memory: `run`, `prove`, `replay`, `replaylong`, `surely`, `long`, `bytes`, `weighed`,
 //!   `printed`
 //!   (`runs.rt`).
@@ -39,6 +40,7 @@ mod shapes;
 mod sited;
 mod small;
 mod steps;
+mod told;
 mod values;
 
 use rows::answer;

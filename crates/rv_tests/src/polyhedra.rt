@@ -30,10 +30,11 @@ const NODES: u32 = 64;
 /// `meet`: rows and others, and points of their meet;
 /// `join`: rows and others, and points of their join;
 /// `after`: rows, rows of a case, a form for each column, and points of what the forms make of the rows;
+/// `before`: rows, rows of a case, a form for each column, and points that the forms make points of the rows;
 /// `eliminate`: rows and a column, how many rows are dropped without it, and points of those that are left;
 /// `included`: rows and others, and whether a proof of each of the others is found;
 /// `whole_point`: rows, and whether the point that is found meets them;
-/// `post`: as `after`, by an abstract value that has all control states;
+/// `post` and `pre`: as `after` and `before`, by an abstract value that has all control states;
 /// `includes`: a control set and rows, another and its rows, and whether the first are found to include the second;
 /// `both`: the same, and points of the join of the two values.
 pub fn polyhedral(alloc: Global, kind: &str, fields: &str) -> Result<Option<String>, Memory> {
@@ -41,10 +42,12 @@ pub fn polyhedral(alloc: Global, kind: &str, fields: &str) -> Result<Option<Stri
         "meet" => met(alloc, fields),
         "join" => joined(alloc, fields),
         "after" => updated(alloc, fields),
+        "before" => led_back(alloc, fields),
         "eliminate" => projected(alloc, fields),
         "included" => told_included(alloc, fields),
         "whole_point" => pointed(alloc, fields),
         "post" => posted(alloc, fields),
+        "pre" => preceded(alloc, fields),
         "includes" => told_includes(alloc, fields),
         "both" => joined_values(alloc, fields),
         _ => Ok(None),
@@ -216,6 +219,22 @@ fn updated(alloc: Global, fields: &str) -> Result<Option<String>, Memory> {
     told_at(alloc, &found.rows, points)
 }
 
+fn led_back(alloc: Global, fields: &str) -> Result<Option<String>, Memory> {
+    let Some((rows, tests, rest)) = three(fields) else {
+        return Ok(None);
+    };
+    let Some((forms, points)) = rest.split_once('~') else {
+        return Ok(None);
+    };
+    let Some(update) = update_in(alloc, rows, tests, forms)? else {
+        return Ok(None);
+    };
+    let Update { rows, tests, forms } = update;
+    let poly = Poly { rows };
+    let found = poly.before(alloc, &tests, &forms)?;
+    told_at(alloc, &found.rows, points)
+}
+
 fn projected(alloc: Global, fields: &str) -> Result<Option<String>, Memory> {
     let Some((rows, column, points)) = three(fields) else {
         return Ok(None);
@@ -318,6 +337,32 @@ fn posted(alloc: Global, fields: &str) -> Result<Option<String>, Memory> {
         observer: true,
     };
     let found = value.post(alloc, &case, all_or_none(alloc, true))?;
+    told_at(alloc, &found.poly.rows, points)
+}
+
+fn preceded(alloc: Global, fields: &str) -> Result<Option<String>, Memory> {
+    let Some((rows, tests, rest)) = three(fields) else {
+        return Ok(None);
+    };
+    let Some((forms, points)) = rest.split_once('~') else {
+        return Ok(None);
+    };
+    let Some(update) = update_in(alloc, rows, tests, forms)? else {
+        return Ok(None);
+    };
+    let Update { rows, tests, forms } = update;
+    let value = Abstract {
+        control: all_or_none(alloc, true),
+        poly: Poly { rows },
+    };
+    let case = Case {
+        condition: all_or_none(alloc, true),
+        tests: Many::new(alloc),
+        rows: tests,
+        updates: forms,
+        observer: true,
+    };
+    let found = value.pre(alloc, &case, all_or_none(alloc, true))?;
     told_at(alloc, &found.poly.rows, points)
 }
 

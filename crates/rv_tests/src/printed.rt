@@ -3,9 +3,8 @@
 use crate::outside::add_bytes;
 use rv_base::{Many, Memory, Place, Sites};
 use rv_causality::{CauseFault, Quantity};
-use rv_fixpoint::Left;
 use rv_invfile::FileFault;
-use rv_proofs::{Certificate, Reason};
+use rv_proofs::{Certificate, LeftReport, Reason, Why};
 use rv_run::{Report, text};
 use rv_source::SourceFault;
 use rv_syntax::TextFault;
@@ -113,11 +112,12 @@ fn plain_report(alloc: Global, name: &str, rest: &str) -> Option<Report> {
         "safe" => Some(Report::Safe(Certificate {
             locations: Many::new(alloc),
         })),
-        "unknown" => Some(Report::Unknown(Left {
+        "unknown" => Some(Report::Unknown(LeftReport {
             partition: Certificate {
                 locations: Many::new(alloc),
             },
             left: Many::new(alloc),
+            why: Why::Stuck,
         })),
         "nodes" => Some(Report::Nodes(rest.parse::<u32>().ok()?)),
         "toolong" => Some(Report::TooLong(rest.parse::<u64>().ok()?)),

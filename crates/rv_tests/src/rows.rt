@@ -16,6 +16,7 @@ use crate::shapes::write_shape;
 use crate::sited::{counted, sited};
 use crate::small::small;
 use crate::steps::{Telling, stepped};
+use crate::told::told;
 use rv_base::{Memory, Value};
 use rv_syntax::{Program, SOURCE_LIMIT, TextFault, parse};
 use rv_types::{NameFault, settle};
@@ -70,6 +71,7 @@ fn on_call(alloc: Global, kind: &str, fields: &str) -> Result<Option<String>, Me
     match kind {
         "accelerate" => accelerated(alloc, fields),
         "partition" => partitioned(alloc, fields),
+        "told" | "ended" => told(alloc, kind, fields),
         _ => ran(alloc, kind, fields),
     }
 }

@@ -57,7 +57,7 @@ pub fn ran(alloc: Global, kind: &str, fields: &str) -> Result<Option<String>, Me
             let text = with_line_feeds(alloc, fields)?;
             Ok(Some(proved(alloc, text.as_bytes())?))
         }
-        "replay" => done_with(alloc, REPLAY, fields),
+        "replay" => replayed(alloc, fields),
         "check" => done_with(alloc, CHECK, fields),
         "found" => {
             let text = with_line_feeds(alloc, fields)?;
@@ -155,6 +155,11 @@ fn with_line_ends(alloc: Global, text: &str) -> Result<String, AllocError> {
         })?;
     }
     Ok(whole)
+}
+
+/// What the replay of a trace does, as a row of the kind `replay` tells it.
+pub fn replayed(alloc: Global, fields: &str) -> Result<Option<String>, Memory> {
+    done_with(alloc, REPLAY, fields)
 }
 
 /// What a command with a document does, both files told by their texts.
