@@ -1,5 +1,5 @@
 //! How sources are judged: by probes, and by the least closed box claims of their flat systems, which for those without integers are the
-//! control states that are reached; those with integers by row claims and polyhedra, too, and by a search for traces.
+//! control states that are reached; those with integers by row claims and rows of parts, too, and by hunts and a search for traces.
 
 ghost use Rattle.std.specs.Prelude.{◌≡◌, ◌<◌, ◌≤◌, ◌^◌, ℕ, Ok, false, length, IsTrue, IfOk, IsErrOf, ◌↔◌, Some, slice_get};
 ghost use Rattle.std.specs.Int.RustNames.{unsigned_abs};
@@ -166,8 +166,8 @@ fn with_trace(
     Ok(Verdict::Violated(trace, document))
 }
 
-/// The verdict on a source by the box pass over its flat system. Where a probe falsifies it, it has no integers.
-fn decided(
+/// The verdict on a source by the box pass over its flat system, where the diagrams have room. Where a probe falsifies it, it has no integers.
+fn in_room(
     alloc: Global,
     source: &Source,
     flat: &Flat,
@@ -190,6 +190,52 @@ fn decided(
     match box_pass(alloc, &mut reading)? {
         BoxEnd::Good(certificate) => safe(alloc, source, flat, certificate),
         BoxEnd::Bad(layers) => not_good(alloc, source, &mut reading, &layers, locations),
+    }
+}
+
+/// The verdict on a source by the box pass over its flat system, and where the diagrams have no room by a hunt. Where a probe falsifies it, it
+/// has no integers.
+fn decided(
+    alloc: Global,
+    source: &Source,
+    flat: &Flat,
+    nodes: u32,
+    locations: u32,
+) -> Result<Verdict, StoreFault>
+    requires limit { nodes ≤ 33554432 }
+    requires least { 1 ≤ locations }
+    requires most { locations ≤ 4096 }
+    requires plain { HasPlainNames (program_tree source.now.program) }
+    requires known { IsKnown (program_tree source.now.program) (name_at (program_tree source.now.program) source.now.typed.main) flat.now }
+    requires thresholds { All (λ t. unsigned_abs t ≤ 2 ^ 41) flat.now.thresholds }
+    requires unprobed { HasFalsifyingProbe (program_tree source.now.program) (name_at (program_tree source.now.program) source.now.typed.main) flat.now
+        → IsControlSystem flat.now }
+    ensures judged { IfOk result (λ v. IsVerdictOf nodes locations v (program_tree source.now.program)
+        (name_at (program_tree source.now.program) source.now.typed.main)) }
+    ensures wide { IsErrOf result StoreFault.Nodes → nodes < 2 ^ (2 ^ length flat.now.variables) }
+{
+    match in_room(alloc, source, flat, nodes, locations) {
+        Ok(verdict) => Ok(verdict),
+        Err(StoreFault::Memory) => Err(StoreFault::Memory),
+        Err(StoreFault::Nodes) => outgrown(alloc, source, flat),
+    }
+}
+
+/// The verdict on a source whose diagrams outgrow their limit: a trace, where it has integers and a short hunt finds one, and else Nodes.
+fn outgrown(alloc: Global, source: &Source, flat: &Flat) -> Result<Verdict, StoreFault>
+    requires plain { HasPlainNames (program_tree source.now.program) }
+    requires known { IsKnown (program_tree source.now.program) (name_at (program_tree source.now.program) source.now.typed.main) flat.now }
+    requires unprobed { HasFalsifyingProbe (program_tree source.now.program) (name_at (program_tree source.now.program) source.now.typed.main) flat.now
+        → IsControlSystem flat.now }
+    ensures judged { (nodes limit : ℕ) → IfOk result (λ v. IsVerdictOf nodes limit v (program_tree source.now.program)
+        (name_at (program_tree source.now.program) source.now.typed.main)) }
+{
+    if is_control(flat) {
+        return Err(StoreFault::Nodes);
+    }
+    match chased(alloc, source, flat, FEW_STEPS)? {
+        Some(trace) => hunted(alloc, source, flat, trace),
+        None => Err(StoreFault::Nodes),
     }
 }
 

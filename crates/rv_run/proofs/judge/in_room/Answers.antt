@@ -11,7 +11,7 @@ use Rattle.rv_open.specs.Columns.{AreLeastBadLayers}
 use Rattle.rv_reading.specs.{declared.reading.Reading.Reading, Read.flat_of, Read.system_read}
 use Rattle.rv_probe.specs.Probes.{HasFalsifyingProbe}
 use Rattle.rv_run.specs.Judged.{IsControlSystem, IsKnown}
-use Rattle.rv_run.proofs.judge.decided.Goals as goal
+use Rattle.rv_run.proofs.judge.in_room.Goals as goal
 
 pub box_pass-requires-clause-thresholds : goal.box_pass-requires-clause-thresholds
 box_pass-requires-clause-thresholds c =
