@@ -317,6 +317,7 @@ pub fn refined(
     questions: &Questions,
     reached: &Frozen,
     thresholds: &[i128],
+    accelerate: bool,
 ) -> Result<Option<Certificate>, Memory>
     requires given { (s : System) × IsGiven s store.old relation.now questions.now }
     requires reached { IsOrderedOver store.old.variables reached.now }
