@@ -26,11 +26,6 @@ premises_are s rows sides few less = record {
 pub planned_of : (s : System) (d : Diagrams) (q : Questions) (f : Frame) → IsFrame s d q f → IsPlanned s q f
 planned_of s d q f is = record { sides = is.sides; tests = let asked = is.questions in asked.many_tests }
 
--- targets in a store that grows
-pub targets_later : (s : System) (a b : Diagrams) (ts : List Target) → Extends a b → All (IsTarget s a.nodes) ts → All (IsTarget s b.nodes) ts
-targets_later s a b ts e are = All-weaker (IsTarget s a.nodes) (IsTarget s b.nodes)
-    (λ t is. record { into = let found = is.into in omega (arith, found, e.longer); wanted = is.wanted }) ts are
-
 -- what is searched for entries of a part
 pub searched_by : (s : System) (d : Diagrams) (q : Questions) (f : Frame) (variables bits : ℕ) (w : Within) (given : List Row) → IsFrame s d q f
     → length given + s.tests < 2 ^ 32 → IsFrameFor variables bits Rows w → IsSearched s d q w given

@@ -10,15 +10,17 @@ ghost use Rattle.rv_proofs.specs.Systems.{System, IsSystem, IsUpdate};
 ghost use Rattle.rv_cases.specs.Conditions.{AreRefs};
 ghost use Rattle.rv_cases.specs.Questions.{AreQuestions};
 ghost use Rattle.rv_refine.specs.Sides.{IsLeftSide, IsSmallLimit};
-ghost use Rattle.rv_refine.specs.Frames.{IsFrame};
+ghost use Rattle.rv_refine.specs.Frames.{IsFrame, IsPath};
 ghost use Rattle.rv_refine.specs.Bounds.{IsTold, IsShown, IsTurn};
 
 use crate::frames::Frame;
+use crate::rising::Path;
+use crate::turning::{Reach, reach_at};
 use rv_base::{Many, Memory};
 use rv_cases::{Questions, sample_of};
 use rv_cover::{
-    all_of, mark_named, premises_of, test_answers, told_forms, told_rows, unset, with_updates,
-    without,
+    all_of, are_within, mark_named, premises_of, test_answers, told_forms, told_rows, unset,
+    with_updates, without,
 };
 use rv_diagram::{Ref, Store, StoreFault};
 use rv_ends::{is_below, least_above};
@@ -28,9 +30,6 @@ use std::alloc::Global;
 
 /// As many turns as are taken for one left side.
 const TURNS: usize = 512;
-
-/// The greatest magnitude of a number of a premise.
-const GREATEST: u128 = 1_152_921_504_606_846_976;
 
 /// No list of premises is as long.
 const MANY: usize = 4_294_967_296;
@@ -60,33 +59,6 @@ pub struct Turn {
     pub held: i128,
     /// Where it is not shown yet.
     pub left: Ref,
-}
-
-/// Whether the row can be a premise.
-fn is_premise(row: &Row) -> bool
-    ensures { IsTrue result → RowWithin (2 ^ 60) row.now }
-{
-    if row.bound.unsigned_abs() > GREATEST {
-        return false;
-    }
-    for place in 0..row.coefficients.len() {
-        if row.coefficients.at(place).unsigned_abs() > GREATEST {
-            return false;
-        }
-    }
-    true
-}
-
-/// Whether all rows can be premises.
-fn are_premises(rows: &Many<Row>) -> bool
-    ensures { IsTrue result → All (RowWithin (2 ^ 60)) rows.now }
-{
-    for place in 0..rows.len() {
-        if !is_premise(rows.at(place)) {
-            return false;
-        }
-    }
-    true
 }
 
 /// The row that a left side is after the updates.
@@ -132,7 +104,7 @@ fn told_at(
     if rows.len() >= MANY {
         return Ok(None);
     }
-    if are_premises(&rows) {
+    if are_within(&rows) {
         return Ok(Some(Told { rows, form }));
     }
     Ok(None)
@@ -269,8 +241,58 @@ fn risen_over(thresholds: &Many<i128>, limit: i128, bound: Option<i128>) -> Opti
     }
 }
 
+/// Whether the bound is above the limit.
+fn is_above(bound: Option<i128>, limit: i128) -> bool {
+    match bound {
+        Some(bound) => is_below(limit, bound),
+        None => false,
+    }
+}
+
+/// How far the left side comes in any number of turns, where that is asked and its bound is above the limit.
+fn reach_of(
+    alloc: Global,
+    store: &Store,
+    sample: &Many<bool>,
+    questions: &Questions,
+    frame: &Frame,
+    given: &Many<Row>,
+    side: &Row,
+    asked: bool,
+) -> Result<Reach, Memory>
+    requires frame { (s : System) × IsFrame s store.now questions.now frame.now }
+    requires sized { length sample.now ≡ store.now.variables }
+{
+    if asked {
+        let columns = frame.columns;
+        return reach_at(alloc, store, sample, questions, given, side, columns);
+    }
+    Ok(Reach::Unknown)
+}
+
+/// The limit, raised over the bound and over what is reached in any number of turns, or none where no threshold is.
+fn risen_to(
+    thresholds: &Many<i128>,
+    limit: i128,
+    bound: Option<i128>,
+    reach: Reach,
+) -> Option<i128>
+    requires thresholds { All (λ t. unsigned_abs t ≤ 2 ^ 41) thresholds.now }
+    requires limit { unsigned_abs limit ≤ 2 ^ 41 }
+    ensures { IsSmallLimit result }
+{
+    let Some(risen) = risen_over(thresholds, limit, bound) else {
+        return None;
+    };
+    match reach {
+        Reach::Unknown => Some(risen),
+        Reach::Bound(most) => risen_over(thresholds, risen, Some(most)),
+        Reach::Endless => None,
+    }
+}
+
 /// What is left of a reference without the valuations with all these answers, with what was built of it.
-fn left_of(store: &mut Store, left: Ref, answers: &[Ref]) -> Result<Ref, StoreFault>
+pub fn left_of(store: &mut Store, left: Ref, answers: &[Ref]) -> Result<Ref, StoreFault>
     requires left { IsRef store.old.nodes left }
     requires answers { AreRefs store.old.nodes answers.now }
     ensures extends { Extends store.old store.new }
@@ -291,6 +313,7 @@ fn next_turn(
     side: &Row,
     wanted: &Many<Row>,
     turn: &Turn,
+    turns: bool,
 ) -> Result<Option<Turn>, StoreFault>
     requires frame { (s : System) × IsFrame s store.old questions.now frame.now × IsLeftSide s.memories side.now }
     requires turn { IsTurn store.old.nodes turn.now }
@@ -306,7 +329,11 @@ fn next_turn(
         return Ok(None);
     };
     let Shown { bound, answers } = found;
-    let Some(held) = risen_over(&frame.thresholds, turn.held, bound) else {
+    let asked = turns && is_above(bound, turn.held);
+    let reach = reach_of(
+        alloc, store, &sample, questions, frame, given, side, asked,
+    )?;
+    let Some(held) = risen_to(&frame.thresholds, turn.held, bound, reach) else {
         return Ok(None);
     };
     let left = left_of(store, turn.left, answers.as_slice())?;
@@ -323,6 +350,7 @@ fn risen_in(
     side: &Row,
     wanted: &Many<Row>,
     begun: Turn,
+    turns: bool,
 ) -> Result<Option<i128>, StoreFault>
     requires frame { (s : System) × IsFrame s store.old questions.now frame.now × IsLeftSide s.memories side.now }
     requires begun { IsTurn store.old.nodes begun }
@@ -335,7 +363,10 @@ fn risen_in(
         if store.is_false(turn.left) {
             return Ok(Some(turn.held));
         }
-        match next_turn(alloc, store, questions, frame, given, side, wanted, &turn)? {
+        let next = next_turn(
+            alloc, store, questions, frame, given, side, wanted, &turn, turns,
+        )?;
+        match next {
             Some(next) => turn = next,
             None => return Ok(None),
         }
@@ -354,7 +385,7 @@ fn alone(alloc: Global, side: &Row) -> Result<Many<Row>, Memory> {
     Ok(wanted)
 }
 
-/// The limit of a left side, risen by what is shown where the reference is true. The store is left as it was, after a fault too. Nodes comes where it has
+/// The limit of a left side, risen by what is shown where the steps are. The store is left as it was, after a fault too. Nodes comes where it has
 /// no room for what is built on the way, never where its limit holds every function of its variables, and Memory where there is none.
 pub fn risen_limit(
     alloc: Global,
@@ -363,11 +394,11 @@ pub fn risen_limit(
     frame: &Frame,
     given: &Many<Row>,
     side: &Row,
-    path: Ref,
+    path: &Path,
     limit: i128,
 ) -> Result<Option<i128>, StoreFault>
     requires frame { (s : System) × IsFrame s store.old questions.now frame.now × IsLeftSide s.memories side.now }
-    requires path { IsRef store.old.nodes path }
+    requires path { IsPath store.old.nodes path.now }
     requires limit { unsigned_abs limit ≤ 2 ^ 41 }
     ensures small { IfOk result IsSmallLimit }
     ensures same { store.new ≡ store.old }
@@ -376,10 +407,12 @@ pub fn risen_limit(
     let wanted = alone(alloc, side)?;
     let begun = Turn {
         held: limit,
-        left: path,
+        left: path.here,
     };
     let mark = store.mark();
-    let answer = risen_in(alloc, store, questions, frame, given, side, &wanted, begun);
+    let answer = risen_in(
+        alloc, store, questions, frame, given, side, &wanted, begun, path.turn,
+    );
     store.release(mark);
     answer
 }

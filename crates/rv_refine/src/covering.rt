@@ -65,15 +65,6 @@ pub struct Spot {
     pub row: usize,
 }
 
-/// The number after this one, as long as there is one.
-fn number_after(number: u32) -> u32 {
-    if number == u32::MAX {
-        number
-    } else {
-        number + 1
-    }
-}
-
 /// The number of the location of each reached part, counted in order.
 fn numbers_of(alloc: Global, known: &Known) -> Result<Many<u32>, Memory>
     ensures { IfOk result (λ numbers. length numbers ≡ length known.now.reached) }
@@ -83,7 +74,7 @@ fn numbers_of(alloc: Global, known: &Known) -> Result<Many<u32>, Memory>
     for place in 0..known.reached.len() {
         numbers.push(count)?;
         if *known.reached.at(place) {
-            count = number_after(count);
+            count = count.saturating_add(1);
         }
     }
     Ok(numbers)

@@ -21,7 +21,7 @@ const MOST_INCREMENTS: usize = 16;
 const GREATEST: i128 = 1_048_576;
 
 /// Whether the magnitude of a number is at most 2^20.
-fn is_small(number: i128) -> bool
+pub fn is_small(number: i128) -> bool
     ensures { result ≡ true → unsigned_abs number ≤ 2 ^ 20 }
 {
     number <= GREATEST && number >= -GREATEST
@@ -38,7 +38,7 @@ fn is_beyond(row: &Row, memories: usize) -> bool {
 }
 
 /// The number, or its opposite.
-fn signed(number: i128, opposite: bool) -> i128
+pub fn signed(number: i128, opposite: bool) -> i128
     requires { unsigned_abs number ≤ 2 ^ 20 }
     ensures { unsigned_abs result ≤ 2 ^ 20 }
 {
@@ -129,7 +129,7 @@ fn add_turned(
 }
 
 /// Adds the left sides of rows over memories, and their opposites; of others those without their other columns, where that is asked.
-fn add_rows(
+pub fn add_rows(
     alloc: Global,
     sides: &mut Many<Row>,
     most: usize,
@@ -169,7 +169,7 @@ fn add_tests(
 }
 
 /// Whether a form has its own memory once and no other one.
-fn is_own(form: &Form, memory: usize, memories: usize) -> bool {
+pub fn is_own(form: &Form, memory: usize, memories: usize) -> bool {
     for column in 0..memories {
         let number = number_at(&form.coefficients, column);
         let own = if column == memory { 1 } else { 0 };
@@ -181,7 +181,7 @@ fn is_own(form: &Form, memory: usize, memories: usize) -> bool {
 }
 
 /// The product of two small numbers.
-fn product(a: i128, b: i128) -> i128
+pub fn product(a: i128, b: i128) -> i128
     requires a { unsigned_abs a ≤ 2 ^ 20 }
     requires b { unsigned_abs b ≤ 2 ^ 20 }
     ensures { unsigned_abs result ≤ 2 ^ 40 }
@@ -204,7 +204,7 @@ fn add_increment(list: &mut Many<i128>, number: i128) -> Result<(), Memory>
 }
 
 /// The number that a row of a column alone bounds it by from above or below: `x <= 3` and `-x <= -3` say 3. None of other rows.
-fn end_of(row: &Row, column: usize) -> Option<i128>
+pub fn end_of(row: &Row, column: usize) -> Option<i128>
     ensures { IfSome result (λ b. unsigned_abs b ≤ 2 ^ 20) }
 {
     for other in 0..row.coefficients.len() {
@@ -327,7 +327,7 @@ fn increments_of(
 }
 
 /// The greatest common divisor of two numbers, or 1 where it takes long; 1 where both are 0.
-fn divisor_of(a: u64, b: u64) -> u64
+pub fn divisor_of(a: u64, b: u64) -> u64
     ensures { 0 < result }
 {
     let mut x = a;
@@ -359,7 +359,7 @@ fn number_of(column: usize, first: usize, one: i128, second: usize, other: i128)
 }
 
 /// The left side with these numbers at two memories.
-fn pair(
+pub fn pair(
     alloc: Global,
     memories: usize,
     first: usize,
@@ -411,7 +411,7 @@ fn add_pair(
 }
 
 /// The magnitude of a small number.
-fn magnitude(number: i128) -> u64
+pub fn magnitude(number: i128) -> u64
     requires { unsigned_abs number ≤ 2 ^ 20 }
 {
     let size = if number < 0 { -number } else { number };
@@ -600,14 +600,14 @@ fn weighted(one: i128, a: i128, other: i128, b: i128) -> Option<i128>
     None
 }
 
-/// The sum of two forms with these small weights, over the memories, or none where a number is great.
-fn combined(
+/// The left side that is the sum of two lists of numbers with these small weights, over the memories, or none where a number is great.
+pub fn combined(
     alloc: Global,
     memories: usize,
     one: i128,
-    form: &Form,
+    numbers: &Many<i128>,
     other: i128,
-    with: &Form,
+    with: &Many<i128>,
 ) -> Result<Option<Row>, Memory>
     requires one { unsigned_abs one ≤ 2 ^ 20 }
     requires other { unsigned_abs other ≤ 2 ^ 20 }
@@ -615,8 +615,8 @@ fn combined(
 {
     let mut coefficients = Many::new(alloc);
     for column in 0..memories {
-        let a = number_at(&form.coefficients, column);
-        let b = number_at(&with.coefficients, column);
+        let a = number_at(numbers, column);
+        let b = number_at(with, column);
         let Some(sum) = weighted(one, a, other, b) else {
             return Ok(None);
         };
@@ -655,7 +655,8 @@ fn add_steps_with(
     ensures { OnOk result (AreLeftSides memories sides.new) }
 {
     for place in 0..forms.len() {
-        let side = combined(alloc, memories, one, form, other, forms.at(place))?;
+        let with = &forms.at(place).coefficients;
+        let side = combined(alloc, memories, one, &form.coefficients, other, with)?;
         add_some(sides, most, side)?;
     }
     Ok(())

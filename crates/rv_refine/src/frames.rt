@@ -22,6 +22,8 @@ pub struct Frame {
     pub sets: Many<Frozen>,
     /// For each part where the next control state is in it.
     pub into: Many<Ref>,
+    /// Whether limits are raised by any number of turns of a part at once.
+    pub turns: bool,
 }
 
 /// The parts as they are known.
@@ -33,4 +35,6 @@ pub struct Known {
     pub dirty: Many<bool>,
     /// For each part the limits of all left sides.
     pub limits: Many<Many<Option<i128>>>,
+    /// How many visits of parts there were.
+    pub visits: usize,
 }

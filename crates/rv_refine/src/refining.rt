@@ -4,34 +4,38 @@ ghost use Rattle.std.specs.Prelude.{◌≡◌, ◌*◌, ◌<◌, ◌≤◌, ◌^
 ghost use Rattle.std.specs.Int.RustNames.{unsigned_abs};
 ghost use Rattle.rv_diagram.specs.Nodes.{IsRef, IsOrderedOver};
 ghost use Rattle.rv_diagram.specs.Growing.{Extends};
-ghost use Rattle.rv_proofs.specs.Systems.{System};
+ghost use Rattle.rv_proofs.specs.Systems.{System, IsSystem};
 ghost use Rattle.rv_proofs.specs.Accepted.{IsAccepted};
 ghost use Rattle.rv_symbolic.specs.Represented.{IsRelationOf};
 ghost use Rattle.rv_walk.specs.Plain.{ArePlain};
-ghost use Rattle.rv_ranges.specs.Documents.{AreBoundsOf};
+ghost use Rattle.rv_cases.specs.Questions.{AreQuestions};
 ghost use Rattle.rv_rise.specs.Rounds.{IsGiven};
 ghost use Rattle.rv_refine.specs.Frames.{IsFrame, IsKnown};
+ghost use Rattle.rv_refine.specs.Sides.{AreLeftSides};
 
 use crate::covering::certificate_of;
 use crate::directions::directions_of;
 use crate::frames::{Frame, Known};
+use crate::hull::add_hull;
 use crate::parts::single_states;
 use crate::rising::{begun, closed};
 use crate::thresholds::thresholds_of;
-use rv_accept::accept;
 use rv_base::{Many, Memory};
 use rv_cases::Questions;
 use rv_cover::{copy_set, led_into};
 use rv_diagram::{Frozen, Ref, Store, StoreFault};
-use rv_proofs::{Certificate, Verdict};
-use rv_ranges::{Bounds, is_document};
+use rv_loops::judged;
+use rv_proofs::Certificate;
+use rv_ranges::is_plain;
 use rv_rise::{Asked, asked_of, columns_of};
+use rv_rows::Row;
 use rv_symbolic::Relation;
 use rv_walk::without;
 use std::alloc::Global;
 
-/// How many ways there are: each partition with the first left sides, then each with the further ones, and then each with dense bounds besides.
-const WAYS: usize = 6;
+/// How many ways there are: each partition with the first left sides, then each with the further ones, then each with dense bounds besides, and then each
+/// with the left sides that no step changes besides.
+const WAYS: usize = 8;
 
 /// How a certificate is sought.
 #[derive(Clone, Copy, Debug)]
@@ -42,6 +46,10 @@ pub struct Way {
     further: bool,
     /// With each number of small magnitude as a bound.
     dense: bool,
+    /// With the left sides that no step changes.
+    level: bool,
+    /// Whether limits are raised by any number of turns of a part at once.
+    turns: bool,
 }
 
 /// The initial control states, and then the parts. The only error is want of memory.
@@ -84,6 +92,28 @@ fn into_each(
     Ok(into)
 }
 
+/// The left sides whose bounds are sought in a way. The store is left as it was.
+fn sides_for(
+    alloc: Global,
+    store: &mut Store,
+    questions: &Questions,
+    allowed: Ref,
+    way: Way,
+) -> Result<Many<Row>, StoreFault>
+    requires asked { (s : System) × IsSystem s × AreQuestions s store.old questions.now }
+    requires allowed { IsRef store.old.nodes allowed }
+    requires few { length questions.now.forms ≤ 64 }
+    ensures same { store.new ≡ store.old }
+    ensures roomy { IsErrOf result StoreFault.Nodes → store.old.limit < 2 ^ (2 ^ store.old.variables) }
+    ensures sides { IfOk result (AreLeftSides (length questions.now.forms)) }
+{
+    let mut sides = directions_of(alloc, questions, way.further)?;
+    if way.level {
+        add_hull(alloc, store, questions, allowed, &mut sides)?;
+    }
+    Ok(sides)
+}
+
 /// What is the same throughout a search over these sets, with what was built of it.
 fn frame_over(
     alloc: Global,
@@ -102,11 +132,11 @@ fn frame_over(
     ensures roomy { IsErrOf result StoreFault.Nodes → store.old.limit < 2 ^ (2 ^ store.old.variables) }
     ensures frame { (s : System) → IsGiven s store.old relation.now questions.now → IfOk result (IsFrame s store.new questions.now) }
 {
-    let sides = directions_of(alloc, questions, way.further)?;
     let thresholds = thresholds_of(alloc, thresholds, questions, way.dense)?;
     let columns = columns_of(store, questions);
     let into = into_each(alloc, store, relation, &sets)?;
     let Asked { allowed, labels } = asked_of(alloc, store, relation, questions)?;
+    let sides = sides_for(alloc, store, questions, allowed, way)?;
     Ok(Frame {
         sides,
         thresholds,
@@ -115,6 +145,7 @@ fn frame_over(
         allowed,
         sets,
         into,
+        turns: way.turns,
     })
 }
 
@@ -138,20 +169,7 @@ fn known_of(
     Ok(None)
 }
 
-/// How much there is of what a certificate speaks of.
-fn bounds_of(store: &Store, relation: &Relation, questions: &Questions) -> Bounds
-    requires { (s : System) × IsGiven s store.now relation.now questions.now }
-    ensures { (s : System) → IsGiven s store.now relation.now questions.now → AreBoundsOf s result }
-{
-    Bounds {
-        states: relation.parts().next.len() as u32,
-        variables: store.variables(),
-        memories: questions.forms.len(),
-        tests: questions.rows.len() as u32,
-    }
-}
-
-/// The certificate, or none where it is not accepted. The store is left as it was.
+/// The certificate, or none where it is not accepted or has a loop. The store is left as it was.
 fn accepted(
     alloc: Global,
     store: &mut Store,
@@ -165,14 +183,13 @@ fn accepted(
     ensures same { store.new ≡ store.old }
     ensures roomy { IsErrOf result StoreFault.Nodes → store.old.limit < 2 ^ (2 ^ store.old.variables) }
 {
-    let bounds = bounds_of(store, relation, questions);
-    if !is_document(&certificate, &bounds) {
+    let Some(found) = judged(alloc, store, relation, questions, certificate)? else {
         return Ok(None);
+    };
+    if is_plain(&found) {
+        return Ok(Some(found));
     }
-    match accept(alloc, store, relation.parts(), questions, &certificate)? {
-        Verdict::Accepted => Ok(Some(certificate)),
-        Verdict::Rejected(_) => Ok(None),
-    }
+    Ok(None)
 }
 
 /// A certificate over the sets of a frame, or none. The store is left as it was.
@@ -224,7 +241,22 @@ fn refined_over(
     refined_with(alloc, store, relation, questions, &frame)
 }
 
-/// The one part, or the single control states of it, or none where there are too many, with what was built of it.
+/// The parts, or none where there is one alone, which another way looks at.
+fn unless_one(parts: Option<Many<Frozen>>) -> Option<Many<Frozen>>
+    ensures { (variables : ℕ) → IfSome parts (All (IsOrderedOver variables)) → IfSome result (All (IsOrderedOver variables)) }
+{
+    match parts {
+        Some(parts) => {
+            if parts.len() == 1 {
+                return None;
+            }
+            Some(parts)
+        }
+        None => None,
+    }
+}
+
+/// The one part, or the single control states of it, or none where there are too many or one alone, with what was built of it.
 fn parts_of(
     alloc: Global,
     store: &mut Store,
@@ -240,7 +272,8 @@ fn parts_of(
     ensures ordered { IfOk result (λ o. IfSome o (All (IsOrderedOver store.old.variables))) }
 {
     if single {
-        return single_states(alloc, store, bits, &rest);
+        let states = single_states(alloc, store, bits, &rest)?;
+        return Ok(unless_one(states));
     }
     let mut parts = Many::new(alloc);
     parts.push(rest)?;
@@ -308,8 +341,8 @@ fn refined_by(
 
 /// An accepted certificate without loops over the initial control states and one part, or over them and single control states, or none, for the
 /// system whose relation and questions are in the store; `reached` holds the control states that are looked at, and thresholds are tried as
-/// bounds. None promises nothing, and comes too where the work is more than is taken on, or the store has no room. The store is left as it was,
-/// after a fault too. The only error is want of memory.
+/// bounds; where it is asked to accelerate, limits are raised by any number of turns at once. None promises nothing, and comes too where the work is
+/// more than is taken on, or the store has no room. The store is left as it was, after a fault too. The only error is want of memory.
 pub fn refined(
     alloc: Global,
     store: &mut Store,
@@ -331,6 +364,8 @@ pub fn refined(
             single: number % 2 == 1,
             further: number >= 2,
             dense: number >= 4,
+            level: number >= 6,
+            turns: accelerate,
         };
         let found = refined_by(alloc, store, relation, questions, reached, thresholds, way)?;
         if let Some(certificate) = found {

@@ -23,6 +23,9 @@ use std::alloc::Global;
 /// As many visits of parts as are made.
 const VISITS: usize = 4096;
 
+/// As many visits for each part in which turns count: after them limits rise one by one, since a limit that is raised too far does not come back.
+const VISITS_TURNED: usize = 4;
+
 /// No threshold is below it.
 const LOWEST: i128 = -2_199_023_255_552;
 
@@ -33,6 +36,8 @@ pub struct Taken {
     pub here: Ref,
     /// The rows.
     pub labels: LabelledRows,
+    /// The number of the part.
+    pub place: usize,
 }
 
 /// Where steps lead from a part into another.
@@ -42,6 +47,8 @@ pub struct Path {
     pub here: Ref,
     /// True wherever that is, and one of few references.
     pub sure: Ref,
+    /// Whether they may be taken any number of times, one after another.
+    pub turn: bool,
 }
 
 /// Limits of a part, and whether some of them have changed.
@@ -93,6 +100,7 @@ pub fn begun(alloc: Global, frame: &Frame) -> Result<Known, Memory>
         reached,
         dirty,
         limits,
+        visits: 0,
     })
 }
 
@@ -132,7 +140,11 @@ pub fn taken_in(
     let _tests = &questions.rows;
     let labels = with_claim(alloc, store, &frame.labels, given)?;
     let here = open_within(alloc, store, frame.allowed, &labels, frame.sets.at(place))?;
-    Ok(Taken { here, labels })
+    Ok(Taken {
+        here,
+        labels,
+        place,
+    })
 }
 
 /// Whether all numbers of the left side are -1, 0 or 1.
@@ -218,7 +230,7 @@ fn raised_limit(
                 return Ok(limit);
             }
             risen_limit(
-                alloc, store, questions, frame, given, side, path.here, bound,
+                alloc, store, questions, frame, given, side, path, bound,
             )
         }
         None => Ok(None),
@@ -299,7 +311,7 @@ fn sure_in(store: &mut Store, first: bool) -> Result<Ref, StoreFault>
 }
 
 /// The steps at which both references are true, with what was built of them.
-fn path_under(store: &mut Store, all: Ref, sure: Ref) -> Result<Path, StoreFault>
+fn path_under(store: &mut Store, all: Ref, sure: Ref, turn: bool) -> Result<Path, StoreFault>
     requires all { IsRef store.old.nodes all }
     requires sure { IsRef store.old.nodes sure }
     ensures extends { Extends store.old store.new }
@@ -307,11 +319,17 @@ fn path_under(store: &mut Store, all: Ref, sure: Ref) -> Result<Path, StoreFault
     ensures path { IfOk result (IsPath store.new.nodes) }
 {
     let here = store.and(all, sure)?;
-    Ok(Path { here, sure })
+    Ok(Path { here, sure, turn })
 }
 
 /// The steps from a part into another, with what was built of them.
-fn path_into(store: &mut Store, taken: Ref, into: Ref, sure: Ref) -> Result<Path, StoreFault>
+fn path_into(
+    store: &mut Store,
+    taken: Ref,
+    into: Ref,
+    sure: Ref,
+    turn: bool,
+) -> Result<Path, StoreFault>
     requires taken { IsRef store.old.nodes taken }
     requires into { IsRef store.old.nodes into }
     requires sure { IsRef store.old.nodes sure }
@@ -320,7 +338,12 @@ fn path_into(store: &mut Store, taken: Ref, into: Ref, sure: Ref) -> Result<Path
     ensures path { IfOk result (IsPath store.new.nodes) }
 {
     let all = store.and(taken, into)?;
-    path_under(store, all, sure)
+    path_under(store, all, sure, turn)
+}
+
+/// Whether steps from a part into another may count as turns.
+fn is_turned(frame: &Frame, known: &Known, place: usize, target: usize) -> bool {
+    frame.turns && place == target && known.visits / VISITS_TURNED < frame.sets.len()
 }
 
 /// What the steps from a part show of another, with what was built of it.
@@ -345,7 +368,8 @@ fn lead_in(
     ensures roomy { IsErrOf result StoreFault.Nodes → store.old.limit < 2 ^ (2 ^ store.old.variables) }
 {
     let into = *frame.into.at(target);
-    let path = path_into(store, taken.here, into, sure)?;
+    let turn = is_turned(frame, known, taken.place, target);
+    let path = path_into(store, taken.here, into, sure, turn)?;
     if store.is_false(path.here) {
         return Ok(());
     }
@@ -484,6 +508,7 @@ fn visited(frame: &Frame, known: &mut Known, place: usize)
 {
     let _sets = &frame.sets;
     known.dirty.set(place, false);
+    known.visits = known.visits.saturating_add(1);
 }
 
 /// Visits parts until none is to be visited. Whether that is so. The store is left as it was. Nodes comes where it has no room for what is built on the

@@ -1,7 +1,7 @@
 use Rattle.std.proofs.Common.{All, sym, subst}
 use Rattle.std.proofs.lemmas.List.Elements.{All-push}
 use Rattle.rv_cover.specs.Toward.{IsTarget}
-use Rattle.rv_refine.proofs.Planning.{targets_later}
+use Rattle.rv_cover.proofs.Chaining.{targets_later}
 use Rattle.rv_refine.proofs.covering.add_target.Goals as goal
 
 pub returns-clause-targets : goal.returns-clause-targets

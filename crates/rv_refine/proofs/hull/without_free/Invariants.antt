@@ -1,0 +1,5 @@
+use Rattle.rv_refine.specs.Sides.{AreLeftSides}
+use Rattle.rv_refine.proofs.hull.without_free.Given as goal
+
+abbrev pub invariant-loop-memory : goal.invariant-loop-memory
+invariant-loop-memory l = AreLeftSides l.memories l.kept
