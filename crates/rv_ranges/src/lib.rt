@@ -1,4 +1,4 @@
-//! Whether a certificate has the counts and ranges of a document, and no loop.
+//! Whether a certificate has the counts and ranges of a document, and whether it has a loop.
 //!
 //! A search for certificates needs no proof that what it builds can be written down: it asks `is_document` at the end. The crate knows of a
 //! system only how many state bits, variables, integer memories and order tests it has. Begin with specs/Documents.antt.
@@ -12,4 +12,4 @@ mod rows;
 mod sets;
 
 pub use bounds::Bounds;
-pub use document::is_document;
+pub use document::{is_document, is_plain};

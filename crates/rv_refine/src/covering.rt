@@ -70,7 +70,7 @@ fn numbers_of(alloc: Global, known: &Known) -> Result<Many<u32>, Memory>
     ensures { IfOk result (λ numbers. length numbers ≡ length known.now.reached) }
 {
     let mut numbers = Many::new(alloc);
-    let mut count = 0;
+    let mut count: u32 = 0;
     for place in 0..known.reached.len() {
         numbers.push(count)?;
         if *known.reached.at(place) {

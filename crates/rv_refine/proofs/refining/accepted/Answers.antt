@@ -1,29 +1,6 @@
-use Rattle.rv_refine.proofs.Judging.{given_to, document_of}
 use Rattle.rv_refine.proofs.refining.accepted.Goals as goal
 
-pub accept-requires : goal.accept-requires
-accept-requires c =
+pub returns-then-is_plain-clause-plain : goal.returns-then-is_plain-clause-plain
+returns-then-is_plain-clause-plain c =
     let (s, given) = c.requires.given in
-    let document = document_of s c.args.certificate c.bounds_of-bounds.result c.is_document.result (c.bounds_of-bounds.ensures s given) c.is_document.ensures
-    c.if-not-is_document.false in
-    record {
-      given = (
-        s,
-        given_to s c.args.store.now c.args.relation.now c.args.questions.now c.parts.result.now c.args.certificate given document
-            c.parts.ensures,
-      );
-    }
-
-pub returns-in-Accepted-clause-accepted : goal.returns-in-Accepted-clause-accepted
-returns-in-Accepted-clause-accepted c s given =
-    let document = document_of s c.args.certificate c.bounds_of-bounds.result c.is_document.result (c.bounds_of-bounds.ensures s given) c.is_document.ensures
-    c.if-not-is_document.false in
-    (c.in_ok-accept.ensures.accepted s (given_to s c.args.store.now c.args.relation.now c.args.questions.now c.parts.result.now c.args.certificate given
-    document c.parts.ensures)).0 c.in-Accepted.is
-
-pub returns-in-Accepted-clause-plain : goal.returns-in-Accepted-clause-plain
-returns-in-Accepted-clause-plain c =
-    let (s, given) = c.requires.given in
-    let document = document_of s c.args.certificate c.bounds_of-bounds.result c.is_document.result (c.bounds_of-bounds.ensures s given) c.is_document.ensures
-    c.if-not-is_document.false in
-    document.plain
+    c.is_plain.ensures.plain s (c.in_ok-found.ensures.document s given) c.then-is_plain.true
