@@ -3,7 +3,7 @@ use Rattle.std.proofs.Common.{◌≡◌, ℕ, ◌+◌, ◌≤◌, List, [], ◌�
 use Rattle.std.proofs.{lemmas.List.Elements.All-nil, lemmas.List.Elements.All-cons, lemmas.List.Elements.All-head, lemmas.List.Elements.All-tail}
 use Rattle.std.proofs.{lemmas.List.Elements.All-append, lemmas.List.length-append}
 use Rattle.rv_diagram.specs.{Nodes.IsOrderedOver, declared.frozen.Frozen.Frozen}
-use Rattle.rv_rows.specs.{declared.linear.Row.Row, Tight.Fits, declared.farkas.Multipliers.Multipliers}
+use Rattle.rv_rows.specs.{declared.linear.Row.Row, declared.farkas.Multipliers.Multipliers}
 use Rattle.rv_proofs.specs.{Systems.System, Scopes.Wanted, Scopes.refutation, Scopes.before, Scopes.after, Scopes.Implication, Scopes.each, Scopes.rows_into, Scopes.implications}
 use Rattle.rv_proofs.specs.{Counts.HasKindCounts, Counts.HasCounts}
 use Rattle.rv_proofs.specs.Ranges.{IsRecord, HasDivisor, IsControlSet, IsCondition, AreKept, IsLocationInRange}

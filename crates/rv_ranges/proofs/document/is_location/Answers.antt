@@ -1,4 +1,4 @@
-use Rattle.std.proofs.Common.{◌≡◌, sym, subst, rules, arith}
+use Rattle.std.proofs.Common.{sym, subst, rules, arith}
 use Rattle.rv_ranges.specs.declared.entries.Premises.{Premises}
 use Rattle.rv_ranges.specs.Documents.{HasKeptRows, IsStateSet, AreRangedEntries}
 use Rattle.rv_ranges.proofs.document.is_location.Goals as goal

@@ -1,4 +1,4 @@
-use Rattle.std.proofs.Common.{arith, ap, length, IsTrue, rules}
+use Rattle.std.proofs.Common.{arith, ap, length, rules}
 use Rattle.rv_proofs.specs.Counts.{HasLoop}
 use Rattle.rv_proofs.specs.declared.certificate.Location.{Location}
 use Rattle.rv_proofs.proofs.Each.{each-more, each-all}
