@@ -1,5 +1,5 @@
 -- What is given to the checker of a system in a store, and that there are few questions.
-use Rattle.std.proofs.Common.{◌≡◌, ◌↔◌, ◌<◌, ◌^◌, ℕ, Bool, IsTrue, length, arith, sym, subst}
+use Rattle.std.proofs.Common.{◌≡◌, ◌↔◌, ◌<◌, ◌^◌, Bool, IsTrue, length, arith, sym, subst}
 use Rattle.rv_diagram.specs.{Nodes.Diagrams}
 use Rattle.rv_proofs.specs.{Systems.System, Systems.IsSystem, declared.certificate.Certificate.Certificate}
 use Rattle.rv_symbolic.specs.{declared.relation.Relation.Relation, declared.relation.Parts.Parts, Represented.parts_of}
