@@ -271,12 +271,7 @@ fn reach_of(
 }
 
 /// The limit, raised over the bound and over what is reached in any number of turns, or none where no threshold is.
-fn risen_to(
-    thresholds: &Many<i128>,
-    limit: i128,
-    bound: Option<i128>,
-    reach: Reach,
-) -> Option<i128>
+fn risen_to(thresholds: &Many<i128>, limit: i128, bound: Option<i128>, reach: Reach) -> Option<i128>
     requires thresholds { All (λ t. unsigned_abs t ≤ 2 ^ 41) thresholds.now }
     requires limit { unsigned_abs limit ≤ 2 ^ 41 }
     ensures { IsSmallLimit result }
@@ -330,9 +325,7 @@ fn next_turn(
     };
     let Shown { bound, answers } = found;
     let asked = turns && is_above(bound, turn.held);
-    let reach = reach_of(
-        alloc, store, &sample, questions, frame, given, side, asked,
-    )?;
+    let reach = reach_of(alloc, store, &sample, questions, frame, given, side, asked)?;
     let Some(held) = risen_to(&frame.thresholds, turn.held, bound, reach) else {
         return Ok(None);
     };

@@ -52,7 +52,11 @@ fn units(alloc: Global, memories: usize) -> Result<Many<Row>, Memory>
 }
 
 /// What a step adds to each memory, or none where one is set to a constant and nothing is known of the number before.
-fn gains_of(alloc: Global, updates: &Many<Form>, told: &Many<Row>) -> Result<Option<Many<Gain>>, Memory> {
+fn gains_of(
+    alloc: Global,
+    updates: &Many<Form>,
+    told: &Many<Row>,
+) -> Result<Option<Many<Gain>>, Memory> {
     let mut gains = Many::new(alloc);
     for memory in 0..updates.len() {
         let gain = gain_of(updates.at(memory), memory, updates.len(), told);
@@ -65,7 +69,11 @@ fn gains_of(alloc: Global, updates: &Many<Form>, told: &Many<Row>) -> Result<Opt
 }
 
 /// What a step adds to each left side, or none where one is great.
-fn growths_of(alloc: Global, sides: &Many<Row>, gains: &Many<Gain>) -> Result<Option<Many<i128>>, Memory>
+fn growths_of(
+    alloc: Global,
+    sides: &Many<Row>,
+    gains: &Many<Gain>,
+) -> Result<Option<Many<i128>>, Memory>
     ensures small { IfOk result (λ o. IfSome o AreIncrements) }
     ensures many { IfOk result (λ o. IfSome o (λ growths. length growths ≡ length sides.now)) }
 {
@@ -136,6 +144,22 @@ fn levelled(
     )
 }
 
+/// Adds a left side where there is one.
+fn add_one(sides: &mut Many<Row>, memories: usize, side: Option<Row>) -> Result<(), Memory>
+    requires sides { AreLeftSides memories sides.old }
+    requires side { IfSome side (IsLeftSide memories) }
+    ensures { OnOk result (AreLeftSides memories sides.new) }
+{
+    let _size = memories;
+    match side {
+        Some(side) => {
+            sides.push(side)?;
+            Ok(())
+        }
+        None => Ok(()),
+    }
+}
+
 /// The left sides, changed so that none grows where they grow by these numbers: one fewer, where one of them does.
 fn after_growths(
     alloc: Global,
@@ -157,16 +181,20 @@ fn after_growths(
         if place != changed {
             let growth = *growths.at(place);
             let with = sides.at(changed);
-            if let Some(side) = levelled(alloc, memories, sides.at(place), growth, with, other)? {
-                rest.push(side)?;
-            }
+            let side = levelled(alloc, memories, sides.at(place), growth, with, other)?;
+            add_one(&mut rest, memories, side)?;
         }
     }
     Ok(rest)
 }
 
 /// The left sides, changed so that none has a memory.
-fn without_memory(alloc: Global, memories: usize, sides: Many<Row>, memory: usize) -> Result<Many<Row>, Memory>
+fn without_memory(
+    alloc: Global,
+    memories: usize,
+    sides: Many<Row>,
+    memory: usize,
+) -> Result<Many<Row>, Memory>
     requires { AreLeftSides memories sides }
     ensures { IfOk result (AreLeftSides memories) }
 {
@@ -177,7 +205,12 @@ fn without_memory(alloc: Global, memories: usize, sides: Many<Row>, memory: usiz
 }
 
 /// The left sides, changed so that none has a memory of which it is not looked at what a step adds to it.
-fn without_free(alloc: Global, memories: usize, sides: Many<Row>, gains: &Many<Gain>) -> Result<Many<Row>, Memory>
+fn without_free(
+    alloc: Global,
+    memories: usize,
+    sides: Many<Row>,
+    gains: &Many<Gain>,
+) -> Result<Many<Row>, Memory>
     requires { AreLeftSides memories sides }
     ensures { IfOk result (AreLeftSides memories) }
 {
@@ -259,7 +292,10 @@ fn hull_in(
 {
     let wanted = units(alloc, questions.forms.len())?;
     let kept = units(alloc, questions.forms.len())?;
-    let mut hull = Hull { kept, left: allowed };
+    let mut hull = Hull {
+        kept,
+        left: allowed,
+    };
     for _step in 0..STEPS {
         if hull.kept.is_empty() || store.is_false(hull.left) {
             return Ok(kept_of(hull));
@@ -267,6 +303,17 @@ fn hull_in(
         hull = next_step(alloc, store, questions, &wanted, hull)?;
     }
     Ok(kept_of(hull))
+}
+
+/// Where both references are true, with what was built of that.
+fn both(store: &mut Store, a: Ref, b: Ref) -> Result<Ref, StoreFault>
+    requires a { IsRef store.old.nodes a }
+    requires b { IsRef store.old.nodes b }
+    ensures extends { Extends store.old store.new }
+    ensures roomy { IsErrOf result StoreFault.Nodes → store.old.limit < 2 ^ (2 ^ store.old.variables) }
+    ensures found { IfOk result (IsRef store.new.nodes) }
+{
+    store.and(a, b)
 }
 
 /// The same of those steps at which the main tick is, too.
@@ -283,7 +330,7 @@ fn hull_under(
     ensures kept { IfOk result (AreLeftSides (length questions.now.forms)) }
 {
     let tick = main_tick(store)?;
-    let later = store.and(allowed, tick)?;
+    let later = both(store, allowed, tick)?;
     hull_in(alloc, store, questions, later)
 }
 

@@ -229,9 +229,7 @@ fn raised_limit(
             if is_kept(alloc, store, questions, frame, labels, path, side, bound)? {
                 return Ok(limit);
             }
-            risen_limit(
-                alloc, store, questions, frame, given, side, path, bound,
-            )
+            risen_limit(alloc, store, questions, frame, given, side, path, bound)
         }
         None => Ok(None),
     }

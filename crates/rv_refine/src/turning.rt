@@ -99,7 +99,12 @@ fn add_some(rows: &mut Many<Row>, row: Option<Row>) -> Result<(), Memory>
 }
 
 /// Adds rows that hold before the first turn.
-fn add_first(alloc: Global, rows: &mut Many<Row>, more: &Many<Row>, width: usize) -> Result<(), Memory>
+fn add_first(
+    alloc: Global,
+    rows: &mut Many<Row>,
+    more: &Many<Row>,
+    width: usize,
+) -> Result<(), Memory>
     requires { All (RowWithin (2 ^ 60)) rows.old }
     ensures { OnOk result (All (RowWithin (2 ^ 60)) rows.new) }
 {
@@ -113,7 +118,13 @@ fn add_first(alloc: Global, rows: &mut Many<Row>, more: &Many<Row>, width: usize
 
 /// The row before the last turn, over the memories before the first one and the number of turns, or none where a turn does not raise its left side by
 /// a number, or a number is great.
-fn before_last(alloc: Global, row: &Row, memories: usize, width: usize, gains: &Many<Gain>) -> Result<Option<Row>, Memory>
+fn before_last(
+    alloc: Global,
+    row: &Row,
+    memories: usize,
+    width: usize,
+    gains: &Many<Gain>,
+) -> Result<Option<Row>, Memory>
     ensures { IfOk result (λ o. IfSome o (RowWithin (2 ^ 60))) }
 {
     if takes_input(&row.coefficients, memories) || !is_within(row.bound) {
@@ -164,7 +175,12 @@ fn add_turn(alloc: Global, rows: &mut Many<Row>, width: usize) -> Result<(), Mem
 
 /// The greatest value that the rows show of a left side with a column more, which grows in each turn; `ended` tells whether some row bounds the
 /// number of turns.
-fn furthest(alloc: Global, rows: &Many<Row>, after: Option<Row>, ended: bool) -> Result<Reach, Memory>
+fn furthest(
+    alloc: Global,
+    rows: &Many<Row>,
+    after: Option<Row>,
+    ended: bool,
+) -> Result<Reach, Memory>
     requires rows { All (RowWithin (2 ^ 60)) rows.now }
     requires after { IfSome after (RowWithin (2 ^ 60)) }
 {
