@@ -2,18 +2,27 @@
 use Rattle.std.specs.Prelude.{◌≡◌, ℕ, ◌+◌, ◌*◌, ◌<◌, ◌≤◌, pos, List, [], length, All, Some, slice_get}
 use Rattle.rv_diagram.specs.{Nodes.node_at, Nodes.IsOrderedOver, declared.frozen.Frozen.Frozen, declared.Triple.Triple}
 use Rattle.rv_rows.specs.{declared.linear.Row.Row, Tight.Fits}
-use Rattle.rv_proofs.specs.{Systems.System, Ranges.IsInRange, Ranges.IsRecord, Counts.HasFree}
+use Rattle.rv_proofs.specs.{Systems.System, Ranges.IsInRange, Ranges.IsRecord, Counts.HasFree, Counts.HasLoop}
 use Rattle.rv_proofs.specs.declared.certificate.EntryKind.TheVariants.{Dead, Go, Loop}
 use Rattle.rv_proofs.specs.{declared.certificate.Certificate.Certificate, declared.certificate.Location.Location, declared.certificate.Entry.Entry}
 use Rattle.rv_proofs.specs.{declared.certificate.EntryKind.EntryKind}
 use Rattle.rv_walk.specs.Plain.{ArePlain}
-use Rattle.rv_ranges.specs.declared.bounds.Bounds.{Bounds}
+use Rattle.rv_ranges.specs.{declared.bounds.Bounds.Bounds, declared.entries.Premises.Premises}
 
--- The certificate has the counts and ranges of a document, and no loop.
+-- The certificate has the counts and ranges of a document, and a location without a loop has no rows of one.
 pub record IsDocument (s : System) (c : Certificate) : Type 0 where
   pub range : IsInRange s c
   pub free : HasFree c
+
+-- Such a certificate without loops.
+pub record IsPlainDocument (s : System) (c : Certificate) : Type 0 where
+  pub range : IsInRange s c
+  pub free : HasFree c
   pub plain : ArePlain c
+
+-- No location of the certificate has a turn of a loop.
+abbrev pub HasNoLoop : Certificate → Type 0
+HasNoLoop c = (k : ℕ) (l : Location) → slice_get c.locations k ≡ Some l → ¬ HasLoop l
 
 -- The bounds are those of the system.
 pub record AreBoundsOf (s : System) (b : Bounds) : Type 0 where
@@ -58,35 +67,48 @@ pub record IsReadSet (b : Bounds) (set : Frozen) : Type 0 where
   pub ordered : IsOrderedOver b.variables set
   pub read : ReadsNoCopies b.states set.nodes
 
--- No turn of a loop, with multipliers over so many premises. The divisor of a refutation is 1.
-abbrev pub IsKind : ℕ → EntryKind → Type 0
-IsKind premises (Dead by) = (by.divisor ≡ pos 1) × IsRecord premises by
-IsKind premises (Go target reach) = All (IsRecord premises) reach
-IsKind premises (Loop first before around state) = ⊥
+-- How many premises there are at each place of a location, with so many order tests: from `entry`, from `first`, from `state`, and in later
+-- turns from `around` and `state`.
+abbrev pub premises_of : ℕ → Location → Premises
+premises_of tests l = record {
+  entry = length l.entry + tests;
+  first = length l.first + tests;
+  state = length l.state + tests;
+  later = length l.around + length l.state + tests;
+}
+
+-- Each list of multipliers stands on the premises of its place. The divisor of a refutation is 1.
+abbrev pub IsKind : Premises → EntryKind → Type 0
+IsKind p (Dead by) = (by.divisor ≡ pos 1) × IsRecord p.state by
+IsKind p (Go target reach) = All (IsRecord p.state) reach
+IsKind p (Loop first before around state) =
+    All (IsRecord p.entry) first × All (IsRecord p.first) before × All (IsRecord p.later) around × All (IsRecord p.later) state
 
 -- Such an entry.
-pub record IsRangedEntry (b : Bounds) (premises : ℕ) (e : Entry) : Type 0 where
+pub record IsRangedEntry (b : Bounds) (p : Premises) (e : Entry) : Type 0 where
   pub condition : IsReadSet b e.condition
-  pub kind : IsKind premises e.kind
+  pub kind : IsKind p e.kind
 
 -- Such entries.
-abbrev pub AreRangedEntries : Bounds → ℕ → List Entry → Type 0
-AreRangedEntries b premises es = (j : ℕ) (e : Entry) → slice_get es j ≡ Some e → IsRangedEntry b premises e
+abbrev pub AreRangedEntries : Bounds → Premises → List Entry → Type 0
+AreRangedEntries b p es = (j : ℕ) (e : Entry) → slice_get es j ≡ Some e → IsRangedEntry b p e
 
--- The rows of a location without a loop, and what proves those of its state.
+-- The rows of a location, and what proves those of its state. A location without a loop has no rows of one.
 pub record HasKeptRows (memories : ℕ) (l : Location) : Type 0 where
   pub entry : AreKeptRows memories l.entry
+  pub first : AreKeptRows memories l.first
+  pub around : AreKeptRows memories l.around
   pub state : AreKeptRows memories l.state
-  pub first : l.first ≡ []
-  pub around : l.around ≡ []
   pub by_entry : All (IsRecord (length l.entry)) l.by_entry
+  pub by_first : All (IsRecord (length l.first)) l.by_first
+  pub free : ¬ HasLoop l → (l.first ≡ []) × (l.around ≡ [])
 
--- A location without a loop, in the ranges of a document.
+-- A location in the ranges of a document.
 pub record IsRangedLocation (b : Bounds) (l : Location) : Type 0 where
   pub kept : HasKeptRows b.memories l
   pub few : length l.entries ≤ 4294967295
   pub control : IsStateSet b l.control
-  pub entries : AreRangedEntries b (length l.state + b.tests) l.entries
+  pub entries : AreRangedEntries b (premises_of b.tests l) l.entries
 
 -- Such locations.
 abbrev pub AreRangedLocations : Bounds → List Location → Type 0

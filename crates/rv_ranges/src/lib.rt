@@ -1,7 +1,8 @@
-//! Whether a certificate has the counts and ranges of a document, and no loop.
+//! Whether a certificate has the counts and ranges of a document, with loops or without, and whether it has a loop.
 //!
-//! A search for certificates needs no proof that what it builds can be written down: it asks `is_document` at the end. The crate knows of a
-//! system only how many state bits, variables, integer memories and order tests it has. Begin with specs/Documents.antt.
+//! A search for certificates needs no proof that what it builds can be written down: it asks `is_document` at the end, and `is_plain` where
+//! what comes next takes certificates without loops alone. The crate knows of a system only how many state bits, variables, integer memories
+//! and order tests it has. Begin with specs/Documents.antt.
 #![tactic(auto)]
 
 mod bounds;
@@ -12,4 +13,4 @@ mod rows;
 mod sets;
 
 pub use bounds::Bounds;
-pub use document::is_document;
+pub use document::{is_document, is_plain};
