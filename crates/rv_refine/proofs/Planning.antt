@@ -1,11 +1,11 @@
--- Rows of parts are premises of locations, and what is planned stays so in a store that grows.
-use Rattle.std.proofs.Common.{◌≡◌, ℕ, ◌+◌, ◌≤◌, ◌<◌, ◌^◌, List, length, All, arith, sym, subst}
+-- Rows of parts are premises of locations, a frame is planned, and what is searched for entries of a part.
+use Rattle.std.proofs.Common.{◌≡◌, ℕ, ◌+◌, ◌≤◌, ◌<◌, ◌^◌, List, length, sym, subst}
 use Rattle.std.proofs.lemmas.List.Elements.{All-weaker}
-use Rattle.rv_diagram.specs.{Nodes.Diagrams, Growing.Extends}
+use Rattle.rv_diagram.specs.{Nodes.Diagrams}
 use Rattle.rv_rows.specs.{declared.linear.Row.Row, Tight.Fits}
 use Rattle.rv_proofs.specs.Systems.{System}
 use Rattle.rv_cases.specs.declared.asking.Questions.{Questions}
-use Rattle.rv_cover.specs.{declared.several.Target.Target, Toward.IsTarget, Seeking.IsSearched, declared.frame.Frame.Frame as Within}
+use Rattle.rv_cover.specs.{Seeking.IsSearched, declared.frame.Frame.Frame as Within}
 use Rattle.rv_cover.specs.Seeking.{IsFrameFor, IsWay}
 use Rattle.rv_cover.specs.declared.frame.By.TheVariants.{Rows}
 use Rattle.rv_refine.specs.{declared.frames.Frame.Frame, Frames.IsFrame, Sides.IsLeftSide, Sides.AreLeftSides, Plans.ArePremises, Plans.IsPlanned}

@@ -1,4 +1,4 @@
-use Rattle.std.proofs.Common.{◌≡◌, ◌<◌, length, All, arith, sym, subst, ◌∙◌}
+use Rattle.std.proofs.Common.{All, arith, sym, subst, ◌∙◌}
 use Rattle.rv_diagram.specs.{Nodes.IsRef, Nodes.IsOrderedOver}
 use Rattle.rv_diagram.proofs.Growing.{extends_trans}
 use Rattle.std.proofs.lemmas.List.Elements.{All-weaker}
