@@ -14,7 +14,7 @@ pub struct Options {
 /// How an analysis ends.
 #[derive(Debug, Drop)]
 pub enum End {
-    /// The system is safe: an accepted certificate of it.
+    /// The system is safe: an accepted certificate of it, without loops where these are not to be accelerated.
     Proved(Certificate),
     /// Nothing more was found: a left partition, and why nothing more was split.
     Left(LeftReport),

@@ -1,5 +1,5 @@
 -- What is proved of a system that no box claim decides.
-use Rattle.std.specs.Prelude.{◌≡◌, ◌≤◌, ◌^◌, ℕ, ℤ, List, All}
+use Rattle.std.specs.Prelude.{◌≡◌, ◌≤◌, ◌^◌, ℕ, ℤ, Bool, false, List, All}
 use Rattle.std.specs.Int.RustNames.{unsigned_abs}
 use Rattle.rv_diagram.specs.Nodes.{Diagrams}
 use Rattle.rv_proofs.specs.{Systems.System, Accepted.IsAccepted, Left.IsLeftReport, declared.certificate.Certificate.Certificate}
@@ -14,15 +14,16 @@ pub record IsGiven (s : System) (d : Diagrams) (r : Relation) (q : Questions) (t
   pub questions : AreQuestions s d q
   pub small : All (λ t. unsigned_abs t ≤ 2 ^ 41) thresholds
 
--- The certificate is accepted, and has no loop.
-pub record IsCertified (s : System) (c : Certificate) : Type 0 where
+-- The certificate is accepted, and where loops are not to be accelerated it has none.
+pub record IsCertified (s : System) (accelerate : Bool) (c : Certificate) : Type 0 where
   pub accepted : IsAccepted s c
-  pub plain : ArePlain c
+  pub plain : accelerate ≡ false → ArePlain c
 
--- How an analysis ends: with an accepted certificate, or with a left partition of at most so many locations and why no more was split.
-abbrev pub IsAnalysisOf : System → ℕ → Analysis → Type 0
-IsAnalysisOf s limit (Proved c) = IsCertified s c
-IsAnalysisOf s limit (Left l) = IsLeftReport s limit l × ArePlain l.partition
+-- How an analysis ends: with an accepted certificate, without loops where none are asked for, or with a left partition without loops of at most
+-- so many locations and why no more was split.
+abbrev pub IsAnalysisOf : System → ℕ → Bool → Analysis → Type 0
+IsAnalysisOf s limit accelerate (Proved c) = IsCertified s accelerate c
+IsAnalysisOf s limit accelerate (Left l) = IsLeftReport s limit l × ArePlain l.partition
 
 -- The analysis is a proof.
 abbrev pub IsProved : Analysis → Type 0

@@ -1,6 +1,6 @@
 //! How an analysis ends.
 
-ghost use Rattle.std.specs.Prelude.{◌≡◌, ℕ, []};
+ghost use Rattle.std.specs.Prelude.{◌≡◌, ℕ, Bool, []};
 ghost use Rattle.rv_proofs.specs.Systems.{System};
 ghost use Rattle.rv_proofs.specs.Accepted.{IsAccepted};
 ghost use Rattle.rv_proofs.specs.Left.{IsLeftReport};
@@ -12,7 +12,7 @@ use rv_proofs::{Certificate, LeftReport};
 /// How an analysis ends.
 #[derive(Debug, Drop)]
 pub enum Analysis {
-    /// The system is safe: an accepted certificate of it, without loops.
+    /// The system is safe: an accepted certificate of it, without loops where none are asked for.
     Proved(Certificate),
     /// Nothing more was found: a left partition, and why no location of it was split further.
     Left(LeftReport),
@@ -20,8 +20,8 @@ pub enum Analysis {
 
 /// How the analysis ends with a report: as a proof where no location is left.
 pub fn ended(report: LeftReport) -> Analysis
-    ensures { (s : System) (limit : ℕ) → (report.left ≡ [] → IsAccepted s report.partition) → (¬ (report.left ≡ []) → IsLeftReport s limit report)
-        → ArePlain report.partition → IsAnalysisOf s limit result }
+    ensures { (s : System) (limit : ℕ) (accelerate : Bool) → (report.left ≡ [] → IsAccepted s report.partition)
+        → (¬ (report.left ≡ []) → IsLeftReport s limit report) → ArePlain report.partition → IsAnalysisOf s limit accelerate result }
 {
     if report.left.is_empty() {
         let LeftReport { partition, .. } = report;

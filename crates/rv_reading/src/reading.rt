@@ -1,6 +1,6 @@
 //! The control reading of a flat system.
 
-ghost use Rattle.std.specs.Prelude.{◌≡◌, ◌↔◌, ◌<◌, ◌≤◌, ◌^◌, ℕ, ℤ, Bool, List, Ok, None, Some, [], All, length, slice_get, IfOk, IfSome, OnOk, IsErrOf, IsTrue};
+ghost use Rattle.std.specs.Prelude.{◌≡◌, ◌↔◌, ◌<◌, ◌≤◌, ◌^◌, ℕ, ℤ, Bool, List, Ok, None, Some, false, [], All, length, slice_get, IfOk, IfSome, OnOk, IsErrOf, IsTrue};
 ghost use Rattle.std.specs.Int.RustNames.{unsigned_abs};
 ghost use Rattle.std.specs.Borrow.{sem};
 ghost use Rattle.rv_diagram.specs.declared.frozen.Frozen.{Frozen as FrozenModel};
@@ -236,15 +236,22 @@ impl<'a> Reading<'a> {
     }
 
     /// What is proved of the flat system: of its least closed row claim, with bounds among its thresholds, where that is good, and else of rows over
-    /// parts of the control states. Proved has an accepted certificate without loops, and comes wherever some closed row claim is good. Left has a
-    /// left partition without rows and loops: it has so many locations and more were not to be made, or each left location has one control state.
-    pub fn analyse(&mut self, alloc: Global, locations: u32) -> Result<Analysis, StoreFault>
+    /// parts of the control states. Proved has an accepted certificate, without loops where none are asked for, and comes wherever some closed row
+    /// claim is good. Left has a left partition without rows and loops: it has so many locations and more were not to be made, or each left
+    /// location has one control state. The bits of ticks, by which parts are told apart first, are that of the main tick, which is the first state
+    /// bit, and those of the flows that tick.
+    pub fn analyse(
+        &mut self,
+        alloc: Global,
+        locations: u32,
+        accelerate: bool,
+    ) -> Result<Analysis, StoreFault>
         requires read { IsRead self.old }
         requires thresholds { All (λ t. unsigned_abs t ≤ 2 ^ 41) (flat_of self.old).thresholds }
         requires least { 1 ≤ locations }
         requires most { locations ≤ 4096 }
         ensures proved { (c : CertificateModel) → result ≡ Ok (Analysis.Proved c) → IsAccepted (system_read self.old) c }
-        ensures plain { (c : CertificateModel) → result ≡ Ok (Analysis.Proved c) → ArePlain c }
+        ensures plain { (c : CertificateModel) → result ≡ Ok (Analysis.Proved c) → accelerate ≡ false → ArePlain c }
         ensures left { (l : LeftModel) → result ≡ Ok (Analysis.Left l) → IsLeftReport (system_read self.old) locations l }
         ensures plain_left { (l : LeftModel) → result ≡ Ok (Analysis.Left l) → ArePlain l.partition }
         ensures claims { HasGoodRows (system_read self.old) (flat_of self.old).thresholds → IfOk result IsProved }
@@ -252,12 +259,12 @@ impl<'a> Reading<'a> {
         ensures roomy { IsErrOf result StoreFault.Nodes → (diagrams_of self.old).limit < 2 ^ (2 ^ (diagrams_of self.old).variables) }
     {
         let thresholds = self.flat.thresholds.as_slice();
-        let ticks = at_most(self.flat.tick_flows.len(), 4096);
+        let ticks = at_most(self.flat.tick_flows.len(), 4095) + 1;
         let store = &mut self.store;
         let relation = &self.relation;
         let questions = &self.questions;
         analysed(
-            alloc, store, relation, questions, thresholds, ticks, locations,
+            alloc, store, relation, questions, thresholds, ticks, locations, accelerate,
         )
     }
 

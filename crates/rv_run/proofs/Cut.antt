@@ -49,6 +49,7 @@ module _ (held : Option Shelf) (w : Wanted) (document : List ℕ) where
     safe = λ c h. absurd (let bad : IsCut (Safe c) = subst IsCut h tt in bad);
     certified = λ c h. absurd (let bad : IsCut (Safe c) = subst IsCut h tt in bad);
     invariant = λ c h. absurd (let bad : IsCut (Safe c) = subst IsCut h tt in bad);
+    plain = λ c h asked. absurd (let bad : IsCut (Safe c) = subst IsCut h tt in bad);
     violated = λ t h. absurd (let bad : IsCut (Violated t) = subst IsCut h tt in bad);
     document_of = λ t h. absurd (let bad : IsCut (Violated t) = subst IsCut h tt in bad);
     unknown = λ l h. absurd (let bad : IsCut (Unknown l) = subst IsCut h tt in bad);
@@ -85,6 +86,7 @@ module _ (held : Option Shelf) (w : Wanted) (document : List ℕ) where
     safe = λ c h. absurd (let bad : IsCut (Safe c) = subst IsCut h tt in bad);
     certified = λ c h. absurd (let bad : IsCut (Safe c) = subst IsCut h tt in bad);
     invariant = λ c h. absurd (let bad : IsCut (Safe c) = subst IsCut h tt in bad);
+    plain = λ c h asked. absurd (let bad : IsCut (Safe c) = subst IsCut h tt in bad);
     violated = λ t h. absurd (let bad : IsCut (Violated t) = subst IsCut h tt in bad);
     document_of = λ t h. absurd (let bad : IsCut (Violated t) = subst IsCut h tt in bad);
     unknown = λ l h. absurd (let bad : IsCut (Unknown l) = subst IsCut h tt in bad);
@@ -157,6 +159,7 @@ module _ (held : Option Shelf) (w : Wanted) (named : List ℕ × List ℕ) (docu
     safe = λ c h. absurd (let bad : IsLong (Safe c) = subst IsLong h tt in bad);
     certified = λ c h. absurd (let bad : IsLong (Safe c) = subst IsLong h tt in bad);
     invariant = λ c h. absurd (let bad : IsLong (Safe c) = subst IsLong h tt in bad);
+    plain = λ c h asked. absurd (let bad : IsLong (Safe c) = subst IsLong h tt in bad);
     violated = λ t h. absurd (let bad : IsLong (Violated t) = subst IsLong h tt in bad);
     document_of = λ t h. absurd (let bad : IsLong (Violated t) = subst IsLong h tt in bad);
     unknown = λ l h. absurd (let bad : IsLong (Unknown l) = subst IsLong h tt in bad);
@@ -233,6 +236,7 @@ module _ (held : Option Shelf) (w : Wanted) (document : List ℕ) (none : w.name
     safe = λ c h. absurd (let bad : IsOffFile (Safe c) = subst IsOffFile h off in bad);
     certified = λ c h. absurd (let bad : IsOffFile (Safe c) = subst IsOffFile h off in bad);
     invariant = λ c h. absurd (let bad : IsOffFile (Safe c) = subst IsOffFile h off in bad);
+    plain = λ c h asked. absurd (let bad : IsOffFile (Safe c) = subst IsOffFile h off in bad);
     violated = λ t h. absurd (let bad : IsOffFile (Violated t) = subst IsOffFile h off in bad);
     document_of = λ t h. absurd (let bad : IsOffFile (Violated t) = subst IsOffFile h off in bad);
     unknown = λ l h. absurd (let bad : IsOffFile (Unknown l) = subst IsOffFile h off in bad);

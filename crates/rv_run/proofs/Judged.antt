@@ -8,12 +8,13 @@ use Rattle.rv_source.specs.declared.fault.SourceFault.{SourceFault}
 use Rattle.rv_diagram.specs.declared.store.StoreFault.{StoreFault}
 use Rattle.rv_diagram.specs.declared.store.StoreFault.TheVariants as fault
 use Rattle.rv_proofs.specs.{declared.certificate.Certificate.Certificate, declared.report.LeftReport.LeftReport}
+use Rattle.rv_walk.specs.Plain.{ArePlain}
 use Rattle.rv_falsify.specs.Falsifying.{IsFalsifying}
 use Rattle.rv_probe.specs.Probes.{probe_of}
 use Rattle.rv_replay.specs.Replays.{IsFalsifiedAt}
 use Rattle.rv_run.specs.Answers.{IsOnSource, IsJudgedUnlessLimited, IsSafeUnlessCutOff, IsViolatedUnlessCutOff, IsViolatedUnlessUnread}
 use Rattle.rv_run.specs.Programs.{IsSafeControl, IsUnsafeControl, IsCertified, HasGoodClaim, HasManyVariables, HasProbe, IsUnknown, LacksGoodClaim, LacksProbe}
-use Rattle.rv_run.specs.Verdicts.{IsViolated, IsDocumentOf, IsInvariantOf, IsLeftOf, IsTraced, IsVerdictOf, verdict_report, verdict_document}
+use Rattle.rv_run.specs.Verdicts.{IsViolated, IsDocumentOf, IsInvariantOf, IsLeftOf, IsPlainVerdict, IsTraced, IsVerdictOf, verdict_report, verdict_document}
 use Rattle.rv_run.specs.declared.verdict.Verdict.{Verdict}
 use Rattle.rv_run.specs.declared.verdict.Verdict.TheVariants.{Safe, Violated, Undecided}
 use Rattle.rv_run.specs.declared.report.Report.TheVariants as report
@@ -31,6 +32,17 @@ verdict-not_refused nodes (Ok (Violated t text)) e is = cc
 verdict-not_refused nodes (Ok (Undecided l text)) e is = cc
 verdict-not_refused nodes (Err fault.Nodes) e is = cc
 verdict-not_refused nodes (Err fault.Memory) e is = cc
+
+-- the certificate that is told is that of the verdict
+pub said_plain : (nodes : ℕ) (r : Result Verdict StoreFault) (c : Certificate) → IfOk r IsPlainVerdict → verdict_report nodes r ≡ report.Safe c → ArePlain c
+said_plain nodes (Ok (Safe d text)) c plain is = subst ArePlain (same d c is) plain
+  where
+    same : (d c : Certificate) → report.Safe d ≡ report.Safe c → d ≡ c
+    same d c e = cc
+said_plain nodes (Ok (Violated t text)) c plain is = absurd (let different : ⊥ = cc in different)
+said_plain nodes (Ok (Undecided l text)) c plain is = absurd (let different : ⊥ = cc in different)
+said_plain nodes (Err fault.Nodes) c plain is = absurd (let different : ⊥ = cc in different)
+said_plain nodes (Err fault.Memory) c plain is = absurd (let different : ⊥ = cc in different)
 
 -- each verdict is told
 pub must_judged : (nodes : ℕ) (r : Result Verdict StoreFault) → IsJudgedUnlessLimited (verdict_report nodes r)

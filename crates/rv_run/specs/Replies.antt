@@ -1,9 +1,10 @@
 -- What the answer to a command says, and which answer comes where, given what the words ask for and what the files hold.
-use Rattle.std.specs.Prelude.{◌≡◌, ◌+◌, ◌<◌, ◌≤◌, ◌⊎◌, ℕ, List, length, codes, None, Option, Some}
+use Rattle.std.specs.Prelude.{◌≡◌, ◌+◌, ◌<◌, ◌≤◌, ◌⊎◌, ℕ, false, List, length, codes, None, Option, Some}
 use Rattle.rv_base.specs.{Shelf.Shelf, declared.value.Trace.Trace, Limits.source_limit}
 use Rattle.rv_meaning.specs.Runs.{IsSafe}
 use Rattle.rv_make.specs.Made.{made_text}
 use Rattle.rv_proofs.specs.{declared.certificate.Certificate.Certificate, declared.report.LeftReport.LeftReport}
+use Rattle.rv_walk.specs.Plain.{ArePlain}
 use Rattle.rv_source.specs.declared.fault.SourceFault.{SourceFault}
 use Rattle.rv_run.specs.declared.report.Report.TheVariants.{Safe, Violated, Unknown, Nodes, Accepted, Made, Toured, Refused, TooLong, Memory}
 use Rattle.rv_run.specs.Answers.{OnFile, OnDocument, OnSource, IsTold, IsToldDocument, IsVerdict, IsNodesReport, IsTouredReport, IsUnlessCutOff}
@@ -20,6 +21,7 @@ pub record Replies (held : Option Shelf) (w : Wanted) (report : Report) (documen
   pub safe : (c : Certificate) → report ≡ Safe c → OnFile held w (OnProgram (WithRuns IsSafe))
   pub certified : (c : Certificate) → report ≡ Safe c → OnFile held w (OnProgram (IsCertified c))
   pub invariant : (c : Certificate) → report ≡ Safe c → OnFile held w (OnProgram (IsInvariantOf c document))
+  pub plain : (c : Certificate) → report ≡ Safe c → w.accelerate ≡ false → ArePlain c
   pub violated : (t : Trace) → report ≡ Violated t → OnFile held w (OnProgram (WithRuns (IsViolated w.nodes t)))
   pub document_of : (t : Trace) → report ≡ Violated t → OnFile held w (OnProgram (IsDocumentOf t document))
   pub unknown : (l : LeftReport) → report ≡ Unknown l → OnFile held w (OnProgram (WithRuns (IsUnknown w.locations l)))

@@ -8,6 +8,7 @@ use Rattle.rv_diagram.specs.declared.store.StoreFault.TheVariants as fault
 use Rattle.rv_flat.specs.{declared.flat.Flat.Flat, FlatOf.IsFlatOf}
 use Rattle.rv_control.specs.Control.{control_of}
 use Rattle.rv_proofs.specs.{Accepted.IsAccepted, Left.IsLeftReport, declared.certificate.Certificate.Certificate, declared.report.LeftReport.LeftReport}
+use Rattle.rv_walk.specs.Plain.{ArePlain}
 use Rattle.rv_invfile.specs.{Csv.records_of, Rules.IsDocument, Writes.lines, Traces.trace_records, Traces.trace_rule}
 use Rattle.rv_invariant.specs.{Certificates.certificate_records, Certificates.certificate_rule, Unknown.left_records}
 use Rattle.rv_falsify.specs.Falsifying.{IsFalsifying, IsShortest}
@@ -70,6 +71,12 @@ IsVerdictOf nodes limit (Safe c text) program main =
     IsSafe program main × IsCertified c program main × IsInvariantOf c text.items program main
 IsVerdictOf nodes limit (Violated t text) program main = IsViolated nodes t program main × IsDocumentOf t text.items program main × LacksGoodClaim program main
 IsVerdictOf nodes limit (Undecided l text) program main = IsUnknown limit l program main × IsLeftOf limit l text.items program main
+
+-- The certificate of a verdict has no loops.
+abbrev pub IsPlainVerdict : Verdict → Type 0
+IsPlainVerdict (Safe c text) = ArePlain c
+IsPlainVerdict (Violated t text) = Unit {0}
+IsPlainVerdict (Undecided l text) = Unit {0}
 
 -- The report on a verdict, or on why there is none where diagrams may have so many nodes.
 abbrev pub verdict_report : ℕ → Result Verdict StoreFault → Report

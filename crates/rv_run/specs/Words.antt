@@ -1,18 +1,19 @@
 -- What the words of the command line ask the program to do.
-use Rattle.std.specs.Prelude.{◌≡◌, ◌≤◌, ◌⊎◌, ℕ, List, Option, Some, None, option_map}
+use Rattle.std.specs.Prelude.{◌≡◌, ◌≤◌, ◌⊎◌, ℕ, Bool, true, List, Option, Some, None, option_map}
 use Rattle.rv_words.specs.{Asked.Asked, Asked.prove, Asked.check, Asked.replay, Asked.make, Asked.tour, Words.command}
 use Rattle.rv_run.specs.{declared.words.Task.Task, declared.words.FileCommand.FileCommand, declared.words.Request.Request}
 use Rattle.rv_run.specs.declared.words.Task.TheVariants as task
 use Rattle.rv_run.specs.declared.words.Request.TheVariants as request
 
 -- What words ask for: the file of a source and the node in it, what is done with which document beside it, how many nodes the diagrams
--- and how many locations a left partition may have, and of how many calls a source is made and shown, or made and proved. Words that are
--- no command ask for nothing.
+-- and how many locations a left partition may have, whether loops are accelerated, and of how many calls a source is made and shown, or made
+-- and proved. Words that are no command ask for nothing.
 pub record Wanted : Type 0 where
   pub named : Option (List ℕ × List ℕ)
   pub beside : Option (Task × List ℕ)
   pub nodes : ℕ
   pub locations : ℕ
+  pub accelerate : Bool
   pub made : Option ℕ
   pub toured : Option ℕ
 
@@ -25,12 +26,21 @@ abbrev pub usual_locations : ℕ
 usual_locations = 256
 
 abbrev pub wanted_of : Option Asked → Wanted
-wanted_of None = record { named = None; beside = None; nodes = usual_nodes; locations = usual_locations; made = None; toured = None }
+wanted_of None = record {
+  named = None;
+  beside = None;
+  nodes = usual_nodes;
+  locations = usual_locations;
+  accelerate = true;
+  made = None;
+  toured = None;
+}
 wanted_of (Some (prove file node nodes locations accelerate)) = record {
   named = Some (file, node);
   beside = None;
   nodes = nodes;
   locations = locations;
+  accelerate = accelerate;
   made = None;
   toured = None;
 }
@@ -39,6 +49,7 @@ wanted_of (Some (check file node invariant nodes)) = record {
   beside = Some (task.Check, invariant);
   nodes = nodes;
   locations = usual_locations;
+  accelerate = true;
   made = None;
   toured = None;
 }
@@ -47,11 +58,28 @@ wanted_of (Some (replay file node trace)) = record {
   beside = Some (task.Replay, trace);
   nodes = usual_nodes;
   locations = usual_locations;
+  accelerate = true;
   made = None;
   toured = None;
 }
-wanted_of (Some (make n)) = record { named = None; beside = None; nodes = usual_nodes; locations = usual_locations; made = Some n; toured = None }
-wanted_of (Some (tour n)) = record { named = None; beside = None; nodes = usual_nodes; locations = usual_locations; made = None; toured = Some n }
+wanted_of (Some (make n)) = record {
+  named = None;
+  beside = None;
+  nodes = usual_nodes;
+  locations = usual_locations;
+  accelerate = true;
+  made = Some n;
+  toured = None;
+}
+wanted_of (Some (tour n)) = record {
+  named = None;
+  beside = None;
+  nodes = usual_nodes;
+  locations = usual_locations;
+  accelerate = true;
+  made = None;
+  toured = Some n;
+}
 
 -- What these words ask for.
 abbrev pub wanted : List (List ℕ) → Wanted
@@ -68,6 +96,7 @@ wanted_on_file c = record {
   beside = option_map (λ b. (b.task, b.file.now)) c.beside;
   nodes = c.nodes;
   locations = c.locations;
+  accelerate = c.accelerate;
   made = None;
   toured = None;
 }

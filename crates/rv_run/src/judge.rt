@@ -16,6 +16,7 @@ ghost use Rattle.rv_proofs.specs.Accepted.{IsAccepted};
 ghost use Rattle.rv_proofs.specs.Left.{IsLeftPartition, IsLeftReport};
 ghost use Rattle.rv_proofs.specs.Ranges.{IsControlSet};
 ghost use Rattle.rv_proofs.specs.Boxes.{HasGoodBox};
+ghost use Rattle.rv_walk.specs.Plain.{ArePlain};
 ghost use Rattle.rv_source.specs.Numbers.{HasSmallNumbers};
 ghost use Rattle.rv_reading.specs.Read.{flat_of, system_read, diagrams_of, IsRead};
 ghost use Rattle.rv_open.specs.Columns.{HasNoColumns, AreLeastBadLayers};
@@ -25,7 +26,7 @@ ghost use Rattle.rv_replay.specs.Traces.{IsTrace};
 ghost use Rattle.rv_base.specs.declared.value.Trace.{Trace as TraceModel};
 ghost use Rattle.rv_run.specs.Programs.{HasGood, HasManyVariables, IsUndecided, LacksProbe};
 ghost use Rattle.rv_run.specs.Judged.{IsControlSystem, IsKnown};
-ghost use Rattle.rv_run.specs.Verdicts.{IsProbe, IsTraced, IsVerdictOf};
+ghost use Rattle.rv_run.specs.Verdicts.{IsPlainVerdict, IsProbe, IsTraced, IsVerdictOf};
 
 use crate::verdict::Verdict;
 use rv_base::{Memory, Trace};
@@ -55,13 +56,15 @@ const FEW_TESTS: usize = 8;
 /// certificate and its document where it is safe, and else a shortest trace that falsifies it with its document, or the probe where its
 /// diagrams would have more nodes than they may. One with integers has the probe where there is one, else a certificate wherever some
 /// closed box claim or row claim is good, and else a certificate, a trace or what is left with its document, as they are found: a left partition,
-/// which may have so many locations. Nodes comes only where no probe falsifies, and the source has many diagram variables for the number of nodes that
-/// the diagrams may have. Names are letters, digits and `_`, and literals and constants at most 2^40 + 1, as in the tree of each text.
+/// which may have so many locations. The certificate has no loops where these are not to be accelerated. Nodes comes only where no probe
+/// falsifies, and the source has many diagram variables for the number of nodes that the diagrams may have. Names are letters, digits and
+/// `_`, and literals and constants at most 2^40 + 1, as in the tree of each text.
 pub fn judge(
     alloc: Global,
     source: &Source,
     nodes: u32,
     locations: u32,
+    accelerate: bool,
 ) -> Result<Verdict, StoreFault>
     requires limit { nodes ≤ 33554432 }
     requires least { 1 ≤ locations }
@@ -74,14 +77,15 @@ pub fn judge(
         (name_at (program_tree source.now.program) source.now.typed.main) }
     ensures unprobed { IsErrOf result StoreFault.Nodes → LacksProbe (program_tree source.now.program)
         (name_at (program_tree source.now.program) source.now.typed.main) }
+    ensures no_loops { accelerate ≡ false → IfOk result IsPlainVerdict }
 {
     fitting_sources();
     well_formed_programs();
     runs_are_abstract();
     let flat = flatten(alloc, source)?;
     match probe(alloc, source, &flat)? {
-        Some(trace) => probed(alloc, source, &flat, trace, nodes, locations),
-        None => decided(alloc, source, &flat, nodes, locations),
+        Some(trace) => probed(alloc, source, &flat, trace, nodes, locations, accelerate),
+        None => decided(alloc, source, &flat, nodes, locations, accelerate),
     }
 }
 
@@ -93,6 +97,7 @@ fn probed(
     trace: Trace,
     nodes: u32,
     locations: u32,
+    accelerate: bool,
 ) -> Result<Verdict, StoreFault>
     requires limit { nodes ≤ 33554432 }
     requires least { 1 ≤ locations }
@@ -105,11 +110,12 @@ fn probed(
     ensures judged { IfOk result (λ v. IsVerdictOf nodes locations v (program_tree source.now.program)
         (name_at (program_tree source.now.program) source.now.typed.main)) }
     ensures decided { IsErrOf result StoreFault.Nodes → ⊥ }
+    ensures no_loops { accelerate ≡ false → IfOk result IsPlainVerdict }
 {
     control_is_a_system();
     claims_are_safe();
     if is_control(flat) {
-        return unless_shorter(alloc, source, flat, trace, nodes, locations);
+        return unless_shorter(alloc, source, flat, trace, nodes, locations, accelerate);
     }
     with_trace(alloc, source, flat, trace)
 }
@@ -122,6 +128,7 @@ fn unless_shorter(
     trace: Trace,
     nodes: u32,
     locations: u32,
+    accelerate: bool,
 ) -> Result<Verdict, StoreFault>
     requires limit { nodes ≤ 33554432 }
     requires least { 1 ≤ locations }
@@ -136,8 +143,9 @@ fn unless_shorter(
     ensures judged { IfOk result (λ v. IsVerdictOf nodes locations v (program_tree source.now.program)
         (name_at (program_tree source.now.program) source.now.typed.main)) }
     ensures decided { IsErrOf result StoreFault.Nodes → ⊥ }
+    ensures no_loops { accelerate ≡ false → IfOk result IsPlainVerdict }
 {
-    match decided(alloc, source, flat, nodes, locations) {
+    match decided(alloc, source, flat, nodes, locations, accelerate) {
         Ok(verdict) => Ok(verdict),
         Err(StoreFault::Nodes) => with_trace(alloc, source, flat, trace),
         Err(StoreFault::Memory) => Err(StoreFault::Memory),
@@ -156,6 +164,7 @@ fn with_trace(
     requires trace { IsTrace (program_tree source.now.program) (name_at (program_tree source.now.program) source.now.typed.main) trace }
     ensures traced { IfOk result (IsTraced trace (program_tree source.now.program) (name_at (program_tree source.now.program) source.now.typed.main)) }
     ensures memory { IsErrOf result StoreFault.Nodes → ⊥ }
+    ensures no_loops { IfOk result IsPlainVerdict }
 {
     fitting_sources();
     told_systems();
@@ -173,6 +182,7 @@ fn in_room(
     flat: &Flat,
     nodes: u32,
     locations: u32,
+    accelerate: bool,
 ) -> Result<Verdict, StoreFault>
     requires limit { nodes ≤ 33554432 }
     requires least { 1 ≤ locations }
@@ -185,11 +195,19 @@ fn in_room(
     ensures judged { IfOk result (λ v. IsVerdictOf nodes locations v (program_tree source.now.program)
         (name_at (program_tree source.now.program) source.now.typed.main)) }
     ensures wide { IsErrOf result StoreFault.Nodes → nodes < 2 ^ (2 ^ length flat.now.variables) }
+    ensures no_loops { accelerate ≡ false → IfOk result IsPlainVerdict }
 {
     let mut reading = Reading::new(alloc, flat, nodes)?;
     match box_pass(alloc, &mut reading)? {
         BoxEnd::Good(certificate) => safe(alloc, source, flat, certificate),
-        BoxEnd::Bad(layers) => not_good(alloc, source, &mut reading, &layers, locations),
+        BoxEnd::Bad(layers) => not_good(
+            alloc,
+            source,
+            &mut reading,
+            &layers,
+            locations,
+            accelerate,
+        ),
     }
 }
 
@@ -201,6 +219,7 @@ fn decided(
     flat: &Flat,
     nodes: u32,
     locations: u32,
+    accelerate: bool,
 ) -> Result<Verdict, StoreFault>
     requires limit { nodes ≤ 33554432 }
     requires least { 1 ≤ locations }
@@ -213,8 +232,9 @@ fn decided(
     ensures judged { IfOk result (λ v. IsVerdictOf nodes locations v (program_tree source.now.program)
         (name_at (program_tree source.now.program) source.now.typed.main)) }
     ensures wide { IsErrOf result StoreFault.Nodes → nodes < 2 ^ (2 ^ length flat.now.variables) }
+    ensures no_loops { accelerate ≡ false → IfOk result IsPlainVerdict }
 {
-    match in_room(alloc, source, flat, nodes, locations) {
+    match in_room(alloc, source, flat, nodes, locations, accelerate) {
         Ok(verdict) => Ok(verdict),
         Err(StoreFault::Memory) => Err(StoreFault::Memory),
         Err(StoreFault::Nodes) => outgrown(alloc, source, flat),
@@ -229,6 +249,7 @@ fn outgrown(alloc: Global, source: &Source, flat: &Flat) -> Result<Verdict, Stor
         → IsControlSystem flat.now }
     ensures judged { (nodes limit : ℕ) → IfOk result (λ v. IsVerdictOf nodes limit v (program_tree source.now.program)
         (name_at (program_tree source.now.program) source.now.typed.main)) }
+    ensures no_loops { IfOk result IsPlainVerdict }
 {
     if is_control(flat) {
         return Err(StoreFault::Nodes);
@@ -252,6 +273,7 @@ fn safe(
     ensures judged { (nodes limit : ℕ) → IfOk result (λ v. IsVerdictOf nodes limit v (program_tree source.now.program)
         (name_at (program_tree source.now.program) source.now.typed.main)) }
     ensures memory { IsErrOf result StoreFault.Nodes → ⊥ }
+    ensures no_loops { ArePlain certificate → IfOk result IsPlainVerdict }
 {
     fitting_sources();
     certificates_are_safe();
@@ -268,6 +290,7 @@ fn not_good(
     reading: &mut Reading,
     layers: &Layers,
     locations: u32,
+    accelerate: bool,
 ) -> Result<Verdict, StoreFault>
     requires least { 1 ≤ locations }
     requires most { locations ≤ 4096 }
@@ -283,6 +306,7 @@ fn not_good(
     ensures judged { (nodes : ℕ) → IfOk result (λ v. IsVerdictOf nodes locations v (program_tree source.now.program)
         (name_at (program_tree source.now.program) source.now.typed.main)) }
     ensures wide { IsErrOf result StoreFault.Nodes → (diagrams_of reading.old).limit < 2 ^ (2 ^ (diagrams_of reading.old).variables) }
+    ensures no_loops { accelerate ≡ false → IfOk result IsPlainVerdict }
 {
     let flat = reading.flat();
     if is_control(flat) {
@@ -290,24 +314,19 @@ fn not_good(
     }
     match early(alloc, source, flat)? {
         Some(trace) => hunted(alloc, source, flat, trace),
-        None => analysed(alloc, source, reading, layers, locations),
+        None => analysed(alloc, source, reading, layers, locations, accelerate),
     }
 }
 
 /// Whether a flat system has so many order tests that a hunt comes before the analysis.
 fn is_wide(flat: &Flat) -> bool {
-    let mut tests = 0;
+    let mut tests: usize = 0;
     for bit in flat.variables.as_slice() {
         if let Bit::Test(_, _) = bit {
-            tests = saturating(tests);
+            tests = tests.saturating_add(1);
         }
     }
     tests > FEW_TESTS
-}
-
-/// The number after this one.
-fn saturating(number: usize) -> usize {
-    number.saturating_add(1)
 }
 
 /// A trace that falsifies a source, by a hunt of so many instants, or none, which promises nothing.
@@ -342,6 +361,7 @@ fn hunted(alloc: Global, source: &Source, flat: &Flat, trace: Trace) -> Result<V
     ensures judged { (nodes limit : ℕ) → IfOk result (λ v. IsVerdictOf nodes limit v (program_tree source.now.program)
         (name_at (program_tree source.now.program) source.now.typed.main)) }
     ensures memory { IsErrOf result StoreFault.Nodes → ⊥ }
+    ensures no_loops { IfOk result IsPlainVerdict }
 {
     control_is_a_system();
     claims_are_safe();
@@ -355,6 +375,7 @@ fn analysed(
     reading: &mut Reading,
     layers: &Layers,
     locations: u32,
+    accelerate: bool,
 ) -> Result<Verdict, StoreFault>
     requires least { 1 ≤ locations }
     requires most { locations ≤ 4096 }
@@ -370,10 +391,11 @@ fn analysed(
     ensures judged { (nodes : ℕ) → IfOk result (λ v. IsVerdictOf nodes locations v (program_tree source.now.program)
         (name_at (program_tree source.now.program) source.now.typed.main)) }
     ensures wide { IsErrOf result StoreFault.Nodes → (diagrams_of reading.old).limit < 2 ^ (2 ^ (diagrams_of reading.old).variables) }
+    ensures no_loops { accelerate ≡ false → IfOk result IsPlainVerdict }
 {
     let options = Options {
         locations,
-        accelerate: true,
+        accelerate,
     };
     let end = analyse(alloc, reading, layers, &options)?;
     let system = reading.flat();
@@ -403,6 +425,7 @@ fn searched(
     ensures judged { (nodes limit : ℕ) → IsLeftReport (system_read reading.old) limit left
         → IfOk result (λ v. IsVerdictOf nodes limit v (program_tree source.now.program) (name_at (program_tree source.now.program) source.now.typed.main)) }
     ensures wide { IsErrOf result StoreFault.Nodes → (diagrams_of reading.old).limit < 2 ^ (2 ^ (diagrams_of reading.old).variables) }
+    ensures no_loops { IfOk result IsPlainVerdict }
 {
     let found = find(alloc, reading, source, layers)?;
     let flat = reading.flat();
@@ -429,6 +452,7 @@ fn late(
     ensures judged { (nodes limit : ℕ) → IsLeftReport (control_of flat.now) limit left
         → IfOk result (λ v. IsVerdictOf nodes limit v (program_tree source.now.program) (name_at (program_tree source.now.program) source.now.typed.main)) }
     ensures memory { IsErrOf result StoreFault.Nodes → ⊥ }
+    ensures no_loops { IfOk result IsPlainVerdict }
 {
     match chased(alloc, source, flat, MANY_STEPS)? {
         Some(trace) => hunted(alloc, source, flat, trace),
@@ -450,6 +474,7 @@ fn undecided(
     ensures judged { (nodes limit : ℕ) → IsLeftReport (control_of flat.now) limit left
         → IfOk result (λ v. IsVerdictOf nodes limit v (program_tree source.now.program) (name_at (program_tree source.now.program) source.now.typed.main)) }
     ensures memory { IsErrOf result StoreFault.Nodes → ⊥ }
+    ensures no_loops { IfOk result IsPlainVerdict }
 {
     fitting_sources();
     told_systems();
@@ -474,6 +499,7 @@ fn violated(
     ensures judged { (nodes limit : ℕ) → IfOk result (λ v. IsVerdictOf nodes limit v (program_tree source.now.program)
         (name_at (program_tree source.now.program) source.now.typed.main)) }
     ensures wide { IsErrOf result StoreFault.Nodes → (diagrams_of reading.old).limit < 2 ^ (2 ^ (diagrams_of reading.old).variables) }
+    ensures no_loops { IfOk result IsPlainVerdict }
 {
     control_is_a_system();
     claims_are_safe();

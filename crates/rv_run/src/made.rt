@@ -55,6 +55,7 @@ pub fn report_on_tour(alloc: Global, n: u32) -> Report
         "main",
         USUAL_NODES,
         USUAL_LOCATIONS,
+        true,
     );
     match report {
         Report::Safe(certificate) => Report::Toured {

@@ -1,10 +1,11 @@
 //! The report on the bytes of a source.
 
-ghost use Rattle.std.specs.Prelude.{◌≡◌, ◌≤◌, ℕ, length, Result};
+ghost use Rattle.std.specs.Prelude.{◌≡◌, ◌≤◌, ℕ, false, length, Result};
 ghost use Rattle.rv_base.specs.declared.value.Trace.{Trace as TraceModel};
 ghost use Rattle.rv_source.specs.declared.fault.SourceFault.{SourceFault as FaultModel};
 ghost use Rattle.rv_meaning.specs.Runs.{IsSafe};
 ghost use Rattle.rv_proofs.specs.declared.certificate.Certificate.{Certificate as CertificateModel};
+ghost use Rattle.rv_walk.specs.Plain.{ArePlain};
 ghost use Rattle.rv_proofs.specs.declared.report.LeftReport.{LeftReport as LeftModel};
 ghost use Rattle.rv_run.specs.Answers.{IsOnSource, IsSafeUnlessCutOff, IsJudgedUnlessLimited, IsViolatedUnlessCutOff, IsViolatedUnlessUnread};
 ghost use Rattle.rv_run.specs.Answers.{IsRefusalUnlessCutOff};
@@ -30,14 +31,16 @@ use std::alloc::Global;
 /// claim or row claim is good. A source without integer flows has a good claim exactly where it is safe, and is else Violated, with a
 /// shortest trace that falsifies it, or a probe where its diagrams outgrow their limit. One with integer flows of which neither is so is
 /// Safe with another certificate, Violated with a trace that its replay confirms, or Unknown with what is left, as they are found: a left
-/// partition, of as many locations as there may be, or whose left locations have one control state each. Nodes comes only where no probe
-/// falsifies and it has many diagram variables for the number of nodes that the diagrams may have.
+/// partition, of as many locations as there may be, or whose left locations have one control state each. The certificate has no loops where these
+/// are not to be accelerated. Nodes comes only where no probe falsifies and it has many diagram variables for the number of nodes that the
+/// diagrams may have.
 pub fn report_on_source(
     alloc: Global,
     bytes: &[u8],
     node: &str,
     nodes: u32,
     locations: u32,
+    accelerate: bool,
 ) -> Answer
     requires short { length bytes.now ≤ SOURCE_LIMIT }
     requires limit { nodes ≤ 33554432 }
@@ -46,6 +49,7 @@ pub fn report_on_source(
     ensures safe { (c : CertificateModel) → result.report ≡ Report.Safe c → OnProgram (WithRuns IsSafe) bytes.now node.now }
     ensures certified { (c : CertificateModel) → result.report ≡ Report.Safe c → OnProgram (IsCertified c) bytes.now node.now }
     ensures invariant { (c : CertificateModel) → result.report ≡ Report.Safe c → OnProgram (IsInvariantOf c result.document.items) bytes.now node.now }
+    ensures plain { (c : CertificateModel) → result.report ≡ Report.Safe c → accelerate ≡ false → ArePlain c }
     ensures violated { (t : TraceModel) → result.report ≡ Report.Violated t → OnProgram (WithRuns (IsViolated nodes t)) bytes.now node.now }
     ensures document { (t : TraceModel) → result.report ≡ Report.Violated t → OnProgram (IsDocumentOf t result.document.items) bytes.now node.now }
     ensures unknown { (l : LeftModel) → result.report ≡ Report.Unknown l → OnProgram (WithRuns (IsUnknown locations l)) bytes.now node.now }
@@ -70,7 +74,11 @@ pub fn report_on_source(
     alike_names();
     alike_systems();
     match read_source(alloc, bytes, node) {
-        Ok(source) => on_verdict(alloc, judge(alloc, &source, nodes, locations), nodes),
+        Ok(source) => on_verdict(
+            alloc,
+            judge(alloc, &source, nodes, locations, accelerate),
+            nodes,
+        ),
         Err(fault) => Answer {
             report: refusal(fault),
             document: Vec::new(alloc),

@@ -1,6 +1,6 @@
 //! The top call: from the words to the report, which is shown.
 
-ghost use Rattle.std.specs.Prelude.{◌≡◌, ◌+◌, ◌<◌, ◌≤◌, ◌⊎◌, IsTrue, List, length, ℕ, codes, None, Some};
+ghost use Rattle.std.specs.Prelude.{◌≡◌, ◌+◌, ◌<◌, ◌≤◌, ◌⊎◌, IsTrue, List, length, ℕ, codes, false, None, Some};
 ghost use Rattle.std.specs.Io.KnownBytes.{Appends, Keeps};
 ghost use Rattle.rv_base.specs.Causes.{Rose, raised};
 ghost use Rattle.rv_base.specs.Shelf.{HoldsUnder};
@@ -11,6 +11,7 @@ ghost use Rattle.rv_invfile.specs.declared.fault.FileFault.{FileFault};
 ghost use Rattle.rv_meaning.specs.Runs.{IsSafe};
 ghost use Rattle.rv_proofs.specs.declared.certificate.Certificate.{Certificate as CertificateModel};
 ghost use Rattle.rv_proofs.specs.declared.report.LeftReport.{LeftReport as LeftModel};
+ghost use Rattle.rv_walk.specs.Plain.{ArePlain};
 ghost use Rattle.rv_replay.specs.Replays.{FailsAt, IsFalsifiedAt, NeverEnds, OutgrowsAt};
 ghost use Rattle.rv_run.specs.declared.report.Report.{Report as ReportModel};
 ghost use Rattle.rv_words.specs.Words.{texts, command};
@@ -167,6 +168,7 @@ fn report_on_file<F: Files>(alloc: Global, command: FileCommand, files: &mut F) 
             command.node,
             command.nodes,
             command.locations,
+            command.accelerate,
         ),
         Some(other) => Answer {
             report: report_on_document(alloc, &source, command.node, command.nodes, other, files),
@@ -246,8 +248,8 @@ fn show<S: Sink>(alloc: Global, answer: &Answer, out: &mut S) -> Sent
 /// `prove FILE NODE` answers Safe, Violated or Unknown on the source under FILE and its node NODE, `replay FILE NODE TRACE` what the
 /// trace under TRACE does to it, and `check FILE NODE INVARIANT` whether the invariant file under INVARIANT is accepted for it. `make N`
 /// answers the text of a source with N calls after one another, and `tour N` that this source is safe. The option `--nodes` says how many
-/// nodes the diagrams of `prove` and `check` may have, and `--locations` how many locations the partition of an Unknown report may have;
-/// `--accelerate` of `prove` is read, and changes nothing yet.
+/// nodes the diagrams of `prove` and `check` may have, `--locations` how many locations the partition of an Unknown report may have, and
+/// `--accelerate` whether the certificate of `prove` may have loops; without it, it may.
 /// Usage comes exactly where the words are none of these, as the definition of their command says, unless there is no memory to read
 /// them. ReadFault comes only where the files count one more fault, and Memory where there is no memory. The first step that refuses
 /// gives the report: no file is loaded where the words name none, the document only behind a source that is accepted, so a refused
@@ -280,6 +282,7 @@ pub fn run<F: Files, S: Sink>(
         → OnFile (F.held files.old) (wanted (texts words.now.items)) (OnProgram (WithRuns IsSafe)) }
     ensures certified { (c : CertificateModel) → result.report ≡ Report.Safe c
         → OnFile (F.held files.old) (wanted (texts words.now.items)) (OnProgram (IsCertified c)) }
+    ensures plain { (wanted (texts words.now.items)).accelerate ≡ false → (c : CertificateModel) → result.report ≡ Report.Safe c → ArePlain c }
     ensures violated { (t : TraceModel) → result.report ≡ Report.Violated t
         → OnFile (F.held files.old) (wanted (texts words.now.items)) (OnProgram (WithRuns (λ program main. IsFalsifying program main t))) }
     ensures origin { (t : TraceModel) → result.report ≡ Report.Violated t

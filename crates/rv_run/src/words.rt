@@ -38,6 +38,8 @@ pub struct FileCommand<'a> {
     pub nodes: u32,
     /// How many locations a left partition may have, where the node is to be proved.
     pub locations: u32,
+    /// Whether loops are accelerated, where the node is to be proved.
+    pub accelerate: bool,
     /// The document, none where the node is to be proved.
     pub beside: Option<Beside<'a>>,
 }
@@ -85,6 +87,7 @@ fn request_of<'a>(command: Command<'a>) -> Request<'a>
             node: p.node,
             nodes: p.nodes,
             locations: p.locations,
+            accelerate: p.accelerate,
             beside: None,
         }),
         Command::Check(c) => Request::File(FileCommand {
@@ -92,6 +95,7 @@ fn request_of<'a>(command: Command<'a>) -> Request<'a>
             node: c.node,
             nodes: c.nodes,
             locations: USUAL_LOCATIONS,
+            accelerate: true,
             beside: Some(Beside {
                 task: Task::Check,
                 file: c.invariant,
@@ -102,6 +106,7 @@ fn request_of<'a>(command: Command<'a>) -> Request<'a>
             node: r.node,
             nodes: USUAL_NODES,
             locations: USUAL_LOCATIONS,
+            accelerate: true,
             beside: Some(Beside {
                 task: Task::Replay,
                 file: r.trace,

@@ -1,25 +1,29 @@
-use Rattle.std.proofs.Common.{◌≡◌, false}
-use Rattle.rv_diagram.specs.Nodes.{Valuation}
-use Rattle.rv_proofs.specs.RowClaims.{IsRowTaken}
-use Rattle.rv_claims.specs.Claiming.{claim_of}
-use Rattle.rv_reading.proofs.Analysed.{claiming, not_good}
+use Rattle.std.proofs.Common.{false, sym, subst, Option}
+use Rattle.std.specs.Prelude.{IfSome}
+use Rattle.rv_proofs.specs.declared.certificate.Certificate.{Certificate}
+use Rattle.rv_reading.specs.Analysing.{IsCertified}
+use Rattle.rv_reading.proofs.Analysed.{given_there}
 use Rattle.rv_reading.proofs.analysis.by_rows.Goals as goal
 
-pub certify-requires : goal.certify-requires
-certify-requires c =
-    let (s, given, kept, least) = c.requires in (
-      s,
-      c.args.thresholds.now,
-      claiming s c.args.store.now c.args.relation.now c.args.questions.now c.args.thresholds.now given,
-      kept,
-      least.closed,
-      given.small,
-    )
+pub accelerated-requires : goal.accelerated-requires
+accelerated-requires c =
+    let (s, given, kept, least) = c.requires in
+    let plain : IsCertified s false c.in-Some.plain = subst (λ (o : Option Certificate). IfSome o (IsCertified s false)) c.in-Some.is
+    (c.in_ok-found.ensures.certified s given kept least) in
+    record {
+      given = (
+        s,
+        c.args.thresholds.now,
+        given_there s c.args.store.now c.plain_by_rows.new.store c.args.relation.now c.args.questions.now c.args.thresholds.now c.plain_by_rows.ensures.same
+            given,
+        plain.accepted,
+      );
+    }
 
-pub returns-in_ok-found-in-None-clause-claims : goal.returns-in_ok-found-in-None-clause-claims
-returns-in_ok-found-in-None-clause-claims c = λ s given kept least has.
-    let own = claiming s c.args.store.now c.args.relation.now c.args.questions.now c.args.thresholds.now given in
-    let bad : (v : Valuation) × IsRowTaken s (claim_of c.args.claim.now) v × (s.observer v ≡ false) = rw c.in-None.is at
-    c.in_ok-certificate.ensures.bad s c.args.thresholds.now own kept least.closed given.small in
-    absurd (not_good s c.args.thresholds.now (claim_of c.args.claim.now) least
-    (c.tighter_row_claims.ensures.good s c.args.thresholds.now (claim_of c.args.claim.now) least) bad has)
+pub returns-in_ok-certificate-in-Some-clause-certified : goal.returns-in_ok-certificate-in-Some-clause-certified
+returns-in_ok-certificate-in-Some-clause-certified c = λ s given kept least.
+    let plain : IsCertified s false c.in-Some.plain = subst (λ (o : Option Certificate). IfSome o (IsCertified s false)) c.in-Some.is
+    (c.in_ok-found.ensures.certified s given kept least) in
+    c.in_ok-certificate-in-Some.ensures.certified s c.args.thresholds.now
+    (given_there s c.args.store.now c.plain_by_rows.new.store c.args.relation.now c.args.questions.now c.args.thresholds.now c.plain_by_rows.ensures.same given)
+    plain

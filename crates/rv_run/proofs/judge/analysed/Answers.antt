@@ -33,6 +33,9 @@ returns-in-Proved-clause-judged c = λ nodes. c.safe.ensures.judged nodes c.args
 pub returns-in-Proved-clause-wide : goal.returns-in-Proved-clause-wide
 returns-in-Proved-clause-wide c = λ nodes. absurd (c.safe.ensures.memory nodes)
 
+pub returns-in-Proved-clause-no_loops : goal.returns-in-Proved-clause-no_loops
+returns-in-Proved-clause-no_loops c = λ asked. c.safe.ensures.no_loops (c.in_ok-end.ensures.plain c.in-Proved.certificate (ap Ok c.in-Proved.is) asked)
+
 pub searched-requires-clause-known : goal.searched-requires-clause-known
 searched-requires-clause-known c =
     let p = program_tree c.args.source.now.program in

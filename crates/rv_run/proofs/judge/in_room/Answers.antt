@@ -63,5 +63,8 @@ not_good-requires-clause-sets c =
 pub returns-in-Good-clause-judged : goal.returns-in-Good-clause-judged
 returns-in-Good-clause-judged c = c.safe.ensures.judged c.args.nodes c.args.locations
 
+pub returns-in-Good-clause-no_loops : goal.returns-in-Good-clause-no_loops
+returns-in-Good-clause-no_loops c = λ asked. c.safe.ensures.no_loops (c.in_ok-certificate.ensures.plain c.in-Good.certificate (ap Ok c.in-Good.is))
+
 pub returns-clause-judged : goal.returns-clause-judged
 returns-clause-judged c = c.not_good.ensures.judged c.args.nodes

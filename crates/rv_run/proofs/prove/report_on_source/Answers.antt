@@ -6,8 +6,8 @@ use Rattle.rv_run.specs.Answers.{IsOnSource, IsRefusalUnlessCutOff, IsSafeUnless
 use Rattle.rv_run.specs.Programs.{OnProgram, WithRuns, HasGoodClaim, HasManyVariables, HasProbe, IsSafeControl, IsUnsafeControl, IsCertified, IsProgram}
 use Rattle.rv_run.specs.Programs.{IsUnknown, LacksGoodClaim, LacksProbe}
 use Rattle.rv_run.specs.Verdicts.{IsDocumentOf, IsInvariantOf, IsLeftOf, IsViolated}
-use Rattle.rv_run.proofs.Judged.{verdict-on_source, verdict-not_refused, said_safe, said_violated, said_unknown, said_nodes, said_unprobed, must_claim}
-use Rattle.rv_run.proofs.Judged.{must_probe, must_safe, must_violated, must_judged}
+use Rattle.rv_run.proofs.Judged.{verdict-on_source, verdict-not_refused, said_safe, said_plain, said_violated, said_unknown, said_nodes}
+use Rattle.rv_run.proofs.Judged.{said_unprobed, must_claim, must_probe, must_safe, must_violated, must_judged}
 use Rattle.rv_run.proofs.Reported.{refusal-not_safe, refusal-not_violated, refusal-not_unknown, refusal-not_nodes, refusal-on_source, refusal-refused}
 use Rattle.rv_run.proofs.Reported.{refused_accepted, refused_same, named, told, told_back}
 use Rattle.rv_run.proofs.{Claimed.one_claim, Claimed.one_probe, Judging.is_node, Judging.well, Judging.with_runs}
@@ -35,6 +35,7 @@ returns-in-Err c =
       safe = λ d h. absurd (refusal-not_safe fault d (sym is ∙ h));
       certified = λ d h. absurd (refusal-not_safe fault d (sym is ∙ h));
       invariant = λ d h. absurd (refusal-not_safe fault d (sym is ∙ h));
+      plain = λ d h asked. absurd (refusal-not_safe fault d (sym is ∙ h));
       violated = λ t h. absurd (refusal-not_violated fault t (sym is ∙ h));
       document = λ t h. absurd (refusal-not_violated fault t (sym is ∙ h));
       unknown = λ l h. absurd (refusal-not_unknown fault l (sym is ∙ h));
@@ -84,6 +85,7 @@ returns-in-Ok c =
       certified = λ d h. told bytes node s source (IsCertified d) (said_safe c.args.nodes c.args.locations p m r d judged (sym is ∙ h)).1;
       invariant = λ d h. told bytes node s source (IsInvariantOf d c.on_verdict.result.document.items)
           (subst (λ text. IsInvariantOf d text p m) (sym c.on_verdict.ensures.document) (said_safe c.args.nodes c.args.locations p m r d judged (sym is ∙ h)).2);
+      plain = λ d h asked. said_plain c.args.nodes r d (c.judge.ensures.no_loops asked) (sym is ∙ h);
       violated = λ t h. told bytes node s source (WithRuns (IsViolated c.args.nodes t))
           (runs (IsViolated c.args.nodes t) (said_violated c.args.nodes c.args.locations p m r t judged (sym is ∙ h)).0);
       document = λ t h. told bytes node s source (IsDocumentOf t c.on_verdict.result.document.items)

@@ -1,4 +1,4 @@
-use Rattle.std.proofs.Common.{◌≤◌, ◌<◌, ◌+◌, ◌⊎◌, ℕ, List, length, ap, subst, sym, ◌≡◌, None, Some}
+use Rattle.std.proofs.Common.{◌≤◌, ◌<◌, ◌+◌, ◌⊎◌, ℕ, false, List, length, ap, subst, sym, ◌≡◌, None, Some}
 use Rattle.std.specs.{Prelude.String, Global.Global}
 use Rattle.rv_replay.specs.Replays.{FailsAt, IsFalsifiedAt, NeverEnds, OutgrowsAt}
 use Rattle.rv_make.specs.Made.{made_text}
@@ -222,6 +222,11 @@ pub returns-clause-safe : goal.returns-clause-safe
 returns-clause-safe g c = λ d h.
     subst (λ (ws : List (String Global)). OnFile (g.F.Files.held c.args.files.now) (wanted (texts ws)) (OnProgram (WithRuns IsSafe)))
     c.as_slice.ensures.value (c.report_on-answer.ensures.replies.safe d h)
+
+pub returns-clause-plain : goal.returns-clause-plain
+returns-clause-plain g c = λ asked d h.
+    c.report_on-answer.ensures.replies.plain d h (subst (λ (ws : List (String Global)). (wanted (texts ws)).accelerate ≡ false) (sym c.as_slice.ensures.value)
+    asked)
 
 pub returns-clause-certified : goal.returns-clause-certified
 returns-clause-certified g c = λ d h.

@@ -21,7 +21,7 @@ returns-clause-proved c = λ x is.
     let r = c.args.self.now in
     let given = is_analysed r c.as_slice-thresholds.result.now c.requires.read
     (subst (λ (ts : List ℤ). All (λ t. unsigned_abs t ≤ 2 ^ 41) ts) (sym c.as_slice-thresholds.ensures) c.requires.thresholds) in
-    let end = of_value (IsAnalysisOf (system_read r) c.args.locations) c.analysed.result (Proved x) (c.analysed.ensures.end (system_read r) given) is in
+    let end = of_value (IsAnalysisOf (system_read r) c.args.locations c.args.accelerate) c.analysed.result (Proved x) (c.analysed.ensures.end (system_read r) given) is in
     end.accepted
 
 pub returns-clause-plain : goal.returns-clause-plain
@@ -29,7 +29,7 @@ returns-clause-plain c = λ x is.
     let r = c.args.self.now in
     let given = is_analysed r c.as_slice-thresholds.result.now c.requires.read
     (subst (λ (ts : List ℤ). All (λ t. unsigned_abs t ≤ 2 ^ 41) ts) (sym c.as_slice-thresholds.ensures) c.requires.thresholds) in
-    let end = of_value (IsAnalysisOf (system_read r) c.args.locations) c.analysed.result (Proved x) (c.analysed.ensures.end (system_read r) given) is in
+    let end = of_value (IsAnalysisOf (system_read r) c.args.locations c.args.accelerate) c.analysed.result (Proved x) (c.analysed.ensures.end (system_read r) given) is in
     end.plain
 
 pub returns-clause-left : goal.returns-clause-left
@@ -37,7 +37,7 @@ returns-clause-left c = λ x is.
     let r = c.args.self.now in
     let given = is_analysed r c.as_slice-thresholds.result.now c.requires.read
     (subst (λ (ts : List ℤ). All (λ t. unsigned_abs t ≤ 2 ^ 41) ts) (sym c.as_slice-thresholds.ensures) c.requires.thresholds) in
-    let end = of_value (IsAnalysisOf (system_read r) c.args.locations) c.analysed.result (Left x) (c.analysed.ensures.end (system_read r) given) is in
+    let end = of_value (IsAnalysisOf (system_read r) c.args.locations c.args.accelerate) c.analysed.result (Left x) (c.analysed.ensures.end (system_read r) given) is in
     end.0
 
 pub returns-clause-plain_left : goal.returns-clause-plain_left
@@ -45,7 +45,7 @@ returns-clause-plain_left c = λ x is.
     let r = c.args.self.now in
     let given = is_analysed r c.as_slice-thresholds.result.now c.requires.read
     (subst (λ (ts : List ℤ). All (λ t. unsigned_abs t ≤ 2 ^ 41) ts) (sym c.as_slice-thresholds.ensures) c.requires.thresholds) in
-    let end = of_value (IsAnalysisOf (system_read r) c.args.locations) c.analysed.result (Left x) (c.analysed.ensures.end (system_read r) given) is in
+    let end = of_value (IsAnalysisOf (system_read r) c.args.locations c.args.accelerate) c.analysed.result (Left x) (c.analysed.ensures.end (system_read r) given) is in
     end.1
 
 pub returns-clause-claims : goal.returns-clause-claims
