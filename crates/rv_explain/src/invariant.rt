@@ -2,6 +2,7 @@
 
 ghost use Rattle.std.specs.Prelude.{◌≤◌, length};
 
+use crate::badfile::file_fault;
 use crate::cover::cover_of;
 use crate::formula::{MOST_PARTS, Scene, put_formula};
 use crate::known::Known;
@@ -10,7 +11,7 @@ use crate::regions::Region;
 use crate::request::Answer;
 use crate::rows::row_texts;
 use crate::table::put_wrapped;
-use crate::trace::{Told, file_fault};
+use crate::trace::Told;
 use crate::vocabulary::Vocabulary;
 use rv_base::{Many, Memory};
 use rv_flat::Flat;

@@ -2,6 +2,7 @@
 
 ghost use Rattle.std.specs.Prelude.{◌≤◌, length};
 
+use crate::badfile::file_fault;
 use crate::duties::duty_of;
 use crate::explaining::DOCUMENT_LIMIT;
 use crate::formula::{Scene, put_region};
@@ -12,7 +13,7 @@ use crate::regions::Region;
 use crate::request::Answer;
 use crate::rows::row_texts;
 use crate::table::put_wrapped;
-use crate::trace::{Told, file_fault};
+use crate::trace::Told;
 use rv_base::{Many, Memory};
 use rv_flat::{Bit, Flat};
 use rv_flatten::flatten;

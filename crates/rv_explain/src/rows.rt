@@ -27,21 +27,52 @@ fn opposite(number: i128) -> i128 {
     number.checked_neg().unwrap_or(i128::MAX)
 }
 
-/// What a row says alone.
+/// The greatest number that divides two numbers. Each round halves one of them at least.
+fn common_divisor(one: u128, other: u128) -> u128 {
+    let mut greater = one.max(other);
+    let mut lesser = one.min(other);
+    for _ in 0..256 {
+        if lesser == 0 {
+            return greater;
+        }
+        let rest = greater % lesser;
+        greater = lesser;
+        lesser = rest;
+    }
+    1
+}
+
+/// The greatest number that divides all coefficients, and 1 where that is none of 1 to 2^127 - 1.
+fn divisor_of(coefficients: &[i128]) -> i128 {
+    let mut divisor: u128 = 0;
+    for coefficient in coefficients {
+        divisor = common_divisor(divisor, coefficient.unsigned_abs());
+    }
+    match i128::try_from(divisor) {
+        Ok(divisor) => divisor.max(1),
+        Err(_) => 1,
+    }
+}
+
+/// A number divided by a positive one, and rounded down.
+fn divided(number: i128, by: i128) -> i128 {
+    number.checked_div_euclid(by).unwrap_or(number)
+}
+
+/// What a row says alone, divided by what divides all its coefficients: of integers a sum that is at most 7 by twos is at most 3.
 fn said_by(alloc: Global, row: &Row) -> Result<Bounded, Memory> {
     let is_turned = is_turned(row.coefficients.as_slice());
+    let by = divisor_of(row.coefficients.as_slice());
     let mut coefficients = Vec::new(alloc);
     for coefficient in row.coefficients.as_slice() {
-        coefficients.push(if is_turned {
-            opposite(*coefficient)
-        } else {
-            *coefficient
-        })?;
+        let own = divided(*coefficient, by);
+        coefficients.push(if is_turned { opposite(own) } else { own })?;
     }
+    let bound = divided(row.bound, by);
     let (least, greatest) = if is_turned {
-        (Some(opposite(row.bound)), None)
+        (Some(opposite(bound)), None)
     } else {
-        (None, Some(row.bound))
+        (None, Some(bound))
     };
     Ok(Bounded {
         coefficients,
