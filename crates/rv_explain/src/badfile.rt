@@ -1,4 +1,4 @@
-//! Sentences on documents that are refused.
+//! Sentences on documents that are refused, and on diagrams that outgrow their limit.
 
 use crate::lines::put_shown;
 use crate::record::{Record, first_of};
@@ -12,30 +12,25 @@ use std::alloc::Global;
 /// An answer that a document is refused, and why.
 pub fn file_fault(alloc: Global, fault: FileFault) -> Result<Answer, Memory> {
     let mut text = String::from_str(alloc, "the document is refused")?;
-    put_fault(&mut text, fault)?;
+    put_fault(&mut text, fault, "")?;
     Ok(Answer::Refused(text))
 }
 
-/// Adds where a document is refused, and why.
-fn put_fault(text: &mut String, fault: FileFault) -> Result<(), Memory> {
+/// Adds where a document is refused, with how records are counted, and why.
+fn put_fault(text: &mut String, fault: FileFault, counted: &str) -> Result<(), Memory> {
+    if let Some(record) = record_of(&fault) {
+        write!(text, " at record {record}{counted}")?;
+    }
     match fault {
         FileFault::Memory => return Err(Memory::Memory),
-        FileFault::NotRecords(record) => write!(
+        FileFault::NotRecords(_) => text.push_str(": it has bytes that no record has")?,
+        FileFault::WrongKind(_) => text.push_str(": another kind of record is awaited there")?,
+        FileFault::WrongProgram(_) => text.push_str(": it is of another program")?,
+        FileFault::BadNumber(_, field) => write!(
             text,
-            " at record {record}: it has bytes that no record has"
+            ": its field {field} has no value that may stand there"
         )?,
-        FileFault::WrongKind(record) => write!(
-            text,
-            " at record {record}: another kind of record is awaited there"
-        )?,
-        FileFault::WrongProgram(record) => {
-            write!(text, " at record {record}: it is of another program")?
-        }
-        FileFault::BadNumber(record, field) => {
-            write!(text, " at record {record}: ")?;
-            write!(text, "its field {field} has no value that may stand there")?;
-        }
-        FileFault::Ends(count) => { write!(text, ": it ends after {count} records, too early")? }
+        FileFault::Ends(count) => write!(text, ": it ends after {count} records, too early")?,
     }
     Ok(())
 }
@@ -86,10 +81,7 @@ pub fn bad_file_text(told: &Told, document: &[u8]) -> Result<Answer, Memory> {
     };
     let record = record_of(&fault);
     let mut sentence = String::from_str(alloc, "The document is refused")?;
-    put_fault(&mut sentence, fault)?;
-    if record.is_some() {
-        sentence.push_str(" (the first is record 0)")?;
-    }
+    put_fault(&mut sentence, fault, ", counted from 0")?;
     sentence.push('.')?;
     let mut text = String::new(alloc);
     put_wrapped(&mut text, 0, sentence.as_str())?;
@@ -99,8 +91,28 @@ pub fn bad_file_text(told: &Told, document: &[u8]) -> Result<Answer, Memory> {
     Ok(Answer::Explained(text))
 }
 
+/// The text on a line that the diagrams outgrow their limit.
+pub fn nodes_text(told: &Told, document: &[u8]) -> Result<Answer, Memory> {
+    let alloc = told.alloc;
+    let Some((line, _)) = first_of(document) else {
+        return unknown_line(alloc);
+    };
+    let Some(most) = Record::new(alloc, line)?.number(2) else {
+        return unknown_line(alloc);
+    };
+    let mut sentence = String::new(alloc);
+    write!(
+        sentence,
+        "Nothing is known: the decision diagrams of the program have more than {most} nodes. "
+    )?;
+    sentence.push_str("Allow more by `--nodes`, or observe less at once.")?;
+    let mut text = String::new(alloc);
+    put_wrapped(&mut text, 0, sentence.as_str())?;
+    Ok(Answer::Explained(text))
+}
+
 /// The line is none that is known.
 fn unknown_line(alloc: Global) -> Result<Answer, Memory> {
-    let why = "the line says of no document why it is refused";
+    let why = "the line is none that `reaver` prints";
     Ok(Answer::Refused(String::from_str(alloc, why)?))
 }

@@ -128,16 +128,13 @@ fn need_of(
     }
 }
 
-/// Whether an expression names a flow, as a value or as a clock.
+/// Whether an expression names a flow as a value.
 fn has_name(alloc: Global, e: &Expr, name: &str) -> Result<bool, Memory> {
     for part in parts(alloc, e)? {
-        let is_named = match &part.form {
-            ExprForm::Named(own) => own.as_str() == name,
-            ExprForm::When(_, clock) => clock.text.as_str() == name,
-            _ => false,
-        };
-        if is_named {
-            return Ok(true);
+        if let ExprForm::Named(own) = &part.form {
+            if own.as_str() == name {
+                return Ok(true);
+            }
         }
     }
     Ok(false)
@@ -169,8 +166,14 @@ fn put_flow(
 
 /// Adds what is wrong with flows that need each other so.
 fn put_sentence(text: &mut String, needs: &[Need]) -> Result<(), Memory> {
+    let is_clocked = needs.iter().any(|need| *need != Need::Value);
     if needs.len() == 1 {
-        text.push_str("this flow needs its own value at the same instant; a `pre` is missing")?;
+        text.push_str("this flow needs its own value at the same instant")?;
+        text.push_str(if is_clocked {
+            ", as a clock; another clock is wanted"
+        } else {
+            "; a `pre` is missing"
+        })?;
         return Ok(());
     }
     write!(
@@ -178,7 +181,6 @@ fn put_sentence(text: &mut String, needs: &[Need]) -> Result<(), Memory> {
         "{} flows need each other at the same instant",
         needs.len()
     )?;
-    let is_clocked = needs.iter().any(|need| *need != Need::Value);
     text.push_str(if is_clocked {
         ", by a clock too; a `pre` is missing, or another clock is wanted"
     } else {

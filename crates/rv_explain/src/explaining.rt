@@ -4,7 +4,7 @@ ghost use Rattle.std.specs.Prelude.{◌≤◌, length};
 ghost use Rattle.rv_tree.specs.Tree.{program_tree};
 ghost use Rattle.rv_tree.specs.Words.{HasPlainNames};
 
-use crate::badfile::bad_file_text;
+use crate::badfile::{bad_file_text, nodes_text};
 use crate::invariant::invariant_text;
 use crate::lines::Lines;
 use crate::names::Names;
@@ -101,6 +101,7 @@ fn explain_document(told: &Told, source: &Source, document: &[u8]) -> Result<Ans
         Kind::Rejected => rejected_text(told, source, document),
         Kind::Unknown => unknown_text(told, source, document),
         Kind::BadFile => bad_file_text(told, document),
+        Kind::Nodes => nodes_text(told, document),
         Kind::Verdict | Kind::Other => refused(told.alloc, OTHER_KIND),
     }
 }

@@ -170,6 +170,8 @@ pub enum Kind {
     Rejected,
     /// A line on a document that is refused.
     BadFile,
+    /// A line that the diagrams outgrow their limit.
+    Nodes,
     /// A line that was printed on a document.
     Verdict,
     /// Another one.
@@ -192,6 +194,7 @@ fn kind_named(word: &str) -> Kind {
         "unknown" => Kind::Unknown,
         "rejected" => Kind::Rejected,
         "badfile" => Kind::BadFile,
+        "nodes" => Kind::Nodes,
         "falsified" | "neverfalse" | "assertion" | "outgrown" | "accepted" => Kind::Verdict,
         _ => Kind::Other,
     }

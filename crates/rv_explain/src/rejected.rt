@@ -189,7 +189,7 @@ fn put_one_row(
 ) -> Result<(), Memory> {
     if let Some(row) = rows.get(number) {
         let names = scene.vocabulary.columns.as_slice();
-        for one in row_texts(scene.alloc, names, std::slice::from_ref(row))? {
+        for one in row_texts(scene.alloc, names, std::slice::from_ref(row), &[])? {
             put_wrapped(text, 2, one.as_str())?;
         }
     }

@@ -4,6 +4,9 @@ use rv_base::Memory;
 use rv_rows::Row;
 use std::alloc::Global;
 
+/// How many rows that are told elsewhere are looked through.
+const MOST_KNOWN: usize = 1_000;
+
 /// What rows say of one sum of columns, the first of which has a positive coefficient: its least and its greatest value.
 #[derive(Debug, Drop)]
 struct Bounded {
@@ -207,17 +210,109 @@ fn put_bounded(
     }
 }
 
-/// The texts of rows over columns of these names, those of one sum together.
-pub fn row_texts(alloc: Global, names: &[String], rows: &[Row]) -> Result<Vec<String>, Memory> {
+/// The number of the one column of which something is said; none where it is a sum of several, or none at all.
+fn only_column(coefficients: &[i128]) -> Option<usize> {
+    let number = coefficients.iter().position(|one| *one != 0)?;
+    let count = coefficients.iter().filter(|one| **one != 0).count();
+    if count == 1 { Some(number) } else { None }
+}
+
+/// What is said of a column alone: its least and its greatest value.
+#[derive(Clone, Copy, Debug)]
+struct Limits {
+    least: Option<i128>,
+    greatest: Option<i128>,
+}
+
+/// What is said of each of so many columns alone. The coefficient of a column that stands alone is 1, since it is divided by itself.
+fn limits_in(alloc: Global, all: &[Bounded], count: usize) -> Result<Vec<Limits>, Memory> {
+    let mut limits = Vec::new(alloc);
+    for _ in 0..count {
+        limits.push(Limits {
+            least: None,
+            greatest: None,
+        })?;
+    }
+    for one in all {
+        let column = only_column(one.coefficients.as_slice());
+        if let Some(place) = column.and_then(|column| limits.get_mut(column)) {
+            if one.coefficients.as_slice().contains(&1) {
+                place.least = one.least;
+                place.greatest = one.greatest;
+            }
+        }
+    }
+    Ok(limits)
+}
+
+/// The greatest value of a sum by what is said of each column alone, or its least value; none where there is none, or it is out of range.
+fn extreme_of(coefficients: &[i128], limits: &[Limits], is_greatest: bool) -> Option<i128> {
+    let mut sum: i128 = 0;
+    for (coefficient, own) in coefficients.iter().zip(limits) {
+        if *coefficient != 0 {
+            let limit = if (*coefficient > 0) == is_greatest {
+                own.greatest?
+            } else {
+                own.least?
+            };
+            sum = sum.checked_add(coefficient.checked_mul(limit)?)?;
+        }
+    }
+    Some(sum)
+}
+
+/// Leaves out what is said of a sum of several columns where what is said of each alone says it.
+fn leave_out(one: &mut Bounded, limits: &[Limits]) {
+    let count = one.coefficients.iter().filter(|one| **one != 0).count();
+    if count < 2 {
+        return;
+    }
+    if let (Some(bound), Some(most)) = (
+        one.greatest,
+        extreme_of(one.coefficients.as_slice(), limits, true),
+    ) {
+        if most <= bound {
+            one.greatest = None;
+        }
+    }
+    if let (Some(bound), Some(least)) = (
+        one.least,
+        extreme_of(one.coefficients.as_slice(), limits, false),
+    ) {
+        if bound <= least {
+            one.least = None;
+        }
+    }
+}
+
+/// Whether a row is among those that are told elsewhere, where these are not too many to be looked through.
+fn is_known(row: &Row, known: &[Row]) -> bool {
+    known.len() <= MOST_KNOWN && known.contains(row)
+}
+
+/// The texts of rows over columns of these names, without those that are told elsewhere, and those of one sum together. A row of several
+/// columns is left out where the rows of each column alone say it.
+pub fn row_texts(
+    alloc: Global,
+    names: &[String],
+    rows: &[Row],
+    known: &[Row],
+) -> Result<Vec<String>, Memory> {
     let mut all = Vec::new(alloc);
     for row in rows {
-        add(alloc, &mut all, row)?;
+        if !is_known(row, known) {
+            add(alloc, &mut all, row)?;
+        }
     }
+    let limits = limits_in(alloc, all.as_slice(), names.len())?;
     let mut texts = Vec::new(alloc);
-    for one in all.as_slice() {
-        let mut text = String::new(alloc);
-        put_bounded(alloc, &mut text, names, one)?;
-        texts.push(text)?;
+    for one in all.as_mut_slice() {
+        leave_out(one, limits.as_slice());
+        if one.least.is_some() || one.greatest.is_some() {
+            let mut text = String::new(alloc);
+            put_bounded(alloc, &mut text, names, one)?;
+            texts.push(text)?;
+        }
     }
     Ok(texts)
 }
