@@ -221,7 +221,8 @@ fn put_of_entry(
         put_point(scene, text, line.field(6), false)?;
     }
     text.push_str("The entry:\n")?;
-    put_entry(scene, text, 2, entry, own, &known_in(scene, location)?)?;
+    let known = known_in(scene, location)?.telling_all();
+    put_entry(scene, text, 2, entry, own, &known)?;
     put_premises(scene, text, location, entry, row)
 }
 

@@ -4,8 +4,11 @@ use rv_base::Memory;
 use rv_rows::Row;
 use std::alloc::Global;
 
-/// How many rows that are told elsewhere are looked through.
+/// How many rows that are told elsewhere are looked through, and how many rows there may be in which columns of one value are looked for.
 const MOST_KNOWN: usize = 1_000;
+
+/// How often columns that have one value are left out of the other rows.
+const ROUNDS: u32 = 4;
 
 /// What rows say of one sum of columns, the first of which has a positive coefficient: its least and its greatest value.
 #[derive(Debug, Drop)]
@@ -62,16 +65,17 @@ fn divided(number: i128, by: i128) -> i128 {
     number.checked_div_euclid(by).unwrap_or(number)
 }
 
-/// What a row says alone, divided by what divides all its coefficients: of integers a sum that is at most 7 by twos is at most 3.
-fn said_by(alloc: Global, row: &Row) -> Result<Bounded, Memory> {
-    let is_turned = is_turned(row.coefficients.as_slice());
-    let by = divisor_of(row.coefficients.as_slice());
+/// What it says alone that a sum of columns is at most a number, divided by what divides all coefficients: of integers a sum that is at most
+/// 7 by twos is at most 3.
+fn said_by(alloc: Global, sum: &[i128], most: i128) -> Result<Bounded, Memory> {
+    let is_turned = is_turned(sum);
+    let by = divisor_of(sum);
     let mut coefficients = Vec::new(alloc);
-    for coefficient in row.coefficients.as_slice() {
+    for coefficient in sum {
         let own = divided(*coefficient, by);
         coefficients.push(if is_turned { opposite(own) } else { own })?;
     }
-    let bound = divided(row.bound, by);
+    let bound = divided(most, by);
     let (least, greatest) = if is_turned {
         (Some(opposite(bound)), None)
     } else {
@@ -114,9 +118,9 @@ fn lesser(one: Option<i128>, other: Option<i128>) -> Option<i128> {
     }
 }
 
-/// Adds what a row says to what is said of the same sum, or beside it.
-fn add(alloc: Global, all: &mut Vec<Bounded>, row: &Row) -> Result<(), Memory> {
-    let one = said_by(alloc, row)?;
+/// Adds that a sum of columns is at most a number to what is said of the same sum, or beside it.
+fn add(alloc: Global, all: &mut Vec<Bounded>, sum: &[i128], most: i128) -> Result<(), Memory> {
+    let one = said_by(alloc, sum, most)?;
     if let Some(number) = same_sum(all.as_slice(), &one) {
         if let Some(place) = all.get_mut(number) {
             place.least = greater(place.least, one.least);
@@ -212,9 +216,11 @@ fn put_bounded(
 
 /// The number of the one column of which something is said; none where it is a sum of several, or none at all.
 fn only_column(coefficients: &[i128]) -> Option<usize> {
-    let number = coefficients.iter().position(|one| *one != 0)?;
-    let count = coefficients.iter().filter(|one| **one != 0).count();
-    if count == 1 { Some(number) } else { None }
+    if count_columns(coefficients) == 1 {
+        coefficients.iter().position(|one| *one != 0)
+    } else {
+        None
+    }
 }
 
 /// What is said of a column alone: its least and its greatest value.
@@ -261,27 +267,129 @@ fn extreme_of(coefficients: &[i128], limits: &[Limits], is_greatest: bool) -> Op
     Some(sum)
 }
 
-/// Leaves out what is said of a sum of several columns where what is said of each alone says it.
+/// How many columns a sum has.
+fn count_columns(coefficients: &[i128]) -> usize {
+    coefficients.iter().filter(|one| **one != 0).count()
+}
+
+/// The one value that a column has by what is said of it alone.
+fn value_in(limits: &Limits) -> Option<i128> {
+    match (limits.least, limits.greatest) {
+        (Some(least), Some(greatest)) => if least == greatest { Some(least) } else { None },
+        _ => None,
+    }
+}
+
+/// A sum without the columns that have one value, and what these add to it.
+#[derive(Drop)]
+struct Reduced {
+    coefficients: Vec<i128>,
+    constant: i128,
+}
+
+/// A sum without the columns that have one value; none where there are no such columns in it, or no others, or a number is out of range.
+fn reduced(alloc: Global, sum: &[i128], limits: &[Limits]) -> Result<Option<Reduced>, Memory> {
+    let mut coefficients = Vec::new(alloc);
+    let mut constant: i128 = 0;
+    let mut is_shorter = false;
+    for (coefficient, own) in sum.iter().zip(limits) {
+        match value_in(own) {
+            Some(value) => {
+                let added = coefficient.checked_mul(value);
+                let Some(next) = added.and_then(|added| constant.checked_add(added)) else {
+                    return Ok(None);
+                };
+                constant = next;
+                is_shorter = is_shorter || *coefficient != 0;
+                coefficients.push(0)?;
+            }
+            None => coefficients.push(*coefficient)?,
+        }
+    }
+    if is_shorter && count_columns(coefficients.as_slice()) > 0 {
+        Ok(Some(Reduced {
+            coefficients,
+            constant,
+        }))
+    } else {
+        Ok(None)
+    }
+}
+
+/// The coefficients of a sum with the other sign.
+fn turned(alloc: Global, sum: &[i128]) -> Result<Vec<i128>, Memory> {
+    let mut coefficients = Vec::new(alloc);
+    for coefficient in sum {
+        coefficients.push(opposite(*coefficient))?;
+    }
+    Ok(coefficients)
+}
+
+/// Adds what is said of a sum, so much less. What is out of range is left out, which it is in no rows of a file.
+fn add_bounded(
+    alloc: Global,
+    all: &mut Vec<Bounded>,
+    sum: &[i128],
+    one: &Bounded,
+    less: i128,
+) -> Result<(), Memory> {
+    if let Some(greatest) = one.greatest {
+        if let Some(most) = greatest.checked_sub(less) {
+            add(alloc, all, sum, most)?;
+        }
+    }
+    if let Some(least) = one.least {
+        if let Some(most) = less.checked_sub(least) {
+            add(alloc, all, turned(alloc, sum)?.as_slice(), most)?;
+        }
+    }
+    Ok(())
+}
+
+/// What is said of sums of so many columns, without those columns in them that have one value by what is said of them alone.
+fn settled(alloc: Global, all: &[Bounded], count: usize) -> Result<Vec<Bounded>, Memory> {
+    let limits = limits_in(alloc, all, count)?;
+    let mut next = Vec::new(alloc);
+    for one in all {
+        let sum = one.coefficients.as_slice();
+        let shorter = if count_columns(sum) < 2 {
+            None
+        } else {
+            reduced(alloc, sum, limits.as_slice())?
+        };
+        match shorter {
+            Some(shorter) => {
+                let sum = shorter.coefficients.as_slice();
+                add_bounded(alloc, &mut next, sum, one, shorter.constant)?;
+            }
+            None => add_bounded(alloc, &mut next, sum, one, 0)?,
+        }
+    }
+    Ok(next)
+}
+
+/// Leaves out what is said of a sum of several columns where what is said of each alone says it. An equality is left out whole or not.
 fn leave_out(one: &mut Bounded, limits: &[Limits]) {
-    let count = one.coefficients.iter().filter(|one| **one != 0).count();
-    if count < 2 {
+    let sum = one.coefficients.as_slice();
+    if count_columns(sum) < 2 {
         return;
     }
-    if let (Some(bound), Some(most)) = (
-        one.greatest,
-        extreme_of(one.coefficients.as_slice(), limits, true),
-    ) {
-        if most <= bound {
-            one.greatest = None;
-        }
+    let is_most = match (one.greatest, extreme_of(sum, limits, true)) {
+        (Some(bound), Some(most)) => most <= bound,
+        _ => false,
+    };
+    let is_least = match (one.least, extreme_of(sum, limits, false)) {
+        (Some(bound), Some(least)) => bound <= least,
+        _ => false,
+    };
+    if one.least == one.greatest && !(is_most && is_least) {
+        return;
     }
-    if let (Some(bound), Some(least)) = (
-        one.least,
-        extreme_of(one.coefficients.as_slice(), limits, false),
-    ) {
-        if bound <= least {
-            one.least = None;
-        }
+    if is_most {
+        one.greatest = None;
+    }
+    if is_least {
+        one.least = None;
     }
 }
 
@@ -290,8 +398,8 @@ fn is_known(row: &Row, known: &[Row]) -> bool {
     known.len() <= MOST_KNOWN && known.contains(row)
 }
 
-/// The texts of rows over columns of these names, without those that are told elsewhere, and those of one sum together. A row of several
-/// columns is left out where the rows of each column alone say it.
+/// The texts of rows over columns of these names, without those that are told elsewhere, and those of one sum together. A column that has one
+/// value stands in no other row, and a row of several columns is left out where the rows of each column alone say it.
 pub fn row_texts(
     alloc: Global,
     names: &[String],
@@ -301,7 +409,12 @@ pub fn row_texts(
     let mut all = Vec::new(alloc);
     for row in rows {
         if !is_known(row, known) {
-            add(alloc, &mut all, row)?;
+            add(alloc, &mut all, row.coefficients.as_slice(), row.bound)?;
+        }
+    }
+    if all.len() <= MOST_KNOWN {
+        for _ in 0..ROUNDS {
+            all = settled(alloc, all.as_slice(), names.len())?;
         }
     }
     let limits = limits_in(alloc, all.as_slice(), names.len())?;
