@@ -393,9 +393,27 @@ fn leave_out(one: &mut Bounded, limits: &[Limits]) {
     }
 }
 
-/// Whether a row is among those that are told elsewhere, where these are not too many to be looked through.
-fn is_known(row: &Row, known: &[Row]) -> bool {
-    known.len() <= MOST_KNOWN && known.contains(row)
+/// What rows say that are not among those that are told elsewhere.
+fn gathered(alloc: Global, rows: &[Row], known: &[Row]) -> Result<Vec<Bounded>, Memory> {
+    let is_short = rows.len() <= MOST_KNOWN && known.len() <= MOST_KNOWN;
+    let mut all = Vec::new(alloc);
+    for row in rows {
+        if !is_short || !known.contains(row) {
+            add(alloc, &mut all, row.coefficients.as_slice(), row.bound)?;
+        }
+    }
+    Ok(all)
+}
+
+/// The same of so many columns in short: without columns of one value in sums, as often as that makes others so, where these are not too many.
+fn shortened(alloc: Global, all: Vec<Bounded>, count: usize) -> Result<Vec<Bounded>, Memory> {
+    let mut short = all;
+    if short.len() <= MOST_KNOWN {
+        for _ in 0..ROUNDS {
+            short = settled(alloc, short.as_slice(), count)?;
+        }
+    }
+    Ok(short)
 }
 
 /// The texts of rows over columns of these names, without those that are told elsewhere, and those of one sum together. A column that has one
@@ -406,17 +424,7 @@ pub fn row_texts(
     rows: &[Row],
     known: &[Row],
 ) -> Result<Vec<String>, Memory> {
-    let mut all = Vec::new(alloc);
-    for row in rows {
-        if !is_known(row, known) {
-            add(alloc, &mut all, row.coefficients.as_slice(), row.bound)?;
-        }
-    }
-    if all.len() <= MOST_KNOWN {
-        for _ in 0..ROUNDS {
-            all = settled(alloc, all.as_slice(), names.len())?;
-        }
-    }
+    let mut all = shortened(alloc, gathered(alloc, rows, known)?, names.len())?;
     let limits = limits_in(alloc, all.as_slice(), names.len())?;
     let mut texts = Vec::new(alloc);
     for one in all.as_mut_slice() {
