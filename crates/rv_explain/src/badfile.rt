@@ -101,10 +101,11 @@ pub fn nodes_text(told: &Told, document: &[u8]) -> Result<Answer, Memory> {
         return unknown_line(alloc);
     };
     let mut sentence = String::new(alloc);
-    write!(
-        sentence,
-        "Nothing is known: the decision diagrams of the program have more than {most} nodes. "
+    sentence.push_str(
+        "Nothing is known: the decision diagrams of the program outgrow their limit of ",
     )?;
+    let noun = if most == 1 { "node" } else { "nodes" };
+    write!(sentence, "{most} {noun}. ")?;
     sentence.push_str("Allow more by `--nodes`, or observe less at once.")?;
     let mut text = String::new(alloc);
     put_wrapped(&mut text, 0, sentence.as_str())?;

@@ -158,7 +158,7 @@ fn put_sum(text: &mut String, names: &[String], coefficients: &[i128]) -> Result
     Ok(())
 }
 
-/// Adds a comparison of a sum with a number. With 0 what is taken off stands on the other side.
+/// Adds a comparison of a sum with a number. With 0, and where both are equal, what is taken off stands on the other side.
 fn put_compared(
     alloc: Global,
     text: &mut String,
@@ -168,14 +168,21 @@ fn put_compared(
     number: i128,
 ) -> Result<(), Memory> {
     let taken = parts_of(alloc, coefficients, true)?;
-    if number != 0 || taken.as_slice().iter().all(|one| *one == 0) {
+    let is_whole = taken.as_slice().iter().all(|one| *one == 0);
+    if is_whole || number != 0 && sign != "=" {
         put_sum(text, names, coefficients)?;
         return Ok(write!(text, " {sign} {number}")?);
     }
     let added = parts_of(alloc, coefficients, false)?;
     put_sum(text, names, added.as_slice())?;
     write!(text, " {sign} ")?;
-    put_sum(text, names, taken.as_slice())
+    put_sum(text, names, taken.as_slice())?;
+    if number != 0 {
+        let size = number.unsigned_abs();
+        let operator = if number < 0 { "-" } else { "+" };
+        write!(text, " {operator} {size}")?;
+    }
+    Ok(())
 }
 
 /// The coefficients that are taken off, with the other sign, or those that are added; 0 in the place of each other.
