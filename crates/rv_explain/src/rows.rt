@@ -5,7 +5,7 @@ use rv_rows::Row;
 use std::alloc::Global;
 
 /// How many rows that are told elsewhere are looked through, and how many rows there may be in which columns of one value are looked for.
-const MOST_KNOWN: usize = 1_000;
+const MOST_KNOWN: usize = 200;
 
 /// How often columns that have one value are left out of the other rows.
 const ROUNDS: u32 = 4;
@@ -289,13 +289,13 @@ fn value_in(limits: &Limits) -> Option<i128> {
 
 /// A sum without the columns that have one value, and what these add to it.
 #[derive(Drop)]
-struct Reduced {
+struct Shorter {
     coefficients: Vec<i128>,
     constant: i128,
 }
 
 /// A sum without the columns that have one value; none where there are no such columns in it, or no others, or a number is out of range.
-fn reduced(alloc: Global, sum: &[i128], limits: &[Limits]) -> Result<Option<Reduced>, Memory> {
+fn reduced(alloc: Global, sum: &[i128], limits: &[Limits]) -> Result<Option<Shorter>, Memory> {
     let mut coefficients = Vec::new(alloc);
     let mut constant: i128 = 0;
     let mut is_shorter = false;
@@ -314,7 +314,7 @@ fn reduced(alloc: Global, sum: &[i128], limits: &[Limits]) -> Result<Option<Redu
         }
     }
     if is_shorter && count_columns(coefficients.as_slice()) > 0 {
-        Ok(Some(Reduced {
+        Ok(Some(Shorter {
             coefficients,
             constant,
         }))
