@@ -4,13 +4,15 @@ use rv_base::{Many, Value};
 use rv_flat::{Flat, FlatExpr, FlatForm, State};
 use rv_tree::Op;
 
-/// An instant: the flat system, the state before, what the main node is given, and what each flow has.
+/// An instant: the flat system, the state before and after, what the main node is given, and what each flow has.
 #[derive(Clone, Copy)]
 pub struct Moment<'a> {
     /// The flat system.
     pub flat: &'a Flat,
     /// The state before the instant.
     pub before: &'a State,
+    /// The state after it.
+    pub after: &'a State,
     /// The inputs.
     pub inputs: &'a Many<Value>,
     /// What each flow has, none where it is absent.
@@ -83,24 +85,10 @@ fn count_true(moment: &Moment, operands: &[FlatExpr]) -> Option<u32> {
     Some(count)
 }
 
-/// What a `current` of a memory shows: what it holds where its clock is not there, and else the flow that it takes.
+/// What a `current` of a memory shows: what the memory holds after the instant, since it takes its operand where that is there and keeps what
+/// it has where not.
 pub fn shown(moment: &Moment, number: u32) -> Option<Value> {
-    let memory = moment.flat.memories.get(number as usize)?;
-    let is_there = match memory.clock {
-        Some(clock) => moment.flow(clock) == Some(Value::Flag(true)),
-        None => true,
-    };
-    if !is_there {
-        return moment.before.kept.get(number as usize).copied();
-    }
-    match &memory.body.form {
-        FlatForm::Flow(flow) => moment.flow(*flow),
-        FlatForm::When(_, operand) => match &operand.form {
-            FlatForm::Flow(flow) => moment.flow(*flow),
-            _ => None,
-        },
-        _ => None,
-    }
+    moment.after.kept.get(number as usize).copied()
 }
 
 /// What an operator gives.

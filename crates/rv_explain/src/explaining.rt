@@ -4,11 +4,12 @@ ghost use Rattle.std.specs.Prelude.{◌≤◌, length};
 ghost use Rattle.rv_tree.specs.Tree.{program_tree};
 ghost use Rattle.rv_tree.specs.Words.{HasPlainNames};
 
+use crate::badfile::{bad_file_text, nodes_text};
 use crate::invariant::invariant_text;
 use crate::lines::Lines;
 use crate::names::Names;
 use crate::places::places_text;
-use crate::record::behind_verdict;
+use crate::record::{Kind, behind_verdict, kind_of};
 use crate::refusal::refusal_text;
 use crate::rejected::rejected_text;
 use crate::request::{Answer, Asked};
@@ -82,28 +83,25 @@ fn explain_accepted(
     }
 }
 
-/// What is told of a document, by its first record.
+/// What is told of a document, by its first record, read in fields as the readers of documents read it.
 fn explain_document(told: &Told, source: &Source, document: &[u8]) -> Result<Answer, Memory>
     requires plain { HasPlainNames (program_tree source.now.program) }
 {
-    let document = behind_verdict(document);
+    let document = behind_verdict(told.alloc, document)?;
     if document.len() > DOCUMENT_LIMIT {
         return refused(told.alloc, "the document has more than 67,108,864 bytes");
     }
-    if document.starts_with(b"reaver,trace,") {
-        if document.len() > TRACE_LIMIT {
-            return refused(told.alloc, "the trace has more than 50,000,000 bytes");
-        }
-        return trace_text(told, source, document);
+    match kind_of(told.alloc, document)? {
+        Kind::Trace => if document.len() > TRACE_LIMIT {
+            refused(told.alloc, "the trace has more than 50,000,000 bytes")
+        } else {
+            trace_text(told, source, document)
+        },
+        Kind::Invariant => invariant_text(told, source, document),
+        Kind::Rejected => rejected_text(told, source, document),
+        Kind::Unknown => unknown_text(told, source, document),
+        Kind::BadFile => bad_file_text(told, document),
+        Kind::Nodes => nodes_text(told, document),
+        Kind::Verdict | Kind::Other => refused(told.alloc, OTHER_KIND),
     }
-    if document.starts_with(b"reaver,invariant,") {
-        return invariant_text(told, source, document);
-    }
-    if document.starts_with(b"reaver,rejected,") {
-        return rejected_text(told, source, document);
-    }
-    if document.starts_with(b"reaver,unknown") {
-        return unknown_text(told, source, document);
-    }
-    refused(told.alloc, OTHER_KIND)
 }

@@ -2,7 +2,7 @@
 
 use crate::cover::cover_within;
 use crate::known::Known;
-use crate::regions::{Region, shared_of};
+use crate::regions::{Region, copy_of, shared_of};
 use crate::sets::Values;
 use crate::table::{joined, put_wrapped};
 use crate::vocabulary::{Quantity, Vocabulary, put_value_name};
@@ -79,6 +79,23 @@ pub fn put_cover(
     put_wrapped(text, indent, line.as_str())
 }
 
+/// The regions that are told: all, or where some have integers that meet them, those without the others.
+fn told_of(scene: &Scene, regions: &[Region], known: &Known) -> Result<Vec<Region>, Memory> {
+    let alloc = scene.alloc;
+    let mut told = Vec::new(alloc);
+    for region in regions {
+        if !known.excludes(alloc, scene.vocabulary, region)? {
+            told.push(copy_of(alloc, region)?)?;
+        }
+    }
+    if told.is_empty() {
+        for region in regions {
+            told.push(copy_of(alloc, region)?)?;
+        }
+    }
+    Ok(told)
+}
+
 /// Adds the formula of regions.
 fn put_regions(
     scene: &Scene,
@@ -93,8 +110,9 @@ fn put_regions(
         line.push_str("never")?;
         return put_wrapped(text, indent, line.as_str());
     }
-    let shared = shared_in(scene, regions)?;
-    let parts = part_texts(scene, regions, &shared, known)?;
+    let told = told_of(scene, regions, known)?;
+    let shared = shared_in(scene, told.as_slice())?;
+    let parts = part_texts(scene, told.as_slice(), &shared, known)?;
     let is_begun = put_region(scene, &mut line, &shared, known)?;
     if parts.is_empty() {
         if !is_begun {

@@ -2,6 +2,7 @@
 
 ghost use Rattle.std.specs.Prelude.{◌≤◌, length};
 
+use crate::badfile::file_fault;
 use crate::cover::cover_of;
 use crate::formula::{MOST_PARTS, Scene, put_formula};
 use crate::known::Known;
@@ -10,7 +11,7 @@ use crate::regions::Region;
 use crate::request::Answer;
 use crate::rows::row_texts;
 use crate::table::put_wrapped;
-use crate::trace::{Told, file_fault};
+use crate::trace::Told;
 use crate::vocabulary::Vocabulary;
 use rv_base::{Many, Memory};
 use rv_flat::Flat;
@@ -123,18 +124,34 @@ fn put_bounds(scene: &Scene, text: &mut String, location: &Location) -> Result<(
     if location.entry.is_empty() && location.state.is_empty() {
         return put_none(scene, text);
     }
-    if !is_same(&location.entry, &location.state) {
-        put_rows(scene, text, 2, "where a run comes in", &location.entry)?;
-    }
-    put_rows(
+    let state = &location.state;
+    put_rows_beside(scene, text, "where a run comes in", &location.entry, state)?;
+    let first = "after the first turn of its loop";
+    put_rows_beside(scene, text, first, &location.first, state)?;
+    put_rows_beside(
         scene,
         text,
-        2,
-        "after the first turn of its loop",
-        &location.first,
+        "from the first turn on",
+        &location.around,
+        state,
     )?;
-    put_rows(scene, text, 2, "from the first turn on", &location.around)?;
-    put_rows(scene, text, 2, "always", &location.state)
+    put_rows(scene, text, 2, "always", state)
+}
+
+/// Adds rows of a location that are not among those of all its states, below a heading.
+fn put_rows_beside(
+    scene: &Scene,
+    text: &mut String,
+    heading: &str,
+    rows: &Many<Row>,
+    state: &Many<Row>,
+) -> Result<(), Memory> {
+    if rows.as_slice() == state.as_slice() {
+        return Ok(());
+    }
+    let names = scene.vocabulary.columns.as_slice();
+    let texts = row_texts(scene.alloc, names, rows.as_slice(), state.as_slice())?;
+    put_texts(text, 2, heading, texts.as_slice())
 }
 
 /// Adds that a location has no rows, where there are integers of which it could have some.
@@ -151,11 +168,6 @@ fn put_none(scene: &Scene, text: &mut String) -> Result<(), Memory> {
     Ok(())
 }
 
-/// Whether two lists have the same rows.
-fn is_same(left: &Many<Row>, right: &Many<Row>) -> bool {
-    left.as_slice() == right.as_slice()
-}
-
 /// Adds rows, each on a line of its own below a heading.
 pub fn put_rows(
     scene: &Scene,
@@ -164,12 +176,23 @@ pub fn put_rows(
     heading: &str,
     rows: &Many<Row>,
 ) -> Result<(), Memory> {
-    if rows.is_empty() {
+    let names = scene.vocabulary.columns.as_slice();
+    let texts = row_texts(scene.alloc, names, rows.as_slice(), &[])?;
+    put_texts(text, indent, heading, texts.as_slice())
+}
+
+/// Adds texts, each on a line of its own below a heading; nothing where there are none.
+fn put_texts(
+    text: &mut String,
+    indent: usize,
+    heading: &str,
+    texts: &[String],
+) -> Result<(), Memory> {
+    if texts.is_empty() {
         return Ok(());
     }
     put_wrapped(text, indent, heading)?;
-    let names = scene.vocabulary.columns.as_slice();
-    for row in row_texts(scene.alloc, names, rows.as_slice())? {
+    for row in texts {
         put_wrapped(text, indent.saturating_add(2), row.as_str())?;
     }
     Ok(())

@@ -15,6 +15,7 @@ pub struct Known {
     pub within: Vec<Region>,
     region: Region,
     bounds: Vec<Bound>,
+    tells_all: bool,
 }
 
 /// Whether a bound holds by others.
@@ -46,6 +47,11 @@ fn is_weaker(bound: Bound, others: &[Bound]) -> bool {
         .any(|other| bound.follows(*other) && !other.follows(bound))
 }
 
+/// Whether no integer meets a bound and one of others.
+fn is_excluded(bound: Bound, others: &[Bound]) -> bool {
+    others.iter().any(|other| bound.excludes(*other))
+}
+
 impl Known {
     /// Nothing but that each quantity has a value.
     pub fn nothing(alloc: Global, vocabulary: &Vocabulary) -> Result<Known, Memory> {
@@ -73,7 +79,33 @@ impl Known {
             within,
             region,
             bounds,
+            tells_all: false,
         })
+    }
+
+    /// The same, where also what no integers meet is to be told.
+    pub fn telling_all(self) -> Known {
+        Known {
+            tells_all: true,
+            ..self
+        }
+    }
+
+    /// Whether a region need not be told, since two bounds of one sum, its own or known ones, tell that no integers meet it.
+    pub fn excludes(
+        &self,
+        alloc: Global,
+        vocabulary: &Vocabulary,
+        region: &Region,
+    ) -> Result<bool, Memory> {
+        if self.tells_all {
+            return Ok(false);
+        }
+        let own = bounds_in(alloc, vocabulary, region)?;
+        let is_excluded = own.as_slice().iter().any(|bound| {
+            is_excluded(*bound, own.as_slice()) || is_excluded(*bound, self.bounds.as_slice())
+        });
+        Ok(is_excluded)
     }
 
     /// What is known of quantities and sums, and what holds in a region.
@@ -91,6 +123,7 @@ impl Known {
             within: Vec::new(alloc),
             region: self.region.and(alloc, region)?,
             bounds,
+            tells_all: self.tells_all,
         })
     }
 

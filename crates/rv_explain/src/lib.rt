@@ -4,6 +4,7 @@
 //! end for sources, on the readers of documents, and on `rv_bits` for where an observer is false. Begin with explaining.rt.
 #![tactic(auto)]
 
+mod badfile;
 mod clashes;
 mod conjuncts;
 mod cover;

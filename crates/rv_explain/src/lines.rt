@@ -114,6 +114,14 @@ fn put_front(text: &mut String, bytes: &[u8], left_out: usize) -> Result<(), Mem
     Ok(())
 }
 
+/// Adds the front of a line of bytes, on a line of its own.
+pub fn put_shown(text: &mut String, bytes: &[u8]) -> Result<(), Memory> {
+    text.push_str("    ")?;
+    put_front(text, bytes, 0)?;
+    text.push('\n')?;
+    Ok(())
+}
+
 /// How a byte is shown.
 pub fn shown(byte: u8) -> char {
     match byte {

@@ -29,11 +29,13 @@ pub enum Ending {
     NeverFalse,
 }
 
-/// The last instant of a trace: the state before it, and what each flow has.
+/// The last instant of a trace: the state before it and after it, and what each flow has.
 #[derive(Debug, Drop)]
 pub struct Last {
     /// The state before the instant.
     pub before: State,
+    /// The state after it.
+    pub after: State,
     /// What each flow has.
     pub values: Many<Option<Value>>,
 }
@@ -82,11 +84,11 @@ fn keep(
     Ok(())
 }
 
-/// What one instant of a trace comes to: its end, with what each flow has there, or the state after it.
+/// What one instant of a trace comes to: its end, with the state after it and what each flow has there, or the state after it.
 #[derive(Drop)]
 enum Turn {
-    /// The trace ends with this; the values stand beside it where there are some.
-    Ends(Ending, Option<Many<Option<Value>>>),
+    /// The trace ends with this; the state after it and the values stand beside it where there are some.
+    Ends(Ending, Option<(State, Many<Option<Value>>)>),
     /// It goes on from this state.
     GoesOn(State),
 }
@@ -98,7 +100,7 @@ fn turn_of(observer: bool, next: State, values: Many<Option<Value>>) -> Turn
     if observer {
         Turn::GoesOn(next)
     } else {
-        Turn::Ends(Ending::Falsified, Some(values))
+        Turn::Ends(Ending::Falsified, Some((next, values)))
     }
 }
 
@@ -113,7 +115,7 @@ fn seen(stepped: Stepped) -> Turn
         broken,
     } = stepped;
     match broken {
-        Some(place) => Turn::Ends(Ending::AssertionFails(place), Some(values)),
+        Some(place) => Turn::Ends(Ending::AssertionFails(place), Some((next, values))),
         None => turn_of(observer, next, values),
     }
 }
@@ -142,9 +144,13 @@ fn take_turn(
 }
 
 /// The instant that ends a trace, where it has values.
-fn last_of(before: State, values: Option<Many<Option<Value>>>) -> Option<Last> {
-    match values {
-        Some(values) => Some(Last { before, values }),
+fn last_of(before: State, given: Option<(State, Many<Option<Value>>)>) -> Option<Last> {
+    match given {
+        Some((after, values)) => Some(Last {
+            before,
+            after,
+            values,
+        }),
         None => None,
     }
 }
@@ -158,12 +164,12 @@ pub fn play(alloc: Global, flat: &Flat, trace: &Trace, chosen: &[u32]) -> Result
     for number in 0..trace.instants.len() {
         let input = trace.instants.at(number);
         match take_turn(alloc, flat, &before, input, chosen, &mut shown) {
-            Ok(Turn::Ends(ending, values)) => {
+            Ok(Turn::Ends(ending, given)) => {
                 return Ok(Played {
                     shown,
                     ending,
                     at: number,
-                    last: last_of(before, values),
+                    last: last_of(before, given),
                 });
             }
             Ok(Turn::GoesOn(next)) => before = next,

@@ -2,6 +2,7 @@
 
 ghost use Rattle.std.specs.Prelude.{◌≤◌, length};
 
+use crate::badfile::file_fault;
 use crate::duties::duty_of;
 use crate::explaining::DOCUMENT_LIMIT;
 use crate::formula::{Scene, put_region};
@@ -12,7 +13,7 @@ use crate::regions::Region;
 use crate::request::Answer;
 use crate::rows::row_texts;
 use crate::table::put_wrapped;
-use crate::trace::{Told, file_fault};
+use crate::trace::Told;
 use rv_base::{Many, Memory};
 use rv_flat::{Bit, Flat};
 use rv_flatten::flatten;
@@ -188,7 +189,7 @@ fn put_one_row(
 ) -> Result<(), Memory> {
     if let Some(row) = rows.get(number) {
         let names = scene.vocabulary.columns.as_slice();
-        for one in row_texts(scene.alloc, names, std::slice::from_ref(row))? {
+        for one in row_texts(scene.alloc, names, std::slice::from_ref(row), &[])? {
             put_wrapped(text, 2, one.as_str())?;
         }
     }
@@ -220,7 +221,8 @@ fn put_of_entry(
         put_point(scene, text, line.field(6), false)?;
     }
     text.push_str("The entry:\n")?;
-    put_entry(scene, text, 2, entry, own, &known_in(scene, location)?)?;
+    let known = known_in(scene, location)?.telling_all();
+    put_entry(scene, text, 2, entry, own, &known)?;
     put_premises(scene, text, location, entry, row)
 }
 

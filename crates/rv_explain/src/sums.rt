@@ -30,6 +30,18 @@ impl Bound {
             other.number >= self.number
         }
     }
+
+    /// Whether no integer meets both this bound and the other.
+    pub fn excludes(self, other: Bound) -> bool {
+        if self.sum != other.sum || self.is_upper == other.is_upper {
+            return false;
+        }
+        if self.is_upper {
+            self.number < other.number
+        } else {
+            other.number < self.number
+        }
+    }
 }
 
 /// A sum of terms by their numbers, and a constant.

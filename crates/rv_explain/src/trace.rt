@@ -5,6 +5,7 @@ ghost use Rattle.rv_tree.specs.Tree.{program_tree};
 ghost use Rattle.rv_tree.specs.Words.{HasPlainNames};
 ghost use Rattle.rv_invfile.specs.Traces.{IsTraceOf};
 
+use crate::badfile::file_fault;
 use crate::conjuncts::{Judge, Search, given, read_flows};
 use crate::evaluate::Moment;
 use crate::flows::{flow_number, put_flow_name};
@@ -18,7 +19,7 @@ use rv_base::{Memory, Trace};
 use rv_flat::Flat;
 use rv_flatten::{fitting_sources, flatten};
 use rv_instances::Source;
-use rv_invfile::{FileFault, fitting_traces, read_trace, told_systems};
+use rv_invfile::{fitting_traces, read_trace, told_systems};
 use rv_types::well_formed_programs;
 use std::alloc::Global;
 
@@ -72,35 +73,6 @@ fn too_long(alloc: Global) -> Result<Answer, Memory> {
     let why =
         "the instants of the trace times the expressions of the program are more than 1,000,000,000";
     Ok(Answer::Refused(String::from_str(alloc, why)?))
-}
-
-/// Why a document is refused.
-pub fn file_fault(alloc: Global, fault: FileFault) -> Result<Answer, Memory> {
-    let mut text = String::new(alloc);
-    match fault {
-        FileFault::Memory => return Err(Memory::Memory),
-        FileFault::NotRecords(record) => write!(
-            text,
-            "the document is refused at record {record}: it has bytes that no record has"
-        )?,
-        FileFault::WrongKind(record) => write!(
-            text,
-            "the document is refused at record {record}: another kind of record is awaited there"
-        )?,
-        FileFault::WrongProgram(record) => write!(
-            text,
-            "the document is refused at record {record}: it is of another program"
-        )?,
-        FileFault::BadNumber(record, field) => {
-            write!(text, "the document is refused at record {record}: ")?;
-            write!(text, "its field {field} has no value that may stand there")?;
-        }
-        FileFault::Ends(count) => write!(
-            text,
-            "the document is refused: it ends after {count} records, too early"
-        )?,
-    }
-    Ok(Answer::Refused(text))
 }
 
 /// The text on a trace of a flat system.
@@ -191,6 +163,7 @@ fn put_end(
     let moment = Moment {
         flat,
         before: &last.before,
+        after: &last.after,
         inputs,
         values: &last.values,
     };

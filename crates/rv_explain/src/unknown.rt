@@ -4,6 +4,7 @@ ghost use Rattle.std.specs.Prelude.{◌≤◌, length};
 ghost use Rattle.rv_agreement.specs.Agreement.{IsWell};
 ghost use Rattle.rv_flat.specs.FlatInstants.{system_of};
 
+use crate::badfile::file_fault;
 use crate::explaining::DOCUMENT_LIMIT;
 use crate::formula::Scene;
 use crate::invariant::{
@@ -15,7 +16,7 @@ use crate::possible::Atoms;
 use crate::record::{Record, first_of};
 use crate::request::Answer;
 use crate::table::put_wrapped;
-use crate::trace::{Told, file_fault};
+use crate::trace::Told;
 use crate::unshown::Unshown;
 use rv_base::{Many, Memory};
 use rv_flat::Flat;
@@ -92,7 +93,7 @@ fn head_of(alloc: Global, document: &[u8]) -> Result<Head<'_>, FileFault> {
         return Err(FileFault::Ends(0));
     };
     let first = Record::new(alloc, line)?;
-    if first.field(1) != "unknown" || first.field(2) != "1" || first.count() != 3 {
+    if first.kind() != "unknown" || first.field(2) != "1" || first.count() != 3 {
         return Err(FileFault::WrongKind(0));
     }
     let Some((line, rest)) = first_of(rest) else {

@@ -6,7 +6,7 @@ use std::rt::Files;
 use std::{fs, io};
 
 /// The cases: a source, its main node, and a document, or nothing.
-const CASES: [(&str, &str, &str); 21] = [
+const CASES: [(&str, &str, &str); 22] = [
     ("text.lus", "main", ""),
     ("unknown.lus", "main", ""),
     ("twice.lus", "main", ""),
@@ -18,6 +18,7 @@ const CASES: [(&str, &str, &str); 21] = [
     ("no_observer.lus", "main", ""),
     ("recursive.lus", "main", ""),
     ("cycle.lus", "main", ""),
+    ("clock_cycle.lus", "main", ""),
     ("door.lus", "main", ""),
     ("door.lus", "main", "door.trace"),
     ("door.lus", "main", "door_assumed.trace"),

@@ -24,6 +24,8 @@ pub struct Frame {
     pub into: Many<Ref>,
     /// Whether limits are raised by any number of turns of a part at once.
     pub turns: bool,
+    /// Whether the same was looked at before.
+    pub idle: bool,
 }
 
 /// The parts as they are known.

@@ -33,8 +33,8 @@ use rv_symbolic::Relation;
 use rv_walk::without;
 use std::alloc::Global;
 
-/// How many ways there are: each partition with the first left sides, then each with the further ones, then each with dense bounds besides, and then each
-/// with the left sides that no step changes besides.
+/// How many ways there are, each for both partitions: with the first left sides, with those that no step changes besides, with the further ones, and
+/// with all of them and dense bounds.
 const WAYS: usize = 8;
 
 /// How a certificate is sought.
@@ -114,6 +114,17 @@ fn sides_for(
     Ok(sides)
 }
 
+/// Whether a way with so many left sides is one that was tried: with those that no step changes, of which none is new.
+fn is_idle(alloc: Global, questions: &Questions, way: Way, many: usize) -> Result<bool, Memory>
+    requires { length questions.now.forms ≤ 64 }
+{
+    if way.further || !way.level {
+        return Ok(false);
+    }
+    let first = directions_of(alloc, questions, false)?;
+    Ok(first.len() == many)
+}
+
 /// What is the same throughout a search over these sets, with what was built of it.
 fn frame_over(
     alloc: Global,
@@ -137,6 +148,7 @@ fn frame_over(
     let into = into_each(alloc, store, relation, &sets)?;
     let Asked { allowed, labels } = asked_of(alloc, store, relation, questions)?;
     let sides = sides_for(alloc, store, questions, allowed, way)?;
+    let idle = is_idle(alloc, questions, way, sides.len())?;
     Ok(Frame {
         sides,
         thresholds,
@@ -146,6 +158,7 @@ fn frame_over(
         sets,
         into,
         turns: way.turns,
+        idle,
     })
 }
 
@@ -161,6 +174,9 @@ fn known_of(
     ensures same { store.new ≡ store.old }
     ensures roomy { IsErrOf result StoreFault.Nodes → store.old.limit < 2 ^ (2 ^ store.old.variables) }
 {
+    if frame.idle {
+        return Ok(None);
+    }
     let mut known = begun(alloc, frame)?;
     let done = closed(alloc, store, questions, frame, &mut known)?;
     if done {
@@ -362,9 +378,9 @@ pub fn refined(
     for number in 0..WAYS {
         let way = Way {
             single: number % 2 == 1,
-            further: number >= 2,
-            dense: number >= 4,
-            level: number >= 6,
+            further: number >= 4,
+            dense: number >= 6,
+            level: number % 4 >= 2,
             turns: accelerate,
         };
         let found = refined_by(alloc, store, relation, questions, reached, thresholds, way)?;

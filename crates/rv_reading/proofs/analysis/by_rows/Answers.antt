@@ -1,4 +1,4 @@
-use Rattle.std.proofs.Common.{false, sym, subst, Option}
+use Rattle.std.proofs.Common.{false, subst, Option}
 use Rattle.std.specs.Prelude.{IfSome}
 use Rattle.rv_proofs.specs.declared.certificate.Certificate.{Certificate}
 use Rattle.rv_reading.specs.Analysing.{IsCertified}

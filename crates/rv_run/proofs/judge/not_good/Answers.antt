@@ -1,7 +1,7 @@
 use Rattle.std.proofs.Common.{Ok, true≢false, ap, sym, ◌∙◌, subst}
 use Rattle.rv_tree.specs.Tree.{program_tree}
 use Rattle.rv_types.specs.Instances.{name_at}
-use Rattle.rv_flat.specs.{declared.flat.Flat.Flat, FlatOf.IsFlatOf}
+use Rattle.rv_flat.specs.{FlatOf.IsFlatOf}
 use Rattle.rv_reading.specs.Read.{flat_of}
 use Rattle.rv_probe.specs.Probes.{HasFalsifyingProbe}
 use Rattle.rv_run.specs.{Judged.IsControlSystem, Judged.IsKnown}
