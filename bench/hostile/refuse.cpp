@@ -13,6 +13,8 @@
 //                    and nothing or a prefix of the usual output; then a line for each child that ended otherwise
 //   SHORT_WRITE=k    a write to standard output takes at most k bytes of what it is given
 //   FAIL_WRITE=k     after k bytes in all a write to standard output fails
+//   SHORT_READ=k     a read gives at most k bytes
+//   FAIL_READ=k      after k bytes in all a read fails
 //
 // An allocation is a call of malloc, calloc, realloc, posix_memalign, aligned_alloc, or mmap of memory of no file. A refused one gives
 // what the C library gives where there is no memory. Allocations before the library has read the environment are granted.
@@ -42,9 +44,15 @@ std::uint64_t asked = 0;
 std::uint64_t refused_at = 0;
 std::uint64_t each = 0;
 std::uint64_t from = 1;
-std::uint64_t most_taken = 0;
-std::uint64_t fails_after = UINT64_MAX;
-std::uint64_t taken = 0;
+// What reads or writes may do: the most bytes of one, where that is not 0, the bytes after which they fail, and the bytes so far.
+struct Bounds {
+    std::uint64_t most = 0;
+    std::uint64_t fails_after = UINT64_MAX;
+    std::uint64_t done = 0;
+};
+
+Bounds reads;
+Bounds writes;
 const char *count_file = nullptr;
 
 // How the children of each of the two ways ended: as usual, with `reaver,memory`, with less.
@@ -67,6 +75,19 @@ template <typename Function> Function next(const char *name) { return reinterpre
 ssize_t write_all(int file, const char *text, std::size_t length) {
     static auto real = next<ssize_t (*)(int, const void *, size_t)>("write");
     return real(file, text, length);
+}
+
+// A read or write within its bounds.
+template <typename Operation> ssize_t bounded(Bounds &bounds, std::size_t length, Operation operation) {
+    if (bounds.done >= bounds.fails_after) {
+        errno = EIO;
+        return -1;
+    }
+    if (bounds.most != 0 && length > bounds.most) length = bounds.most;
+    if (length > bounds.fails_after - bounds.done) length = bounds.fails_after - bounds.done;
+    ssize_t done = operation(length);
+    if (done > 0) bounds.done += static_cast<std::uint64_t>(done);
+    return done;
 }
 
 // What the child of a way showed and how it ended, told as the number of a kind; 3 where it is none.
@@ -152,8 +173,10 @@ __attribute__((constructor)) void begin() {
     later = number("REFUSE_LATER", 0) != 0;
     each = number("REFUSE_EACH", 0);
     from = number("REFUSE_FROM", 1);
-    most_taken = number("SHORT_WRITE", 0);
-    fails_after = number("FAIL_WRITE", UINT64_MAX);
+    writes.most = number("SHORT_WRITE", 0);
+    writes.fails_after = number("FAIL_WRITE", UINT64_MAX);
+    reads.most = number("SHORT_READ", 0);
+    reads.fails_after = number("FAIL_READ", UINT64_MAX);
     count_file = std::getenv("REFUSE_COUNT");
     if (count_file != nullptr) report = open(count_file, O_WRONLY | O_CREAT | O_TRUNC, 0644);
     if (each != 0) read_usual();
@@ -198,16 +221,13 @@ void *mmap(void *address, size_t length, int protection, int flags, int file, of
 
 ssize_t write(int file, const void *bytes, size_t length) {
     const char *text = static_cast<const char *>(bytes);
-    if (file != 1) return write_all(file, text, length);
-    if (taken >= fails_after) {
-        errno = EIO;
-        return -1;
-    }
-    if (most_taken != 0 && length > most_taken) length = most_taken;
-    if (length > fails_after - taken) length = fails_after - taken;
-    ssize_t done = write_all(file, text, length);
-    if (done > 0) taken += static_cast<std::uint64_t>(done);
-    return done;
+    return file != 1 ? write_all(file, text, length) : bounded(writes, length, [&](size_t most) { return write_all(file, text, most); });
+}
+
+ssize_t read(int file, void *bytes, size_t length) {
+    static auto real = next<ssize_t (*)(int, void *, size_t)>("read");
+    if (!ready) return real(file, bytes, length);
+    return bounded(reads, length, [&](size_t most) { return real(file, bytes, most); });
 }
 
 } // extern "C"
