@@ -254,4 +254,5 @@ def main():
     print("beyond 2 s or 300 MB, or killed:", ", ".join(dict.fromkeys(beyond)) or "none")
 
 
-main()
+if __name__ == "__main__":
+    main()
