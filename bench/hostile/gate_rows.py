@@ -11,7 +11,7 @@ import re
 import sys
 import tempfile
 
-from cuts import IN_DOCUMENTS, SEED, ten_others
+from cuts import IN_DOCUMENTS, SEED, numbers, ten_others
 from reader.judge import Program, checked, flat_of, replayed
 from running import EQUAL, EQUAL_FILE, TAUTOLOGY, example, quick_run, write_files
 
@@ -91,11 +91,21 @@ def bent(kind, source, document, count):
         yield kind + "~" + in_line(source + "~" + text), told(judged)
 
 
+def near(source, document, count):
+    """Changes of a number of a document to others near it, judged by the independent reader, but faults of the document."""
+    program = Program(flat_of(source.encode(), "m"))
+    for text in numbers(document.encode(), count):
+        judged = checked(program, text)
+        if "badfile" not in judged:
+            yield "check~" + in_line(source + "~" + text.decode()), told(judged)
+
+
 def rows():
     yield from prefixes()
     yield from files()
     yield from failing()
     yield from bent("check", IN_M, FILE_IN_M, 60)
+    yield from near(IN_M, FILE_IN_M, 120)
     yield from bent("replay", example("doors.lus").decode(), example("doors.trace").decode(), 30)
 
 
