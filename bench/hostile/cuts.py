@@ -5,7 +5,7 @@
 counters] cut after k records ends after k, and a table of changes of that file has the answers that stand beside them.
 
 For each example: its source, and the trace or invariant file that `prove` prints of it, are cut after every byte, and every byte is
-changed to each of ten others. A changed document is replayed or checked with the source, a changed source with the document. What is
+changed to each of ten others; and every number of a document is changed to others near it. A changed document is replayed or checked with the source, a changed source with the document. What is
 printed has to be a stated refusal of the source, or exactly what the independent reader of this folder prints: for a document that
 includes each fault of the document, and the first reason why it is rejected. Where `prove` is quick, sources that are not refused are
 proved too, and the reader has to accept what is printed. Nothing else may happen: no signal, no other status, no word on standard error.
@@ -14,6 +14,7 @@ Of a text with more than N changes (1,000 where it is not told, 100 with `--tent
 prints a table: changes, how many were refused, faults of the document, judged by both, and proved; then every run that ended in another way.
 The exit status is 0 where there is none.
 """
+import itertools
 import os
 import random
 import re
@@ -50,6 +51,14 @@ def changes(text, of, most):
             yield text[:place]
         else:
             yield text[:place] + bytes([ten_others(text[place], of)[way - 1]]) + text[place + 1 :]
+
+
+def numbers(text, most):
+    """All changes of a number of a document to its neighbours, 0, 1 and 2, or as many as are wanted."""
+    found = [(m.start(), m.end(), int(m.group())) for m in re.finditer(rb"(?<=,)-?[0-9]+(?=[,\n])", text)]
+    ways = [(start, end, other) for start, end, value in found for other in {value - 1, value + 1, 0, 1, 2} - {value}]
+    for start, end, other in ways if len(ways) <= most else random.Random(SEED).sample(ways, most):
+        yield text[:start] + b"%d" % other + text[end:]
 
 
 def is_refusal(out, source):
@@ -97,7 +106,7 @@ class Tried:
         """Changed documents, over the source as it is."""
         flat = flat_of(self.source, self.node)
         program = None if self.word == "replay" else Program(flat)
-        for document in changes(self.document, IN_DOCUMENTS, most):
+        for document in itertools.chain(changes(self.document, IN_DOCUMENTS, most), numbers(self.document, most)):
             write_files(self.folder, {"d.csv": document})
             self.count(self.ended(self.word, "f.lus", self.node, "d.csv"), self.judged(flat, program, document), document)
         write_files(self.folder, {"d.csv": self.document})

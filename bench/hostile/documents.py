@@ -162,6 +162,12 @@ def main():
             print(f"| {shape} | {seconds} | {memory} | {' / '.join(f'`{a}`' for a in answers)} |", flush=True)
             if is_beyond(ended):
                 beyond.append(shape)
+        if part == 1 and not wanted:
+            write_files(folder, {"f.lus": EQUAL, "d.csv": "\n" * (LONGEST + 1)})
+            longer = run(os.path.abspath(program), ["check", "f.lus", "main", "d.csv"], folder)
+            print(f"| one byte more | {longer.seconds:.2f} | {longer.memory:.0f} | `{longer.out.decode().strip()}` |")
+            if (longer.status, longer.out) != (9, b"reaver,toolong,%d\n" % (LONGEST + 1)):
+                beyond.append("one byte more")
     print("beyond what grows as the file, or ended otherwise:", ", ".join(beyond) or "none")
     return 1 if beyond else 0
 

@@ -1,14 +1,16 @@
 #!/usr/bin/env python3
-"""Runs a linked program with little memory: `limits.py PROGRAM [--tenth]`
+"""Runs a linked program with little memory: `limits.py PROGRAM [--tenth] [--within SECONDS]`
 
 Every example is proved, and what is printed of it replayed or checked, and the hostile sources of bench/hostile.py are proved, with 40,
 60, 100 and 200 MB of address space and a stack of 6 MB. Each has to end with its usual output and status, or with status 7 and
 `reaver,memory`, nothing or a prefix of the usual output. Runs that usually take more than 2 seconds are tried at 40 MB alone.
-`--tenth` tries every tenth of them. It prints a table of the runs at each limit; then those that ended in another way. The exit status
+`--tenth` tries every tenth of them, and those that usually take more than the told seconds (60 where they are not) are left out and
+named. It prints a table of the runs at each limit; then those that ended in another way. The exit status
 is 0 where there is none.
 """
 import os
 import resource
+import signal
 import sys
 import tempfile
 
@@ -50,14 +52,19 @@ def kind_of(ended, usual):
 
 def main():
     tenth = "--tenth" in sys.argv
-    program = os.path.abspath([word for word in sys.argv[1:] if word != "--tenth"][0])
+    words = [word for word in sys.argv[1:] if word != "--tenth"]
+    within = int(words[words.index("--within") + 1]) if "--within" in words else 60
+    program, left_out = os.path.abspath(words[0]), []
     counts = {space: {"usual": 0, "memory": 0, "less": 0} for space in SPACES}
     others = []
     with tempfile.TemporaryDirectory() as folder:
         for name, node, source in programs(tenth):
             write_files(folder, {"f.lus": source})
             words = ["prove", "f.lus", node]
-            usual = run(program, words, folder, limits=[(resource.RLIMIT_STACK, STACK)])
+            usual = run(program, words, folder, limits=[(resource.RLIMIT_STACK, STACK)], seconds=within)
+            if usual.status == -signal.SIGXCPU or usual.status == -signal.SIGKILL:
+                left_out.append(name)
+                continue
             tried = [(words, usual)]
             if usual.status in (0, 1):
                 write_files(folder, {"d.csv": usual.out})
@@ -71,6 +78,7 @@ def main():
                         counts[space][kind] += 1
                     else:
                         others.append((name, words[0], space, ended.status, ended.out[:60], ended.err[:60]))
+    print("left out:", ", ".join(left_out) or "none")
     print("| address space, MB | runs | usual | Memory | nothing or a prefix |")
     print("|---|---|---|---|---|")
     for space, kinds in counts.items():
