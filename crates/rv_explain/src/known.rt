@@ -102,10 +102,12 @@ impl Known {
             return Ok(false);
         }
         let own = bounds_in(alloc, vocabulary, region)?;
-        let is_excluded = own.as_slice().iter().any(|bound| {
-            is_excluded(*bound, own.as_slice()) || is_excluded(*bound, self.bounds.as_slice())
-        });
-        Ok(is_excluded)
+        for bound in own.as_slice() {
+            if is_excluded(*bound, own.as_slice()) || is_excluded(*bound, self.bounds.as_slice()) {
+                return Ok(true);
+            }
+        }
+        Ok(false)
     }
 
     /// What is known of quantities and sums, and what holds in a region.
