@@ -5,10 +5,11 @@
 counters] cut after k records ends after k, and a table of changes of that file has the answers that stand beside them.
 
 For each example: its source, and the trace or invariant file that `prove` prints of it, are cut after every byte, and every byte is
-changed to each of ten others; and every number of a document is changed to others near it. A changed document is replayed or checked with the source, a changed source with the document. What is
-printed has to be a stated refusal of the source, or exactly what the independent reader of this folder prints: for a document that
-includes each fault of the document, and the first reason why it is rejected. Where `prove` is quick, sources that are not refused are
-proved too, and the reader has to accept what is printed. Nothing else may happen: no signal, no other status, no word on standard error.
+changed to each of ten others; and every number of a document is changed to others near it. A changed document is replayed or checked
+with the source, a changed source with the document. What is printed has to be a stated refusal of the source, or exactly what the
+independent reader of this folder prints: for a document that includes each fault of the document, and the first reason why it is
+rejected. Where `prove` is quick, sources that are not refused are proved too, and the reader has to accept what is printed. Nothing
+else may happen: no signal, no other status, no word on standard error.
 
 Of a text with more than N changes (1,000 where it is not told, 100 with `--tenth`), N are taken by a generator with a fixed seed. It
 prints a table: changes, how many were refused, faults of the document, judged by both, and proved; then every run that ended in another way.

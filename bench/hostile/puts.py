@@ -3,9 +3,9 @@
 
 Over row [accepted file], `prove` of row [equal counters] and `make 2000`: load 0 or load 1 fails because there is no such file, it is a
 folder, or a read of it fails after any number of bytes; put 0 fails because standard output is full, closed, a pipe whose reader ends
-early, or a write fails after any number of bytes. The statuses have to be 5, 5 and 6, and what is shown before a failing write exactly the bytes that were taken of the
-usual output. Short reads and writes have to change nothing. A table tells each way with its runs; then every run that ended in another
-way. The exit status is 0 where there is none.
+early, or a write fails after any number of bytes. The statuses have to be 5, 5 and 6, and what is shown before a failing write exactly
+the bytes that were taken of the usual output. Short reads and writes have to change nothing. A table tells each way with its runs; then
+every run that ended in another way. The exit status is 0 where there is none.
 """
 import fcntl
 import os

@@ -112,9 +112,12 @@ void count(pid_t child, int way) {
         ended[way][kind] += 1;
         return;
     }
+    for (std::size_t place = 0; place < 40; place++)
+        if (shown[place] == '\n') shown[place] = '`';
+    shown[length < 40 ? length : 40] = 0;
     char line[160];
     int line_length = std::snprintf(line, sizeof line, "otherwise %llu %d status %d bytes %lld %.40s\n", static_cast<unsigned long long>(asked), way,
-                                    WIFEXITED(status) ? WEXITSTATUS(status) : -WTERMSIG(status), static_cast<long long>(length), length > 0 ? shown : "");
+                                    WIFEXITED(status) ? WEXITSTATUS(status) : -WTERMSIG(status), static_cast<long long>(length), shown);
     write_all(report, line, static_cast<std::size_t>(line_length));
 }
 
@@ -138,7 +141,7 @@ bool is_refused_child(int way) {
     }
     count(child, way);
     for (int file = 3; file < files; file++)
-        if (at[file] >= 0 && file != out && file != err) lseek(file, at[file], SEEK_SET);
+        if (at[file] >= 0 && file != out && file != err && file != report) lseek(file, at[file], SEEK_SET);
     return false;
 }
 

@@ -64,7 +64,7 @@ Made from the contracts by `bench/hostile/total.py`, and compared with them by `
 clauses in `crates/*/src`. Four things are promised of every call here:
 
 - It returns, and no sum or product leaves its type: each function is proved, and nothing is proved of one that could run for ever or
-  overflow. The products and sums of the certificate check stay below 2^110 (the conditions of `proves` and `refutes`).
+  overflow. The products and sums of the certificate check stay below 2^110 (`sums` of `proves` and `refutes`).
 - Each answer other than the wanted one has its cause: the clauses of the second column say when it comes, `None` of an optional answer
   too. Want of memory alone is free, as no clause ties it to a cause; a clause that names it says what else is so.
 - After a fault what a call worked on is as before: the clauses of the third column. `-` stands where a call may change nothing.
