@@ -1,5 +1,7 @@
 //! The records of a document before those that its reader takes: what kind it is, and what was printed on it.
 
+ghost use Rattle.std.specs.Prelude.{◌≤◌, length};
+
 use rv_base::Memory;
 use rv_invfile::Records;
 use std::alloc::Global;
@@ -13,15 +15,20 @@ pub struct Record<'d> {
     records: Records<'d>,
 }
 
+/// The first bytes of a line, as many as are looked at.
+fn start_of(line: &[u8]) -> &[u8]
+    ensures { length result.now ≤ 67108864 }
+{
+    if line.len() > MOST_BYTES {
+        return &line[..MOST_BYTES];
+    }
+    line
+}
+
 impl<'d> Record<'d> {
     /// The record of a line.
     pub fn new(alloc: Global, line: &'d [u8]) -> Result<Record<'d>, Memory> {
-        let seen = if line.len() > MOST_BYTES {
-            &line[..MOST_BYTES]
-        } else {
-            line
-        };
-        match Records::new(alloc, seen) {
+        match Records::new(alloc, start_of(line)) {
             Ok(records) => Ok(Record { records }),
             Err(_) => Err(Memory::Memory),
         }
